@@ -37,7 +37,7 @@ def nest(depth, inside):
 
 
 def chain_of_nests(count, depth):
-    """So many fragments that each spread the next inside so many inline fragments."""
+    """`count` fragments that each spread the next inside `depth` inline fragments."""
     text = ["{user(id:1){...F0}}"]
     for i in range(count):
         text.append(f"fragment F{i} on User{{{nest(depth, f'...F{i + 1}')}}}")
@@ -50,12 +50,12 @@ def repeated(head, piece, tail, size=MIB):
 
 
 def fields(depth, inside):
-    """So many fields, one inside another."""
+    """`depth` fields, one inside another."""
     return "best{" * depth + inside + "}" * depth
 
 
 def levels_by_fragments(count):
-    """Each fragment has a field with the next: so many levels and one."""
+    """Each fragment has a field with the next: `count` levels and one."""
     text = ["{user(id:1){...F0}}"]
     for i in range(count):
         text.append(f"fragment F{i} on User{{best{{...F{i + 1}}}}}")

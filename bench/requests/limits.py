@@ -23,7 +23,7 @@ SHORT = {"query": "{user(id:1){name}}"}
 
 
 def doubled(levels, also=""):
-    """A query whose answer doubles at each of so many levels."""
+    """A query whose answer doubles at each of `levels` levels."""
     inner = " ".join(f"fragment F{at} on User{{a:best{{...F{at + 1}}} b:best{{...F{at + 1}}}}}" for at in range(levels))
     return {"query": f"{{{also}user(id:1){{...F0}}}} {inner} fragment F{levels} on User{{name}}"}
 

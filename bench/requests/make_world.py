@@ -1,5 +1,5 @@
 #!/usr/bin/env python3
-"""Writes a world of so many users and posts, and request files over it, into the current folder.
+"""Writes a world of USERS users and POSTS posts, and request files over it, into the current folder: make_world.py USERS POSTS.
 
 The files are schema.graphql, bindings.txt, users.csv, posts.csv, likes.csv and one NAME.jsonl for each load that README.md
 names. The same words give the same files."""

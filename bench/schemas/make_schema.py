@@ -1,5 +1,5 @@
 #!/usr/bin/env python3
-"""Writes schema.graphql and bindings.txt of so many object types, each with ten fields, into the current folder."""
+"""Writes schema.graphql and bindings.txt of COUNT object types, each with ten fields, into the current folder: make_schema.py COUNT."""
 import sys
 
 count = int(sys.argv[1])

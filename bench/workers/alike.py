@@ -1,7 +1,7 @@
 #!/usr/bin/env python3
 """Holds answers with workers to answers in turn, byte by byte: alike.py PROGRAM [REQUESTS] [SEED].
 
-The built program answers so many random requests over examples/ (5,000 if left out) without --workers, and then with several
+The built program answers REQUESTS random requests over examples/ (5,000 if left out) without --workers, and then with several
 numbers of workers and limits of keys in a batch. Status, standard output and standard error have to be those of the run in
 turn without a limit. The requests are those of bench/comparing, which has to be importable (it needs graphql-core). The first
 line that differs is printed for each run in which one does, the last line counts, and the status is 1 where one differs.

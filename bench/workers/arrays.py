@@ -1,7 +1,7 @@
 #!/usr/bin/env python3
 """Holds arrays of requests to the same requests a line each: arrays.py PROGRAM [ARRAYS] [SEED].
 
-The built program answers so many lines (2,000 if left out), each an array of 0 to 18 values: random requests over examples/,
+The built program answers ARRAYS lines (2,000 if left out), each an array of 0 to 18 values: random requests over examples/,
 and among them values that are none. The answer line has to be what the values are answered with a line each, in brackets and
 with commas between; for no value, and for more than 16, it has to be the one refusal. In turn and with several numbers of
 workers and limits of keys in a batch. The requests are those of bench/comparing (it needs graphql-core). The first line that

@@ -1,7 +1,7 @@
 #!/usr/bin/env python3
 """Holds answers within a limit to answers without one, byte by byte: within.py PROGRAM [LINES] [SEED].
 
-The built program answers so many lines (2,000 if left out), each a random request over examples/ or an array of up to 16 values, first
+The built program answers LINES lines (2,000 if left out), each a random request over examples/ or an array of up to 16 values, first
 without a limit. With --max-answer each answer that has data and more bytes than the limit has to be the one refusal, and all else has to
 be as it was, whatever the number of workers. The limits are some lengths of answers, one less and one more. The requests are those of
 bench/comparing (it needs graphql-core). The first line that differs is printed for each run in which one does, the last line counts, and

@@ -14,7 +14,7 @@ void *allocated(size_t bytes);
 text text_of(const char *word);
 void add_bytes(byte_buffer *to, const void *from, size_t len);
 void add_word(word_buffer *to, uint32_t word);
-/* Has room for so many elements, and this length. There is a place to point to even for none. */
+/* Has room for `len` elements, and this length. There is a place to point to even for none. */
 void resize_bytes(byte_buffer *buffer, size_t len);
 void resize_words(word_buffer *buffer, size_t len);
 

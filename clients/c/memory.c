@@ -5,7 +5,7 @@
        next call that is refused. Each failure is RZ_NO_MEMORY, or RZ_STOPPED after it; what was refused succeeds when it is tried again; all
        answers are the stored ones; and nothing is left at the end.
    memory flat PASSES QUERIES SERVERS SCHEMA BINDINGS REQUESTS ANSWERS NAME=FILE..
-       answers all lines so many times, then so many new queries and as many more, and opens and frees so many servers: the memory in use
+       answers all lines PASSES times, then QUERIES new queries and as many more, and opens and frees SERVERS servers: the memory in use
        doesn't grow.
 
    In the archive that this is linked with, malloc, realloc and free are renamed to counted_malloc, counted_realloc and counted_free. */

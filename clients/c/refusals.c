@@ -284,7 +284,7 @@ static void many_rows(rz_handle *client) {
 /* The outcomes of keys that were loaded, in buffers that are large enough. */
 typedef struct { rz_load_sizes_t sizes; uint32_t rows[8], columns[8], ends[32], fault_ends[8]; uint8_t bytes[128], fault_bytes[64]; } loaded;
 
-/* Copies the outcomes, where what is copied is so much less than the sizes that are told. */
+/* Copies the outcomes, with buffers that are less by less_rows, less_bytes and less_faults than the sizes that are told. */
 static int32_t copy_loaded(rz_handle *client, loaded *to, size_t less_rows, size_t less_bytes, size_t less_faults) {
     const rz_load_sizes_t *sizes = &to->sizes;
     return rz_loaded(client, to->rows, sizes->keys - less_rows, to->columns, sizes->rows, to->ends, sizes->texts, to->bytes,

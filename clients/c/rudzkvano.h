@@ -102,7 +102,7 @@ int32_t rz_loaders(rz_handle *server, uint32_t *kinds, size_t kinds_len, uint32_
    for no limit; or it has no element, and then there is none. RZ_BAD_SIZE where it has another length; RZ_BAD_LIMIT. */
 int32_t rz_client(rz_handle *server, rz_handle *client, const uint32_t *limits, size_t limits_len);
 
-/* From now on the text of an answer has at most so many bytes, that of each value of an array by itself; 0 for no limit. A longer one is
+/* From now on the text of an answer has at most `bytes` bytes, that of each value of an array by itself; 0 for no limit. A longer one is
    refused with "answer too long", in the answer. RZ_BUSY. */
 int32_t rz_limit_answers(rz_handle *client, size_t bytes);
 

@@ -31,7 +31,7 @@ class LoadFault extends Error {
   }
 }
 
-/** Words for at least so many numbers. What was there may be lost. */
+/** Words for at least `count` numbers. What was there may be lost. */
 function makeRoom(count) {
   if (count > border.words.length) {
     border.words = new Uint32Array(count + (count >> 1));

@@ -25,7 +25,7 @@ Answer = Callable[[str, Any], Awaitable[Any]]
 
 
 def milliseconds(answers: list[Answer], requests: list[Request], repeats: int) -> list[float]:
-    """The least processor time of each over so many runs, which take turns. Nothing waits, so on an idle machine it is the time that passes."""
+    """The least processor time of each over `repeats` runs, which take turns. Nothing waits, so on an idle machine it is the time that passes."""
 
     async def run(answer: Answer) -> None:
         for query, variables in requests:

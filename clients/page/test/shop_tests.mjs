@@ -80,7 +80,7 @@ async function typed(bench, address) {
   await page.close();
 }
 
-/** Chooses a box, and compares the statement that is shown with this one, which has so many placeholders. */
+/** Chooses a box, and compares the statement that is shown with this one, which has `placeholders` placeholders. */
 async function statementOf(page, box, head, tail, placeholders) {
   await page.point('#live-rounds .batch', box, true);
   const marks = Array(placeholders).fill('?').join(', ');

@@ -342,7 +342,7 @@ class Client(Held):
 
     @_alone
     def limit_answers(self, most: int | None) -> None:
-        """From now on an answer has at most so many bytes; None is no limit."""
+        """From now on an answer has at most `most` bytes; None is no limit."""
         if most is not None and most < 1:
             raise ValueError(f"an answer of at most {most} bytes")
         self._call(self._calls.rz_limit_answers, most or 0)
@@ -403,7 +403,7 @@ def _json(value: object) -> str:
 
 
 def _keys(loaders: list[Loader], counts: list[int], texts: list[str]) -> list[Keys]:
-    """The keys of batches of these loaders, each of so many keys."""
+    """The keys of batches of these loaders, each with its number of keys in `counts`."""
     if len(loaders) == 1 and len(loaders[0].columns) == 1:
         return [texts]
     found: list[Keys] = []

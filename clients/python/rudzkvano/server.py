@@ -23,8 +23,8 @@ MaxBatch: TypeAlias = Union[int, Mapping[str, int], None]
 
 
 class Options(TypedDict, total=False):
-    """`max_batch`: at most so many keys in one batch, for all loaders or by their names, 1 to 65,535. `max_answer`: at most so many bytes in an
-    answer. `on_round`: what is called after each round. Each may be None."""
+    """`max_batch`: the greatest number of keys in one batch, for all loaders or by their names, 1 to 65,535. `max_answer`: the greatest number of
+    bytes in an answer. `on_round`: what is called after each round. Each may be None."""
 
     max_batch: MaxBatch
     max_answer: Union[int, None]

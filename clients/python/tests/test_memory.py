@@ -42,7 +42,7 @@ class Memory(unittest.TestCase):
         self.functions = worlds.functions(self.server)
 
     def flat(self, run: Any) -> None:
-        """Runs so many requests twice: the second time memory doesn't grow."""
+        """Runs half of REQUESTS requests twice: the second time memory doesn't grow."""
         run(REQUESTS // 2)
         before = allocated()
         run(REQUESTS // 2)

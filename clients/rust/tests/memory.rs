@@ -12,7 +12,7 @@ fn resident() -> usize {
     4096 * pages.split(' ').nth(1).and_then(|pages| pages.parse::<usize>().ok()).expect("a number of pages")
 }
 
-/// Answers so many requests: over the server's clients, over a client of their own, cancelled, and failed.
+/// Answers `requests` requests: over the server's clients, over a client of their own, cancelled, and failed.
 fn answer(requests: usize) {
     let mut world = World::read("");
     for number in 0..requests {

@@ -24,7 +24,7 @@ use std::thread::Threads;
 /// this many workers at the same time, 1 to 16. The calling thread is one of them, and a round of one batch starts no thread.
 /// All workers have ended when it returns.
 ///
-/// What a call requires has a lifetime in it, and the prover doesn't always find by itself that threads may
+/// A call's condition has a lifetime in it, and the prover doesn't always find by itself that threads may
 /// share the sources. Such a call has a proof of one line (`answer_with-requires`).
 ///
 /// # Errors

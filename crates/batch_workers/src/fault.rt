@@ -1,7 +1,7 @@
 //! Faults: why there is no answer with workers.
 use thiserror::Error;
 
-/// Says why there is no answer with workers.
+/// Reason why there is no answer with workers.
 #[derive(Clone, Copy, Debug, PartialEq, Eq, Error)]
 pub enum WorkFault {
     /// The number of workers is not 1 to 16.

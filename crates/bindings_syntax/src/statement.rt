@@ -28,7 +28,7 @@ pub enum KeyPart<'text> {
     Column(&'text str),
 }
 
-/// Says where a field takes its keys from.
+/// Words for the key that a field loads.
 #[derive(Clone, Copy, Debug, PartialEq, Eq)]
 pub enum KeyWords<'text> {
     /// `arg NAME`: an argument of the field.
@@ -56,7 +56,7 @@ pub enum ViaLoaders<'text> {
     Three(ViaWords<'text>, ViaWords<'text>, ViaWords<'text>),
 }
 
-/// Says how a field is answered.
+/// Form of a field's binding.
 #[derive(Clone, Copy, Debug, PartialEq, Eq)]
 pub enum Form<'text> {
     /// `column COLUMN`: a column of the row that the field belongs to.
@@ -85,7 +85,7 @@ pub enum Form<'text> {
     },
 }
 
-/// Says what a line says.
+/// Meaning of a line.
 #[derive(Clone, Copy, Debug, PartialEq, Eq)]
 pub enum Statement<'text> {
     /// `loader NAME TABLE`, `loader NAME TABLE by COLUMN` or `loader NAME TABLE by COLUMN COLUMN2`; after the last two

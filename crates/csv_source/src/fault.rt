@@ -4,7 +4,7 @@ ghost use Rattle.csv_source.specs.Faults.{IsWant};
 use std::alloc::AllocError;
 use thiserror::Error;
 
-/// Says why a text isn't a table, or a table has no such source.
+/// Reason why a text isn't a table, or a table has no such source.
 #[derive(Clone, Copy, PartialEq, Eq, Debug, Error)]
 pub enum TableFault {
     /// The text has no record.

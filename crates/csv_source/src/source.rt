@@ -16,7 +16,7 @@ use load_queue::{FetchFault, PerKey, Source};
 use std::alloc::{AllocError, Global};
 use std::marker::Model;
 
-// Says how a source finds its rows.
+// Way in which a source finds its rows.
 #[derive(Drop)]
 enum Finder<'t> {
     All(&'t Table),

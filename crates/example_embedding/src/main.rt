@@ -26,7 +26,7 @@ field Person.manager one personById column manager";
 /// At most how many ids the directory takes in one call. A longer list makes several calls, which workers make at the same time.
 const MOST_IDS: u32 = 2;
 
-/// Says how many threads ask the directory at the same time. The one that answers the client is among them.
+/// Number of threads that ask the directory at the same time. The one that answers the client is among them.
 const WORKERS: usize = 4;
 
 fn main(rt: HostRuntime) -> anyhow::Result<()> {

@@ -17,7 +17,7 @@ use load_queue::{FetchFault, Loader, Order};
 use load_rounds::{Answer, Execute, Next, Session};
 use std::alloc::{AllocError, Global};
 
-/// Says what is known elsewhere of Dee's orders.
+/// Knowledge of Dee's orders from elsewhere.
 #[derive(Clone, Copy)]
 pub enum Elsewhere {
     /// One order of this amount.

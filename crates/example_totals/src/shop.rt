@@ -37,7 +37,7 @@ static ORDERS: [(&str, &str); 5] = [
 /// The name of each customer.
 static CUSTOMERS: [(&str, &str); 3] = [("ada", "Ada"), ("bob", "Bob"), ("cy", "Cy")];
 
-/// Says who keeps to herself what belongs to her.
+/// Customer who keeps to herself what belongs to her.
 const PRIVATE: &str = "eve";
 
 /// The tables. All loaders of a session have one type of source, so this is an enum.
@@ -90,7 +90,7 @@ impl ShopSource {
     }
 }
 
-/// Says how often the source of each loader was asked.
+/// Counts of the calls of each loader's source.
 #[derive(Drop)]
 pub struct Calls {
     counts: [Cell<u64>; 3],

@@ -20,17 +20,17 @@ pub struct FriendsTotal {
     pub customer: String,
 }
 
-/// Says how far an execution is: nothing is kept, so each call starts from the memory.
+/// Progress of an execution: nothing is kept, so each call starts from the memory.
 #[derive(Clone, Copy)]
 pub struct Anew;
 
-/// Says what a part of the total comes to.
+/// Value of a part of the total.
 #[derive(Clone, Copy)]
 enum Found<'m> {
     /// Something that it needs isn't known.
     Missing,
     Number(u64),
-    /// Says why it has no number.
+    /// Reason why it has no number.
     Fault(&'m str),
 }
 

@@ -10,7 +10,7 @@ use load_memory::Key;
 use std::alloc::{AllocError, Global};
 use std::marker::Model;
 
-/// Says how many elements the buffers have to hold that [`KeyLists::copy_to`] fills.
+/// Numbers of elements that the buffers have to hold which [`KeyLists::copy_to`] fills.
 #[derive(Clone, Copy, Debug, PartialEq, Eq)]
 pub struct KeySizes {
     pub lists: usize,

@@ -12,26 +12,26 @@ use load_memory::{Outcome, Row};
 use std::alloc::{AllocError, Global};
 use std::marker::Model;
 
-/// Says what stands for a number of rows where a key has a fault.
+/// Stands for a number of rows where a key has a fault.
 pub const KEY_FAULT: u32 = u32::MAX;
 
-/// Says what stands for a number of rows where the batch in which the key was asked failed as a whole.
+/// Stands for a number of rows where the batch in which the key was asked failed as a whole.
 pub const BATCH_FAULT: u32 = u32::MAX - 1;
 
-/// Says how many elements the buffers have to hold that [`FlatOutcomes::copy_rows_to`] and [`FlatOutcomes::copy_faults_to`] fill.
+/// Numbers of elements that the buffers have to hold which [`FlatOutcomes::copy_rows_to`] and [`FlatOutcomes::copy_faults_to`] fill.
 #[derive(Clone, Copy, Debug, PartialEq, Eq)]
 pub struct OutcomeSizes {
-    /// Says how many keys there are: a number of rows for each.
+    /// Number of keys; there is a number of rows for each.
     pub keys: usize,
-    /// Says how many rows all keys have: a number of columns for each.
+    /// Number of rows of all keys; there is a number of columns for each.
     pub rows: usize,
-    /// Says how many texts the rows have, with the names of columns that are written: an end for each.
+    /// Number of texts of the rows, with the names of columns that are written; there is an end for each.
     pub texts: usize,
-    /// Says how many bytes these texts have.
+    /// Number of bytes of these texts.
     pub bytes: usize,
-    /// Says how many keys have a fault, of their own or of their batch: an end for each.
+    /// Number of keys with a fault, of their own or of their batch; there is an end for each.
     pub faults: usize,
-    /// Says how many bytes the texts of the faults have.
+    /// Number of bytes of the texts of the faults.
     pub fault_bytes: usize,
 }
 

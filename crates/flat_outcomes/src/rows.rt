@@ -7,7 +7,7 @@ use flat_orders::TextBuffer;
 use load_memory::Row;
 use std::alloc::AllocError;
 
-/// Says what stands for a number of columns where they are those of the row before.
+/// Stands for a number of columns where they are those of the row before.
 pub const SAME_COLUMNS: u32 = u32::MAX;
 
 // A number below a mark. `NoMemory` where it isn't.

@@ -22,7 +22,7 @@ pub data CountFault (columns : ℕ) (counts : List ℕ) (texts : ℕ) : FlatFaul
       → texts_wanted columns counts < texts
       → CountFault columns counts texts fault.TextsLeft
 
--- Says why a reply isn't taken: the first fault that is true of it. Memory may run out before it is found.
+-- Reason why a reply isn't taken: the first fault that is true of it. Memory may run out before it is found.
 pub data ReplyFault (columns : ℕ) (counts ends bytes : List ℕ) : FlatFault → Type 0 where
   of_texts : (e : FlatFault) → TextFault bytes ends e → ReplyFault columns counts ends bytes e
   of_counts : (e : FlatFault) → IsUtf8 bytes → IsCut bytes 0 ends

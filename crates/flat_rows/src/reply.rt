@@ -13,13 +13,13 @@ use load_memory::{Item, Row, Sheet, SheetBuilder};
 use std::alloc::{AllocError, Global};
 use std::sync::Arc;
 
-/// Says what stands for a number of rows where a key has a fault.
+/// Stands for a number of rows where a key has a fault.
 pub const KEY_FAULT: u32 = u32::MAX;
 
 /// The reply to one order, as a host lays it out.
 #[derive(Clone, Copy)]
 pub struct FlatReply<'h> {
-    /// Says how many columns there are.
+    /// Number of columns.
     pub columns: usize,
     /// For each key, in order, how many rows it has, or [`KEY_FAULT`].
     pub rows: &'h [u32],
@@ -30,7 +30,7 @@ pub struct FlatReply<'h> {
     pub bytes: &'h [u8],
 }
 
-// Says how many rows all keys have, and how many keys a fault.
+// Numbers of rows of all keys, and of keys with a fault.
 #[derive(Clone, Copy)]
 struct Totals {
     rows: u32,

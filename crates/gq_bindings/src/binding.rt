@@ -28,7 +28,7 @@ pub enum KeyPart {
     Column(String),
 }
 
-/// Says where a field takes its keys from.
+/// Origin of the key that a field loads.
 #[derive(Debug, Drop)]
 pub enum KeyOrigin {
     /// `arg NAME`: an argument of the field, which is an `Int`, an `ID` or a `String`.
@@ -48,7 +48,7 @@ pub struct ViaLoader {
     pub column: String,
 }
 
-/// Says how a field is answered. Loaders are named by their numbers, from 0 in the order of their lines.
+/// Way in which a field is answered. Loaders are named by their numbers, from 0 in the order of their lines.
 #[derive(Debug, Drop)]
 pub enum Binding {
     /// `column COLUMN`: a column of the row that the field belongs to.

@@ -20,7 +20,7 @@ use schema_syntax::{Definition, FieldDefinition};
 use std::alloc::{AllocError, Global};
 use std::marker::Model;
 
-/// Says how the fields of a schema are answered: its loaders, and the binding of each field of an object
+/// Bindings of a schema's fields: the loaders, and the binding of each field of an object
 /// type.
 #[derive(Drop)]
 pub struct Bindings {

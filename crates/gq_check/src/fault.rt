@@ -106,10 +106,10 @@ impl Rule {
     }
 }
 
-/// Says why a document is not valid. It is displayed as the message that a client reads, without the place.
+/// Reason why a document is not valid. It is displayed as the message that a client reads, without the place.
 #[derive(Debug, Drop)]
 pub enum CheckFault {
-    /// Says what has this name and place breaks a rule of validation.
+    /// The part with this name and place breaks a rule of validation.
     Rule {
         rule: Rule,
         name: String,
@@ -169,7 +169,7 @@ impl fmt::Display for CheckFault {
 
 impl Error for CheckFault {}
 
-/// Says why a checked document gives no plan. It is displayed as the message that a client reads; none has a place.
+/// Reason why a checked document gives no plan. It is displayed as the message that a client reads; none has a place.
 #[derive(Debug, Drop)]
 pub enum PrepareFault {
     /// No operation of the document has this name.

@@ -46,7 +46,7 @@ fn is_escaped(letter: u8) -> bool
 struct EscapeValue {
     /// The character that it stands for.
     code: u32,
-    /// Says how many bytes it has behind its backslash.
+    /// Number of its bytes behind its backslash.
     len: usize,
 }
 

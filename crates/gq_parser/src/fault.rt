@@ -8,7 +8,7 @@ use gq_lexer::{LexFault, Place};
 use std::alloc::{AllocError, AllocFailed};
 use thiserror::Error;
 
-/// Says why a text has no tree. It is displayed as the message that a client reads, without the place.
+/// Reason why a text has no tree. It is displayed as the message that a client reads, without the place.
 ///
 /// A lexical fault comes first, wherever it is. Of the others the leftmost is returned; a token that is both
 /// unexpected and too deep is unexpected.
@@ -57,7 +57,7 @@ impl From<LexFault> for ParseFault {
     }
 }
 
-/// Says why the tokens are no document. Where they end too early there is no place.
+/// Reason why the tokens are no document. Where they end too early there is no place.
 #[derive(Clone, Copy, Debug, PartialEq, Eq)]
 pub(crate) enum Fault {
     Unexpected(Option<Place>),

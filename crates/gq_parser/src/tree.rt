@@ -17,7 +17,7 @@ pub struct Document {
     pub fragments: Vec<Fragment>,
 }
 
-/// Says what an operation does (section 2.3).
+/// Kind of an operation (section 2.3).
 #[derive(Clone, Copy, Debug, PartialEq, Eq)]
 pub enum OperationKind {
     Query,
@@ -148,7 +148,7 @@ pub struct Literal {
     pub value: Value,
 }
 
-/// Says what a literal says (section 2.9).
+/// Meaning of a literal (section 2.9).
 ///
 /// A string is held by its value and not by its spelling, and a number as it is written.
 #[derive(Debug, Drop)]

@@ -25,7 +25,7 @@ pub record LevelOf : Type 0 where
   pub parts : ResponsesOf
   pub pulled : Bool
 
--- Says what is built so far: what has begun and not ended, innermost first; the position of what is put next; the response
+-- Parts of an answer that are built so far: those begun and not ended, innermost first; the position of what is put next; the response
 -- of the root, once it is put; and the errors.
 pub record BuiltOf : Type 0 where
   pub levels : List LevelOf

@@ -85,7 +85,7 @@ abbrev pub GoesOverTour : {S : Type 0} → (View → List Put → S → S → Ty
     → Walk → S → FinishedWalk S → Type 0
 GoesOverTour goes walk old w = GoesOver goes (plan_on walk) walk.memory.now old w
 
--- Says what waits is what the plan still asks: now the loads that it lacks, and later what it then lacks. Where nothing
+-- The positions that wait are what the plan still asks: now the loads that it lacks, and later what it then lacks. Where nothing
 -- waits and no error was met, the answer was written.
 pub record Advanced (plan : PlanOf) (m : MemoryOf) (w : FinishedWalk Output) : Type 0 where
   pub goes_on : MayGoOn plan m w.rooted w.out.blocked

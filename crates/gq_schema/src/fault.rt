@@ -7,7 +7,7 @@ use gq_lexer::Place;
 use std::alloc::{AllocError, AllocFailed};
 use thiserror::Error;
 
-/// Says why a text gives no schema, or no bindings. A place is that in the text. It is printed as its code and its
+/// Reason why a text gives no schema, or no bindings. A place is that in the text. It is printed as its code and its
 /// name.
 #[derive(Debug, Drop, Error)]
 pub enum SchemaFault {

@@ -2,7 +2,7 @@
 
 ghost use Rattle.std.specs.Prelude.{◌≡◌};
 
-/// Says what a type of a schema is (section 3.4).
+/// Kind of a type of a schema (section 3.4).
 #[derive(Clone, Copy, Debug, PartialEq, Eq)]
 pub enum TypeKind {
     /// One of the built-in scalars `Int`, `String`, `Boolean` and `ID` (section 3.5).

@@ -18,7 +18,7 @@ use gq_schema::{Input, Schema, coerce};
 use serde_json::Value;
 use std::alloc::{AllocError, Global};
 
-/// Says what a variable has.
+/// Value of a variable, if it has one.
 #[derive(Drop)]
 enum CoercedVariable {
     Value(Input),

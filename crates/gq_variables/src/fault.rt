@@ -6,7 +6,7 @@ ghost use Rattle.gq_variables.specs.declared.fault.VariableFault.TheVariants.{No
 use std::alloc::{AllocError, AllocFailed};
 use thiserror::Error;
 
-/// Says why variables have no values. It is displayed as the message that a client reads.
+/// Reason why variables have no values. It is displayed as the message that a client reads.
 #[derive(Debug, Drop, Error)]
 pub enum VariableFault {
     /// The `variables` of the request are neither an object nor null.

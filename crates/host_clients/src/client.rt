@@ -24,7 +24,7 @@ use server_owned::HandedIn;
 use std::alloc::Global;
 use std::{mem, str};
 
-/// Says how far a client is, after a call of [`HostClient::advance`].
+/// Progress of a client after a call of [`HostClient::advance`].
 #[derive(Clone, Copy, Debug, PartialEq, Eq)]
 pub enum Progress {
     /// There is an answer, or there are the outcomes of what is loaded.

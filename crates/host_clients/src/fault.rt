@@ -10,7 +10,7 @@ use load_rounds::SessionFault;
 use rounds_by_hand::TakeFault;
 use std::alloc::AllocError;
 
-/// Says why a call is refused.
+/// Reason why a call is refused.
 #[derive(Clone, Copy, Debug, PartialEq, Eq)]
 pub enum Fault {
     /// Out of memory.

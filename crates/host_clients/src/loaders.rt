@@ -15,7 +15,7 @@ use std::alloc::{AllocError, Global};
 /// The loaders of a server: for each a number that says its keys, and four texts.
 #[derive(Drop)]
 pub struct LoaderTexts {
-    /// Says how many texts a key has, and 4 more where keys are compared without the case of `A` to
+    /// Number of texts of a key, and 4 more where keys are compared without the case of `A` to
     /// `Z`.
     kinds: Vec<u32>,
     /// The name, the table, and the columns that it is by, which are empty for none.

@@ -8,7 +8,7 @@ use crate::opening::open_client;
 use server::Server;
 use std::alloc::Global;
 
-/// Says what a handle holds.
+/// Object that a handle holds.
 #[derive(Drop)]
 pub enum Object {
     /// A schema with its bindings.

@@ -17,7 +17,7 @@ use server_owned::HandedIn;
 use std::alloc::Global;
 use std::str;
 
-/// Says why a schema or its bindings are refused, and where.
+/// Reason why a schema or its bindings are refused, and the place.
 #[derive(Clone, Copy, Debug, PartialEq, Eq)]
 pub struct FaultPlace {
     /// The fault Sn has the number n.
@@ -30,7 +30,7 @@ pub struct FaultPlace {
     pub in_bindings: bool,
 }
 
-/// Says why no server was made.
+/// Reason why no server was made.
 #[derive(Clone, Copy, Debug, PartialEq, Eq)]
 pub enum OpenFault {
     /// A text isn't UTF-8.

@@ -5,7 +5,7 @@ ghost use Rattle.load_memory.specs.Ends.{places_of};
 use std::alloc::{AllocError, Global};
 use std::marker::Model;
 
-/// Says how the places are kept.
+/// Form in which the places are kept.
 #[derive(Drop)]
 enum EndOffsets {
     Narrow(Vec<u32>),

@@ -7,7 +7,7 @@ use std::alloc::{AllocError, Global};
 use std::marker::Model;
 use std::sync::Arc;
 
-/// Says how many keys a list may have that keeps its room to spare.
+/// Greatest number of keys of a list that keeps its room to spare.
 const KEPT_ROOM: usize = 64;
 
 /// Keys that are asked together, in order: a range of a list that its clones and its parts share, so that none of them

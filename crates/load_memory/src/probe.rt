@@ -1,7 +1,7 @@
 //! Looking up one key after another.
 use crate::key::CacheKey;
 
-/// Says how many loaders have a place of their own.
+/// Number of loaders that have a place of their own.
 const PLACES: usize = 8;
 
 /// Holds what a [`Memory`](crate::Memory) is asked by, for one key after another. It has the cache key that is set to that of

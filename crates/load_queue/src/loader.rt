@@ -13,7 +13,7 @@ use std::alloc::{AllocError, Global};
 use std::marker::Model;
 use thiserror::Error;
 
-/// Says why a loader can't be made.
+/// Reason why a loader can't be made.
 #[derive(Clone, Copy, Debug, PartialEq, Eq, Error)]
 pub enum QueueFault {
     /// The limit is 0 or over 65,535.
@@ -38,7 +38,7 @@ impl From<AllocError> for QueueFault {
 /// The largest batch limit.
 pub const MAX_LIMIT: u32 = 65_535;
 
-/// Says how many entries a log may have for its memory to be kept when the loader starts again.
+/// Greatest number of entries of a log whose memory is kept when the loader starts again.
 const KEPT_ENTRIES: usize = 64;
 
 /// Holds what was asked of a loader's source in one batch.

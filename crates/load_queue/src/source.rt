@@ -7,7 +7,7 @@ use load_memory::{Item, Key};
 use std::alloc::{AllocError, AllocFailed, Global};
 use thiserror::Error;
 
-/// Says why a source gave no items.
+/// Reason why a source gave no items.
 #[derive(Debug, Drop, Error)]
 pub enum FetchFault {
     /// The batch failed as a whole, with the source's own words.

@@ -13,7 +13,7 @@ use gq_schema::{Schema, TypeKind};
 use merging_arguments::are_same_arguments;
 use rules_parts::{FieldPart, Parts};
 
-/// Says what is compared.
+/// Attribute of fields that is compared.
 #[derive(Clone, Copy)]
 pub enum Attribute {
     /// The response key.

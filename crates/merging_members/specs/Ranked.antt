@@ -29,7 +29,7 @@ rank_of ranks i = slice_index_or ranks i 0
 abbrev pub is_under : List ℕ → (List ℕ → Option ℕ) → ℕ → List ℕ → Bool
 is_under ranks place bound name = option_map_or (λ j. nat_lt (rank_of ranks j) bound) (place name) true
 
--- Says what each fragment spreads, at whatever depth, has a lesser rank, and ranks are below the number of fragments.
+-- Ranks of fragments: whatever a fragment spreads, at whatever depth, has a lesser rank, and ranks are below the number of fragments.
 pub record IsRanked (ranks : List ℕ) (place : List ℕ → Option ℕ) (fragments : List Fragment) : Type 0 where
   pub below : (i : ℕ) (f : Fragment) → slice_get fragments i ≡ Some f
       → rank_of ranks i < length fragments

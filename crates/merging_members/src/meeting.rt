@@ -14,7 +14,7 @@ use crate::set_members::known_at;
 use gq_parser::{Selection, SelectionSet};
 use merging_pairs::FieldSet;
 
-/// Says where the first member that passes is met.
+/// Place where the first member that passes is met.
 #[derive(Clone, Copy)]
 pub enum Met {
     /// It is this field, by its number in the document.
@@ -55,7 +55,7 @@ fn fragment_met(walk: &FragmentMembers, keys: &FieldSet, name: &str) -> Option<M
     }
 }
 
-// Says how far a walk through selections came.
+// End of a walk through selections.
 #[derive(Clone, Copy)]
 enum Came {
     // to the first that passes

@@ -1,7 +1,7 @@
 -- *Field selection merging* (section 5.3.2): the standard's two recursions.
 use Rattle.std.specs.Prelude.{◌≡◌, ◌≢◌, Bool, true, ◌||◌, List, ◌∷◌}
 
--- Says what the rule asks of the fields of a document, where F stands for a field.
+-- Questions of the rule about the fields of a document, where F stands for a field.
 pub record Fields (F : Type 0) : Type 0 where
   -- the response keys are equal
   pub one_key : F → F → Bool

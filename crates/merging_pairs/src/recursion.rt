@@ -6,7 +6,7 @@ ghost use Rattle.merging_pairs.specs.Table.{fail, HasShapes, fails_itself, asks_
 use crate::field::Field;
 use crate::field_set::FieldSet;
 
-/// Says which of the rule's two recursions a table is for.
+/// Recursion for which a table is: one of the rule's two.
 #[derive(Clone, Copy)]
 pub enum MergeRecursion {
     Shape,

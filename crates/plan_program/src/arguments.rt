@@ -28,7 +28,7 @@ pub struct Args {
     pub pairs: Vec<(String, Input)>,
 }
 
-/// Says why a field has no arguments.
+/// Reason why a field has no arguments.
 #[derive(Debug, Drop, Error)]
 pub enum ArgFault {
     /// The first argument, in order of definition, of non-null type that has no value or null.
@@ -61,7 +61,7 @@ impl<T: Drop> From<AllocFailed<T>> for ArgFault {
     }
 }
 
-/// Says what becomes of an argument.
+/// Result of coercing an argument.
 enum CoercedArgument {
     Absent,
     Present(Input),

@@ -14,11 +14,11 @@ pub enum LeafValue {
     Int(i32),
     Bool(bool),
     Null,
-    /// Says why there is no value.
+    /// Reason why there is no value.
     Fault(String),
 }
 
-/// Says where a part of a key of two parts comes from.
+/// Origin of a part of a key of two parts.
 #[derive(Drop)]
 pub enum KeyPartFrom<'p> {
     /// The text of an argument; none where it is null.
@@ -27,7 +27,7 @@ pub enum KeyPartFrom<'p> {
     Column(&'p str),
 }
 
-/// Says where the key of a load comes from.
+/// Origin of the key of a load.
 #[derive(Drop)]
 pub enum KeyFrom<'p> {
     Fixed(Key),
@@ -44,13 +44,13 @@ pub struct Children<'p> {
     pub type_name: &'p str,
     /// Tells whether the items of the field's list are of non-null type.
     pub item_non_null: bool,
-    /// Says where errors of the items stand: at the first field of the group.
+    /// Place of errors of the items: that of the first field of the group.
     pub place: Place,
     /// The fields of the group, which select of the object.
     pub fields: Vec<&'p Field>,
 }
 
-/// Says what a group asks for.
+/// Origin of a group's value.
 #[derive(Drop)]
 pub enum ValueFrom<'p> {
     /// One value for every row.

@@ -30,7 +30,7 @@ pub record IsRefusedOver (text bindings : List ℕ) (fault : SchemaFault) : Type
   pub says : IsSchema text defs
   pub refused : RefusesBindings defs bindings fault
 
--- Says why the texts are no server: the schema's first fault; or else that its bindings are refused. Of memory this says
+-- Reason why the texts are no server: the schema's first fault; or else that its bindings are refused. Of memory this says
 -- nothing.
 abbrev pub IsServerFault : List ℕ → List ℕ → SchemaFault → Type 0
 IsServerFault text bindings schema.NoMemory = Unit {0}

@@ -24,7 +24,7 @@ const MOST_TEXTS: usize = 1_024;
 /// At most how many bytes the texts have together that are kept at a time.
 const MOST_BYTES: usize = 262_144;
 
-/// Says how many bytes the longest text has that is kept.
+/// Number of bytes of the longest text that is kept.
 const LONGEST: usize = 32_768;
 
 /// Valid documents over a server, kept by their texts, so that a text that comes again is neither parsed nor checked again. A

@@ -8,7 +8,7 @@ use gq_lexer::{LexFault, Place};
 use gq_parser::ParseFault;
 use std::alloc::{AllocError, Global};
 
-/// Says why a request has no plan.
+/// Reason why a request has no plan.
 #[derive(Debug, Drop)]
 pub enum RequestFault {
     /// The query isn't a document.

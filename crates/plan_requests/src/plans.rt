@@ -8,12 +8,12 @@ ghost use Rattle.plan_requests.specs.Planning.{PlansArray, AddsPlan, refusals_of
 use gq_check::Plan;
 use std::alloc::{AllocError, Global};
 
-/// Says what a request asks.
+/// Plan of a request, or its refusal.
 #[derive(Drop)]
 pub enum RequestPlan {
     /// Nothing: this text refuses it.
     Refused(String),
-    /// Says what this plan asks.
+    /// Asks what this plan asks.
     Planned(Plan),
 }
 

@@ -43,7 +43,7 @@ pub record IsNoted (onward : Onward) (loader : ℕ) (key : KeyOf) (old new : Lis
   pub loads : (position.loader ≡ loader) × (key_of position.key ≡ key)
   pub noted : new ≡ with_position old position
 
--- gives what a chain has left, where its first part has so much
+-- Positions that a chain has left, where `rest` gives those of its first part
 abbrev pub chain_rest : {S : Type 0} → (S → List BlockedPosition)
     → Chain S (List BlockedPosition) → List BlockedPosition
 chain_rest rest i = cond (chain_first_done i) [] (rest (chain_first i)) ++ cond (chain_second_done i) [] (chain_second i)

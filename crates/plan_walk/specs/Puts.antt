@@ -28,7 +28,7 @@ abbrev mutual
   all_puts kind End R = []
   all_puts kind (With position p rest) R = Enters kind position ∷ (puts position.non_null p R ++ all_puts kind rest R)
 
--- Says how a position goes on after a load: by what its group does with the rows, or, after a later
+-- Continuation of a position after a load: by what its group does with the rows, or, after a later
 -- load of a `via`, by the first of them and `later` more loaders. Below it are `levels` levels of
 -- objects.
 pub record OnwardOf : Type 0 where

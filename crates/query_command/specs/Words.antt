@@ -101,7 +101,7 @@ Refuses kind (stop.Serve fault) = fault ≡ serve.NoMemory
 abbrev pub IsRefusedWith : Kinds → RunEnd → Type 0
 IsRefusedWith kinds stop = (kind : ErrorKind) × IsAmong kind kinds × Refuses kind stop
 
--- Says how words without parts end a run: by what `clap` says of them, or, where it takes them, for a table. Of memory this says
+-- End of a run whose words have no parts: by what `clap` says of them, or, where it takes them, for a table. Of memory this says
 -- nothing.
 abbrev pub IsRefused : List (List ℕ) → RunEnd → Type 0
 IsRefused texts stop.Served = ⊥

@@ -109,7 +109,7 @@ fn tables<'a>(alloc: Global) -> Arg<'a>
     )
 }
 
-// Says what stands at the end of the help.
+// End of the help.
 const MORE_HELP: &str = "\
 Without any word it serves a built-in sample world from standard input: users with their best friends, posts and likes.
 

@@ -18,9 +18,9 @@ use world_files::{TableFile, WorldFiles};
 pub struct CommandWords {
     /// The files of the world, with the tables in the order of their words, and the batch limit.
     pub files: WorldFiles,
-    /// Says how many workers run the batches of a round at the same time, from 1 to 16; `None`: they run one after another.
+    /// Number of workers that run the batches of a round at the same time, from 1 to 16; `None`: they run one after another.
     pub workers: Option<u32>,
-    /// Says how many bytes one answer has at most, from 1 to 4,294,967,295; `None`: no limit.
+    /// Greatest number of bytes of one answer, from 1 to 4,294,967,295; `None`: no limit.
     pub max_answer: Option<u32>,
     /// Tells whether a run that ends by a fault says where it is.
     pub explain: bool,

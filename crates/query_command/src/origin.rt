@@ -14,7 +14,7 @@ use std::io;
 use world::WorldFault;
 use world_files::{InputFile, OpenFault};
 
-/// Says what a fault is about.
+/// Subject of a fault.
 #[derive(Clone, Copy, Debug)]
 pub enum Subject {
     /// One of the files of a command line. A table's place is that among the words.
@@ -25,7 +25,7 @@ pub enum Subject {
     Trace,
 }
 
-/// Says where in a file a fault is, or why the file can't be read.
+/// Place of a fault in a file, or the reason why the file can't be read.
 #[derive(Clone, Copy, Debug)]
 pub enum FaultLocation {
     /// Nowhere but in the whole file.
@@ -34,7 +34,7 @@ pub enum FaultLocation {
     Line(u64),
     /// At a line and a column.
     At(Place),
-    /// Says what the system says.
+    /// Fault of the system, in its words.
     Reason(io::Error),
 }
 
@@ -45,7 +45,7 @@ pub struct Origin {
     pub location: FaultLocation,
 }
 
-/// Says how a run ends, and where the fault is, as far as that is known.
+/// End of a run, and where the fault is, as far as that is known.
 ///
 /// It is written on a second line, since scripts read the first line and the status. Of a table's fault the
 /// file is known and no line, and so of a line that is too long and of a read that failed while lines are
@@ -56,7 +56,7 @@ pub struct LocatedRunEnd {
     pub origin: Option<Origin>,
 }
 
-/// Says how a run ends, and what is said of it behind the line of its [`RunEnd`], where `--explain` asks for that.
+/// End of a run, and what is said of it behind the line of its [`RunEnd`], where `--explain` asks for that.
 #[derive(Debug, Drop)]
 pub struct End {
     pub stop: RunEnd,

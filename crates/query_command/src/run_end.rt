@@ -12,7 +12,7 @@ use std::alloc::{AllocError, AllocFailed};
 use world::WorldFault;
 use world_files::OpenFault;
 
-/// Says how a run ends.
+/// End of a run.
 #[derive(Debug, Drop)]
 pub enum RunEnd {
     /// Every request line was answered.

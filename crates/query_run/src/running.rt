@@ -27,7 +27,7 @@ use std::thread::Threads;
 use world_answers::{Gate, NoGate, Service, lines_are_direct};
 use world_files::{Folder, System, create_trace, open_requests, open_world, sample_world};
 
-/// Says what `clap` says of words that are no text.
+/// Words of `clap` on words that are no text.
 const NOT_TEXT: &str = "error: invalid UTF-8 was detected in one or more arguments";
 
 /// The words after the command's name.

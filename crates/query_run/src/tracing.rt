@@ -68,7 +68,7 @@ fn trace_lines<R: Threads + Wait + AllocGlobal + Sync, G: Gate, I: Read, W: Writ
     }
 }
 
-/// Says how serving with a trace ended, and the device of the trace.
+/// End of serving with a trace, and the device of the trace.
 #[derive(Drop)]
 pub struct TracedRun<T> {
     pub stop: RunEnd,

@@ -14,7 +14,7 @@ use std::alloc::{AllocError, Global};
 /// At most how many values an array has that is answered.
 const MOST_REQUESTS: usize = 16;
 
-/// Says what a line asks.
+/// Request of a line.
 #[derive(Drop)]
 pub enum Line<'v> {
     /// One request.

@@ -17,7 +17,7 @@ use json::{Reader, Scratch, Token};
 use serde_json::Value;
 use std::alloc::{AllocError, Global};
 
-// Says how deep the value of a member of a line may nest: the line's object is the first of 127 levels.
+// Depth to which the value of a member of a line may nest: the line's object is the first of 127 levels.
 const MEMBER_DEPTH: usize = 126;
 
 // Holds what the members of an object say of its request.

@@ -89,7 +89,7 @@ fn read_line<'l>(
 /// one, from which a request may borrow.
 #[derive(Drop)]
 pub struct LineReader {
-    // Says where strings with escapes are written, and the index of a line. It has 16 KiB, so it stands in a box: whoever holds a reader
+    // Room for strings with escapes, and for the index of a line. It has 16 KiB, so it stands in a box: whoever holds a reader
     // moves it cheaply. The first line makes it.
     scratch: Option<Box<Scratch>>,
     // The variables of the last line, if it was read without a value of its own.

@@ -65,7 +65,7 @@ fn limit_answers(object: &mut Object, most: usize) -> Result<(), Fault>
 ///
 /// # Promise
 ///
-/// What these calls of `server` make of the client (`Becomes`); what is under way stays as it is
+/// The client as these calls of `server` make it (`Becomes`); what is under way stays as it is
 #[unsafe(no_mangle)]
 pub extern "C" fn rz_limit_answers(alloc: Global, client: &mut Handle, most: usize) -> i32
     ensures { Makes (Becomes (LimitsAnswers (limit_of most)))
@@ -92,7 +92,7 @@ fn restart(object: &mut Object) -> Result<(), Fault>
 ///
 /// # Promise
 ///
-/// What these calls of `server` make of the client (`Becomes`); what is under way stays as it is
+/// The client as these calls of `server` make it (`Becomes`); what is under way stays as it is
 #[unsafe(no_mangle)]
 pub extern "C" fn rz_restart(alloc: Global, client: &mut Handle) -> i32
     ensures { Makes (Becomes (λ c d. d ≡ begun c)) client.old.held client.new.held result }

@@ -14,7 +14,7 @@ use crate::handle::Handle;
 use host_clients::{BatchLog, Fault, FlatReply, HostClient, Object};
 use std::alloc::Global;
 
-/// Says how many elements the buffers of `rz_log` have to hold.
+/// Numbers of elements that the buffers of `rz_log` have to hold.
 #[repr(C)]
 #[derive(Drop)]
 pub struct LogSizes {
@@ -63,7 +63,7 @@ fn prime(
 ///
 /// # Promise
 ///
-/// What these calls of `server` make of the client (`Becomes`); what is under way stays as it is
+/// The client as these calls of `server` make it (`Becomes`); what is under way stays as it is
 #[unsafe(no_mangle)]
 pub extern "C" fn rz_prime(
     alloc: Global,
@@ -122,7 +122,7 @@ fn clear(
 ///
 /// # Promise
 ///
-/// What these calls of `server` make of the client (`Becomes`); what is under way stays as it is
+/// The client as these calls of `server` make it (`Becomes`); what is under way stays as it is
 #[unsafe(no_mangle)]
 pub extern "C" fn rz_clear(
     alloc: Global,
@@ -161,7 +161,7 @@ fn clear_all(object: &mut Object, loader: usize) -> Result<(), Fault>
 ///
 /// # Promise
 ///
-/// What these calls of `server` make of the client (`Becomes`); what is under way stays as it is
+/// The client as these calls of `server` make it (`Becomes`); what is under way stays as it is
 #[unsafe(no_mangle)]
 pub extern "C" fn rz_clear_all(alloc: Global, client: &mut Handle, loader: usize) -> i32
     ensures { Makes (Becomes (Calls (ClearingAll loader))) client.old.held client.new.held result }

@@ -12,7 +12,7 @@ use crate::handle::Handle;
 use host_clients::{Fault, FlatKeys, FlatOutcomes, HostClient, Object};
 use std::alloc::Global;
 
-/// Says how many elements the buffers of `rz_loaded` have to hold.
+/// Numbers of elements that the buffers of `rz_loaded` have to hold.
 #[repr(C)]
 #[derive(Drop)]
 pub struct LoadSizes {

@@ -19,7 +19,7 @@ use crate::handle::Handle;
 use host_clients::{Fault, FlatOrders, FlatReply, FlatRequest, HostClient, Object, Progress};
 use std::alloc::Global;
 
-/// Says how many elements the buffers of `rz_orders` and `rz_answer` have to hold, and how many rounds the answer
+/// Numbers of elements that the buffers of `rz_orders` and `rz_answer` have to hold, and of the rounds that the answer
 /// took.
 #[repr(C)]
 #[derive(Drop)]
@@ -45,7 +45,7 @@ fn begin(alloc: Global, object: &mut Object, line: &[u8]) -> Result<(), Fault>
 ///
 /// # Promise
 ///
-/// What is asked is planned for the client as it is, and nothing is asked of loaders yet (`IsBegun`); or, refused,
+/// The request is planned for the client as it is, and nothing is asked of loaders yet (`IsBegun`); or, refused,
 /// the client is as it was
 #[unsafe(no_mangle)]
 pub extern "C" fn rz_begin(alloc: Global, client: &mut Handle, line: &[u8]) -> i32
@@ -73,7 +73,7 @@ fn begin_request(alloc: Global, object: &mut Object, request: &FlatRequest<'_>) 
 ///
 /// # Promise
 ///
-/// What is asked is planned for the client as it is, and nothing is asked of loaders yet (`IsBegun`); or, refused,
+/// The request is planned for the client as it is, and nothing is asked of loaders yet (`IsBegun`); or, refused,
 /// the client is as it was
 #[unsafe(no_mangle)]
 pub extern "C" fn rz_begin_request(
@@ -112,7 +112,7 @@ fn cancel(object: &mut Object) -> Result<(), Fault>
 ///
 /// # Promise
 ///
-/// What was begun is given up: the finished rounds stay in the client's session, and perhaps one more was lost
+/// The request or the load is given up: the finished rounds stay in the client's session, and perhaps one more was lost
 #[unsafe(no_mangle)]
 pub extern "C" fn rz_cancel(alloc: Global, client: &mut Handle) -> i32
     ensures { Makes Cancels client.old.held client.new.held result }
@@ -138,7 +138,7 @@ fn advance(alloc: Global, object: &mut Object) -> Result<Progress, Fault>
 ///
 /// # Promise
 ///
-/// What a call of `HostClient::advance` makes of the client, and its code (`AdvancesHeld`). `RZ_DONE`: from
+/// The client and the code as a call of `HostClient::advance` makes them (`AdvancesHeld`). `RZ_DONE`: from
 /// whichever client it was begun, the text answers it in the client's session as it is now (`AnswersIt`); or all
 /// that was done there is a call of `load_many` with these keys and outcomes (`LoadsIt`). `RZ_ROUND`: a new round
 /// is out, none of whose orders has a reply. `RZ_WAITING`: nothing has changed

@@ -11,7 +11,7 @@ use crate::handle::Handle;
 use host_clients::{Fault, FaultPlace, LoaderTexts, Object, OpenFault, Server, open_server};
 use std::alloc::Global;
 
-/// Says why a schema or its bindings are refused, and where.
+/// Reason why a schema or its bindings are refused, and the place.
 #[repr(C)]
 #[derive(Drop)]
 pub struct SchemaFault {
@@ -21,7 +21,7 @@ pub struct SchemaFault {
     pub in_bindings: u32,
 }
 
-/// Says how many elements the buffers of `rz_loaders` have to hold.
+/// Numbers of elements that the buffers of `rz_loaders` have to hold.
 #[repr(C)]
 #[derive(Drop)]
 pub struct LoaderSizes {

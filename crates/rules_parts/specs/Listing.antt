@@ -1,5 +1,5 @@
 -- All parts of a document: those of its operations first, and then those of its fragments, each in the order of the text.
--- What stands for arguments and directives goes by fields first, and then by directives.
+-- Lists of arguments and of directives go by fields first, and then by directives.
 use Rattle.std.specs.Prelude.{◌≡◌, ℕ, ◌+◌, true, ◌||◌, List, [], ◌∷◌, ◌++◌, map, flat_map, filter_map, Option, Some, None, is_some, codes, bytes_eq, if◌then◌else◌}
 use Rattle.std.specs.Global.{Vec}
 use Rattle.std.specs.Option.{option_map, option_and_then}

@@ -7,7 +7,7 @@ use gq_parser::{
 };
 use gq_schema::{ArgDef, FieldDef};
 
-/// Says what a part stands in: an operation or a fragment, by its number in the document's list,
+/// Definition in which a part stands: an operation or a fragment, by its number in the document's list,
 /// from 0.
 #[derive(Clone, Copy, Debug, PartialEq, Eq)]
 pub enum Owner {
@@ -15,7 +15,7 @@ pub enum Owner {
     Fragment(usize),
 }
 
-/// Says where directives stand (section 2.12).
+/// Location of directives (section 2.12).
 #[derive(Clone, Copy, Debug, PartialEq, Eq)]
 pub enum DirectiveLocation {
     /// An operation, of whatever kind.
@@ -122,7 +122,7 @@ pub struct ArgumentPart<'d> {
     pub argument: &'d Argument,
 }
 
-/// Says where a value stands (section 5.8.5).
+/// Location of a value (section 5.8.5).
 #[derive(Clone, Copy)]
 pub struct Location<'d> {
     /// The type that is wanted there.

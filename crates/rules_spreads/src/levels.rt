@@ -18,7 +18,7 @@ use gq_parser::{Operation, Selection, SelectionSet};
 use rules_parts::{EarliestViolation, Parts, Violation};
 use std::alloc::{AllocError, Global};
 
-/// Says how many fields may stand on a path.
+/// Greatest number of fields on a path.
 const MAX_LEVELS: usize = 128;
 
 /// The levels of each fragment, where they are known, counted up to one too many.

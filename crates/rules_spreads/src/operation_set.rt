@@ -3,7 +3,7 @@
 ghost use Rattle.std.specs.Prelude.{◌≡◌, ◌==◌, ◌||◌, ◌&&◌, ◌<◌, ◌≤◌, ◌+◌, ℕ, true, not};
 ghost use Rattle.rules_spreads.specs.OperationSpans.{has, is_within, both, IsOfSpan, no_operations};
 
-/// Says how many operations a span has at most.
+/// Greatest number of operations of a span.
 const BATCH: usize = 64;
 
 /// Returns how many operations the span has that begins at a place, where there are `all` in all.

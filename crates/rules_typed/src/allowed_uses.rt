@@ -85,7 +85,7 @@ fn allow_by_variable(
     Ok(())
 }
 
-// Says of the uses that stand for others whether the operation with this number in its span allows them. The variables are taken
+// Tells of the uses that stand for others whether the operation with this number in its span allows them. The variables are taken
 // from the last to the first, since the first of a name counts.
 fn allow_by_operation(
     kinds: &UseKinds,

@@ -7,13 +7,13 @@ use gq_lexer::Place;
 use std::alloc::{AllocError, AllocFailed};
 use thiserror::Error;
 
-/// Says why a text is no schema that is served.
+/// Reason why a text is no schema that is served.
 #[derive(Debug, Drop, Error)]
 pub enum SyntaxFault {
     /// A token or the end of the text that can't come here, or bytes that are no token.
     #[error("syntax")]
     Syntax(Place),
-    /// Says what begins here is part of the schema language, and isn't served.
+    /// A part of the schema language begins here that isn't served.
     /// It stands where something else could: a definition's word where `type` could, `mutation` and
     /// `subscription` where `query` or `}` could, `implements` on an interface, the name `Float` where a type's
     /// name could, a `[` right after a `[`, and `@` with a name wherever it isn't a `@deprecated` that is
@@ -24,12 +24,12 @@ pub enum SyntaxFault {
     NoMemory,
 }
 
-/// Says where the tokens end to be read, and why.
+/// Place where the tokens end to be read, and the reason.
 #[derive(Clone, Copy, Debug, PartialEq, Eq)]
 pub(crate) enum TokenFault {
     /// A token that can't come here, or, where no place is given, the end.
     Unexpected(Option<Place>),
-    /// Says what begins here is part of the language, and isn't served.
+    /// A part of the language begins here that isn't served.
     NotServed(Place),
     NoMemory,
 }

@@ -10,7 +10,7 @@ use crate::fault::TokenFault;
 use gq_parser::{Keyword, Value, keyword_of};
 use std::alloc::Global;
 
-/// Says what a name is where a word is wanted. Elsewhere each of them is a plain name.
+/// Word that a name is where one is wanted. Elsewhere each of them is a plain name.
 #[derive(Clone, Copy, Debug, PartialEq, Eq)]
 pub(crate) enum SchemaWord {
     Schema,

@@ -1,7 +1,7 @@
 //! Answers to arrays of requests, whose plans are answered together in one session.
 //!
 //! All documents are kept before any value is planned, so that the values are planned over the same documents.
-//! What is wrong with a query isn't remembered in between, so a query that is refused is read twice, and so is
+//! A query's fault isn't remembered in between, so a query that is refused is read twice, and so is
 //! one that others of the array drop for want of room.
 
 ghost use Rattle.std.specs.Prelude.{◌≡◌, length, map, IfOk, OnErr, option_map, string_bytes};

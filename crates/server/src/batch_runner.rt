@@ -87,7 +87,7 @@ impl<'r, R: Threads + Wait + Sync> Workers<'r, R> {
     }
 }
 
-/// Says how one plan is answered in a session, and how several are: who runs their batches. (No trait stands here, since in the kit a
+/// Ways in which one plan is answered in a session, and several are: who runs their batches. (No trait stands here, since in the kit a
 /// method of a trait's impl can't start threads.)
 #[derive(Drop)]
 pub(crate) struct BatchRunner<F, G> {

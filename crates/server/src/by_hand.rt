@@ -19,7 +19,7 @@ use rounds_by_hand::{Advance, Hand, Pending, TakeFault};
 use std::alloc::{AllocError, Global};
 use std::marker::Model;
 
-/// Says what a call of [`ByHand::advance`] did.
+/// Result of a call of [`ByHand::advance`].
 #[derive(Drop)]
 pub enum ClientAdvance {
     /// An answer to what was asked, or its refusal.

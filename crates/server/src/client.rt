@@ -207,7 +207,7 @@ impl<S> ClientSession<S> {
     }
 }
 
-/// Says what is asked: a request, several, or text that may be either.
+/// Input of a client: a request, several, or text that may be either.
 #[derive(Clone, Copy)]
 pub(crate) enum RequestInput<'i> {
     One(&'i Request<'i>),

@@ -28,7 +28,7 @@ pub struct PlannedRequest {
     // The refusal of each request, in order. One without has a plan.
     refusals: Vec<Option<String>>,
     pub(crate) plans: Vec<BoundedPlan>,
-    // Says how many loaders a session has at least.
+    // Least number of loaders of a session.
     loaders: usize,
 }
 

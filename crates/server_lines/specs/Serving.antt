@@ -1,5 +1,5 @@
 -- Definitions of what serving reads and writes.
--- What serving promises is one record (Serves), so a caller that serves by it hands on all of it by one lemma.
+-- The promise of serving is one record (Serves), so a caller that serves by it hands on all of it by one lemma.
 use Rattle.std.specs.Prelude.{◌≡◌, ◌≢◌, ◌<◌, ◌≤◌, ◌+◌, ◌⊎◌, ℕ, List, [], ◌++◌, length, Option, Result, IfOk, IfErr, OnOk, MatchResult, String}
 use Rattle.std.specs.List.{All}
 use Rattle.std.specs.Io.KnownBytes.{Appends, Consumes, IsAtEnd}
@@ -30,7 +30,7 @@ AtFault fault.TraceFault long read write line = line TraceFault
 abbrev pub block_size : ℕ
 block_size = 65536
 
--- Says what was read behind the last line whose answer was sent: the front of a line, and no more than was read at once with its end.
+-- Rest that was read behind the last line whose answer was sent: the front of a line, and no more than was read at once with its end.
 -- So of the lines that ended before that, each answer was sent.
 pub record IsUnanswered (rest : List ℕ) : Type 0 where
   pub front : List ℕ

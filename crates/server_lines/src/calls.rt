@@ -6,7 +6,7 @@ ghost use Rattle.server_lines.specs.Devices.{CountsCall, failed_after, flushed, 
 
 use std::io::{ErrorKind, Read, Write};
 
-/// Says what became of a call that gave and took nothing.
+/// Failure of a call that gave and took nothing.
 #[derive(Clone, Copy, Debug, PartialEq, Eq)]
 pub enum CallFault {
     /// It was interrupted, and may be made again.
@@ -18,7 +18,7 @@ pub enum CallFault {
 /// A device, and what came of the calls of it. Each method makes one call.
 ///
 /// It counts flushes too (`flushed` of its view), since what a writer holds is the same before and after one.
-/// What a failed call is, the code says.
+/// The code alone says when a call has failed.
 #[derive(Drop)]
 pub struct DeviceCalls<D> {
     device: D,

@@ -8,7 +8,7 @@ use std::error::Error as StdError;
 use std::fmt;
 use thiserror::Error;
 
-/// Says why a line has no answer.
+/// Reason why a line has no answer.
 ///
 /// That a trace can't be written is a fault of its own, though this crate doesn't know what a trace is: want of
 /// memory would say less. A caller that traces nothing has no such stop (`at_memory`).
@@ -32,7 +32,7 @@ impl From<AllocError> for LineFault {
     }
 }
 
-/// Says why lines were left unanswered. It is printed as its code and its name.
+/// Reason why lines were left unanswered. It is printed as its code and its name.
 #[derive(Clone, Copy, Debug, PartialEq, Eq)]
 pub enum ServeFault {
     /// A line has more than 4,194,304 bytes before its line feed.

@@ -5,7 +5,7 @@
 //! earlier line. It is written and flushed before the answer, so that whoever has an answer has its trace. A trace that can't be written
 //! ends serving.
 //!
-//! What is traced is what the session's logs have, of which each answer's contract speaks, and nothing is noted
+//! A trace tells what the session's logs have, of which each answer's contract speaks, and nothing is noted
 //! while a line is answered. So a trace can't say anything but what the headline says, and lines that aren't
 //! traced lose no time.
 #![tactic(auto)]

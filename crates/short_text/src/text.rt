@@ -15,7 +15,7 @@ use std::hash::{Hash, Hasher};
 use std::marker::Model;
 use std::ops::DerefStr;
 
-// Says where a text stands. A long place may have a short text too: it keeps its memory for the next.
+// Place of a text. A long place may have a short text too: it keeps its memory for the next.
 #[derive(Drop)]
 enum TextBytes {
     Short(Short),

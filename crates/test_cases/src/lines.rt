@@ -13,7 +13,7 @@ pub struct Case {
     pub wanted: String,
 }
 
-/// Says what a file of cases says.
+/// Entry of a file of cases.
 #[derive(Drop)]
 pub enum Entry {
     /// `ask WORDS`: what is asked of the texts behind it.

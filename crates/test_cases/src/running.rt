@@ -24,12 +24,12 @@ impl Question {
     }
 }
 
-/// Says what is reported of texts.
+/// Report on texts.
 pub trait Reporter {
     fn report(&self, alloc: Global, asked: &Question, text: &str) -> Result<String>;
 }
 
-/// Says how many cases there were, and how many of them failed.
+/// Numbers of cases, and of those that failed.
 #[derive(Clone, Copy)]
 struct Count {
     cases: u64,

@@ -59,7 +59,7 @@ pub fn verdict(alloc: Global, schema: &str, text: &str) -> Result<String> {
     }
 }
 
-/// Says which operation of a document is asked, with which variables.
+/// Operation of a document that is asked, with its variables.
 #[derive(Drop)]
 struct Request {
     name: Option<String>,

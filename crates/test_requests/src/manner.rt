@@ -3,7 +3,7 @@
 use anyhow::{Context, Result};
 use std::alloc::Global;
 
-/// Says what a source does with the items of a batch.
+/// Action of a source on the items of a batch.
 #[derive(Clone, Copy)]
 pub enum Deed {
     Answers,

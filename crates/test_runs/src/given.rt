@@ -8,7 +8,7 @@ use std::alloc::{AllocError, Global};
 pub struct GivenFile {
     pub name: String,
     pub bytes: Vec<u8>,
-    /// Says how often its reader gives the bytes.
+    /// Number of times that its reader gives the bytes.
     pub times: u32,
     /// Tells whether its reader fails behind them.
     pub fails: bool,

@@ -55,8 +55,8 @@ pub fn stop_of<R: Read, W: Write>(
     }
 }
 
-/// Serves what a reader gives, where an answer may have `max_answer` bytes: how that ends a run, and the bytes that a writer with so much
-/// room has taken.
+/// Serves what a reader gives, where an answer may have `max_answer` bytes: how that ends a run, and the bytes that a writer with room for
+/// `room` bytes has taken.
 fn serve_device(
     alloc: Global,
     input: Device,

@@ -72,7 +72,7 @@ fn read_plainly(alloc: Global, text: &str) -> Result<BindingsText<'_>, AllocErro
     Ok(read)
 }
 
-/// Says how many parts a text is made of at most.
+/// Greatest number of parts of a text.
 const PARTS: u32 = 6;
 
 /// The text of this number over the parts, after the version's line. A digit that has no part ends it.

@@ -12,7 +12,7 @@ use std::thread::Threads;
 use world::World;
 use world_answers::{Gate, NoGate, Service};
 
-/// Says how often a batch looks for the other one before it goes on alone. One that is asked at the same time has long been seen
+/// Number of times that a batch looks for the other one before it goes on alone. One that is asked at the same time has long been seen
 /// then.
 const TURNS: u32 = 100_000_000;
 

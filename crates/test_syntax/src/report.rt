@@ -126,7 +126,7 @@ fn place_of(fault: &SyntaxFault) -> Option<Place> {
     }
 }
 
-/// Says how the fault is reported of a front that is no document.
+/// Reports on faults of fronts that are no document.
 const FAULTS_OF_FRONTS: &[&str] = &[
     "unexpected token",
     "unexpected end",

@@ -8,17 +8,17 @@ use load_queue::{FetchFault, Source};
 use std::alloc::{AllocError, Global};
 use std::sync::atomic::{AtomicBool, AtomicU64, Ordering};
 
-/// Says how often a source looks for another one before it gives up. A source that is asked at the same time has long been seen
+/// Number of times that a source looks for another one before it gives up. A source that is asked at the same time has long been seen
 /// then.
 const TURNS: u32 = 100_000_000;
 
 /// For how many turns a batch goes on after another one broke down. A caller that didn't wait for it would long be back.
 const LATER: u32 = 1_000_000;
 
-/// Says how many batches without the first user a source of [`Manner::Last`] waits for.
+/// Number of batches without the first user that a source of [`Manner::Last`] waits for.
 const OTHERS: u64 = 3;
 
-/// Says what a source does.
+/// Manner of a source.
 #[derive(Clone, Copy)]
 pub enum Manner {
     /// It answers at once.

@@ -50,7 +50,7 @@ abbrev pub LacksSource : List Definition → List ℕ → List TableOf → World
 LacksSource defs text tables fault = (b : BindingsOf) × IsRead defs text tables b
     × (sources_for (sheet_named tables) b.loaders ≡ Err fault)
 
--- Says why there is no world over a schema: the bindings are refused; or else a table is given twice; or else the first loader without a
+-- Reason why there is no world over a schema: the bindings are refused; or else a table is given twice; or else the first loader without a
 -- source lacks its table or its column. Of memory this says nothing.
 abbrev pub IsRefusalOver : List Definition → List ℕ → List TableOf → WorldFault → Type 0
 IsRefusalOver defs text tables world.BadLimit = ⊥
@@ -74,7 +74,7 @@ pub record IsRefusedOver (text bindings : List ℕ) (tables : List TableOf) (max
   pub says : IsSchema text defs
   pub refused : IsRefusalOver defs bindings tables fault
 
--- Says why there is no world: the limit; or else the schema's fault; or else what there is no world over the schema for. Where memory was
+-- Reason why there is no world: the limit; or else the schema's fault; or else what there is no world over the schema for. Where memory was
 -- wanting, the limit fits.
 abbrev pub IsRefusal : List ℕ → List ℕ → List TableOf → Option ℕ → WorldFault → Type 0
 IsRefusal text bindings tables max world.BadLimit = ¬ (IsLimit max)
@@ -106,7 +106,7 @@ pub record IsWorldOf (s : ServerOf) (limit : Option ℕ) (tables : List TableOf)
   pub once : ¬ (Repeats (names_of tables))
   pub answered : sources_for (sheet_named tables) s.bindings.loaders ≡ Ok w.sources
 
--- Says why loaders have no sources in these tables: a table is given twice; or else the first loader without a source lacks its table or
+-- Reason why loaders have no sources in these tables: a table is given twice; or else the first loader without a source lacks its table or
 -- its column. Of memory this says nothing.
 abbrev pub LacksTables : BindingsOf → List TableOf → WorldFault → Type 0
 LacksTables b tables world.BadLimit = ⊥

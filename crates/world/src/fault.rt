@@ -9,7 +9,7 @@ use std::alloc::{AllocError, AllocFailed};
 use std::error::Error;
 use std::fmt;
 
-/// Says why texts and tables are no world. It is printed as its code and its name.
+/// Reason why texts and tables are no world. It is printed as its code and its name.
 #[derive(Debug, Drop)]
 pub enum WorldFault {
     /// The limit is 0, or over 65,535.

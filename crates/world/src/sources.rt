@@ -14,7 +14,7 @@ use std::alloc::Global;
 use std::collections::HashMap;
 use std::sync::Arc;
 
-/// Says what a source is made from: a table, for one of all rows, or the index of a column or of
+/// Origin of a source: a table, for one of all rows, or the index of a column or of
 /// two.
 #[derive(Drop)]
 pub enum SourceBasis {

@@ -7,7 +7,7 @@ use world::World;
 pub struct Service<'w> {
     /// The world that is asked.
     pub world: &'w World,
-    /// Says how many bytes the text of a plan's answer has at most, that of each value of an array by itself. A longer one is
+    /// Greatest number of bytes of the text of a plan's answer, and of each value of an array by itself. A longer one is
     /// refused with `answer too long`. `None`: there is no limit. Refusals aren't measured.
     pub max_answer: Option<usize>,
 }

@@ -30,7 +30,7 @@ pub record IsWorldFrom (holds : Holdings) (files : WorldFiles) (w : WorldOf) : T
   pub from : AreFrom holds files schema bindings tables
   pub world : IsWorld schema bindings tables files.max_batch w
 
--- Says what these files hold is no world with this limit.
+-- Files whose contents are no world with this limit.
 pub record IsRefusedFrom (holds : Holdings) (files : WorldFiles) (fault : WorldFault) : Type 0 where
   pub schema : List ℕ
   pub bindings : List ℕ
@@ -42,7 +42,7 @@ pub record IsRefusedFrom (holds : Holdings) (files : WorldFiles) (fault : WorldF
 abbrev pub IsUnopenedFrom : Holdings → List TableFile → OpenFault → Type 0
 IsUnopenedFrom holds tables fault = (place : ℕ) × IsSomeAnd (slice_get tables place) (λ given. IsUnopened (holds (string_bytes given.file)) place fault)
 
--- Says why these files give no world: one of them can't be read; or a table is refused, of what its file holds; or what they all
+-- Reason why these files give no world: one of them can't be read; or a table is refused, of what its file holds; or what they all
 -- hold is no world. Of memory this says nothing.
 abbrev pub IsUnmadeFrom : Holdings → WorldFiles → OpenFault → Type 0
 IsUnmadeFrom holds files (opening.Unread file reason) = IsFileOf files file

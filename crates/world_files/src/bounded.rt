@@ -18,7 +18,7 @@ pub fn too_long() -> io::Error {
 #[derive(Drop)]
 pub struct BoundedReader<R> {
     inner: R,
-    // Says how many more bytes it gives: none where more than the bound were there.
+    // Number of further bytes that it gives: none where more than the bound were there.
     left: u64,
     fault: Option<io::Error>,
 }

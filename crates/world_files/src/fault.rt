@@ -19,7 +19,7 @@ pub enum InputFile {
     Requests,
 }
 
-/// Says why files give no world or no request lines, or a trace can't be created.
+/// Reason why files give no world or no request lines, or a trace can't be created.
 #[derive(Debug, Drop)]
 pub enum OpenFault {
     /// A file can't be opened or read, is too long, or is no text where it has to be.

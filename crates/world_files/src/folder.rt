@@ -8,7 +8,7 @@ use std::fs;
 use std::io::{self, ErrorKind, Read, Write};
 use std::rt::Files;
 
-/// Says where files are opened and created by their paths.
+/// Folder in which files are opened and created by their paths.
 ///
 /// A folder that tells what was written also tells that a created file was empty (`fresh`): what is appended to
 /// a text that isn't known says nothing of the text afterwards.

@@ -12,7 +12,7 @@ use std::alloc::Global;
 use std::io::{self, ErrorKind, Read};
 use std::string::FromUtf8Error;
 
-// Says what is read of a schema: as many bytes as it may have, and the longest character.
+// Bytes that are read of a schema: as many as it may have, and the longest character.
 const SCHEMA_FRONT: u64 = 1_048_580;
 
 /// The most bytes that a table's file may have.

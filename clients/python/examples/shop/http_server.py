@@ -31,7 +31,7 @@ class Handler(WSGIRequestHandler):
     # a short response leaves in one piece, and at once
     wbufsize = -1
     disable_nagle_algorithm = True
-    # a connection on which nothing comes ends after so many seconds
+    # a connection on which nothing comes ends after `timeout` seconds
     timeout = 75
     server: ThreadingServer
 

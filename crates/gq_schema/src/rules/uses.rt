@@ -13,7 +13,7 @@ use gq_lexer::Place;
 use gq_parser::TypeRef;
 use schema_syntax::{ArgumentDefinition, Definition, FieldDefinition, Name};
 
-/// Says what the use of a type's name is for.
+/// Role of the use of a type's name.
 #[derive(Clone, Copy, Debug, PartialEq, Eq)]
 pub enum Role {
     FieldType,
@@ -23,12 +23,12 @@ pub enum Role {
     Root,
 }
 
-/// Says what is asked of the use of a type's name.
+/// Demand on the use of a type's name.
 #[derive(Clone, Copy, Debug, PartialEq, Eq)]
 pub enum TypeUseDemand {
     /// The name has a definition.
     IsDefined,
-    /// Says what it names may stand there.
+    /// The named type may stand there.
     Fits,
 }
 

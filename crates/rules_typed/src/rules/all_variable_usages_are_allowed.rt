@@ -19,7 +19,7 @@ use rules_spreads::{
 };
 use std::alloc::{AllocError, Global};
 
-/// Says where the uses of variables stand, and which stand for others of their kind.
+/// Uses of variables by their locations, and those that stand for others of their kind.
 #[derive(Drop)]
 struct UsageKinds<'d> {
     places: OwnerLists,
