@@ -1,9 +1,10 @@
 -- Response text: the JSON value of an answer, and its bytes.
-use Rattle.std.specs.Prelude.{◌≡◌, ◌≤◌, ℕ, List, [], ◌∷◌, Option, Some, None, option_and_then, decimal, codes, string_bytes}
+use Rattle.std.specs.Prelude.{◌≡◌, ◌≤◌, ℕ, List, [], ◌∷◌, ◌++◌, Option, Some, None, option_and_then, decimal, codes, string_bytes}
 use Rattle.json.specs.Json.{Json, number, string, array, object, Items, no_items, item, Members, no_members, member, value, if_last}
 use Rattle.json.specs.Lex.{tokens}
 use Rattle.json.specs.Print.{print}
-use Rattle.json.specs.Tree.{depth, json_tokens}
+use Rattle.json.specs.Token.{Token}
+use Rattle.json.specs.Tree.{depth, json_tokens, items_tokens}
 use Rattle.text_place.specs.declared.place.Place.{Place}
 use Rattle.answer_json.specs.declared.response.FieldError.{FieldError}
 use Rattle.answer_json.specs.declared.response.PathSegment.{PathSegment}
@@ -12,7 +13,8 @@ use Rattle.answer_json.specs.declared.response.Response.{Response}
 use Rattle.answer_json.specs.Response.{response_json}
 
 abbrev pub place_json : Place → Json
-place_json p = object (member (codes "line") (number (decimal p.line)) (member (codes "column") (number (decimal p.column)) no_members))
+place_json p = object (member (codes "line") (number (decimal p.line))
+    (member (codes "column") (number (decimal p.column)) no_members))
 
 -- the list of one place
 abbrev pub places_json : Place → Json
@@ -46,17 +48,28 @@ errors_before (e ∷ es) rest = member (codes "errors") (array (errors_items (e 
 abbrev pub answer_json : Response → List FieldError → Json
 answer_json r es = object (errors_before es (member (codes "data") (response_json r) no_members))
 
+-- the tokens of an answer before those of its data
+abbrev pub errors_tokens : List FieldError → List Token
+errors_tokens [] = []
+errors_tokens (e ∷ es) = Token.key (codes "errors") ∷ Token.begin_array
+    ∷ items_tokens (errors_items (e ∷ es))
+
+abbrev pub answer_front : List FieldError → List Token
+answer_front es = Token.begin_object ∷ (errors_tokens es ++ Token.key (codes "data") ∷ [])
+
 -- the member of a place, where there is one
 abbrev pub places_member : Option Place → Members
 places_member None = no_members
 places_member (Some p) = member (codes "locations") (places_json p) no_members
 
 abbrev pub request_error_json : List ℕ → Option Place → Json
-request_error_json message place = object (member (codes "message") (string message) (places_member place))
+request_error_json message place =
+    object (member (codes "message") (string message) (places_member place))
 
 -- the refusal of a request: one error, and no data
 abbrev pub refusal_json : List ℕ → Option Place → Json
-refusal_json message place = object (member (codes "errors") (array (item (request_error_json message place) no_items)) no_members)
+refusal_json message place = object
+    (member (codes "errors") (array (item (request_error_json message place) no_items)) no_members)
 
 -- The bytes of a value: its tokens with no space between them. In strings `"` and `\` have a backslash before them, U+0008,
 -- U+0009, U+000A, U+000C and U+000D are `\b \t \n \f \r`, and any other character below U+0020 is `\u00xx`, in lower case.

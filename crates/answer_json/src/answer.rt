@@ -4,7 +4,7 @@ ghost use Rattle.std.specs.Prelude.{◌≡◌, ◌++◌, [], IfOk, OnOk, Some, s
 ghost use Rattle.json.specs.Lex.{tokens};
 ghost use Rattle.json.specs.Print.{print};
 ghost use Rattle.json.specs.Tree.{json_tokens};
-ghost use Rattle.answer_json.specs.Answer.{answer_json, request_error_json, refusal_json, json_text, ReadsBack};
+ghost use Rattle.answer_json.specs.Answer.{answer_json, answer_front, request_error_json, refusal_json, json_text, ReadsBack};
 
 use crate::put::{put_errors, put_places, put_response, put_text};
 use crate::response::{FieldError, Response};
@@ -14,6 +14,26 @@ use std::alloc::{AllocError, Global};
 
 /// The room that a text has from the start.
 const FIRST_ROOM: usize = 128;
+
+/// Writes the start of an answer, up to its data: its errors come first, and only where there are some. What follows is a response
+/// and the end of an object.
+///
+/// # Errors
+///
+/// Only when out of memory.
+pub fn begin_answer(writer: &mut Writer, errors: &[FieldError]) -> Result<(), AllocError>
+    ensures ok { OnOk result (writer.new.tokens
+        ≡ writer.old.tokens ++ answer_front errors.now) }
+    ensures before { writer.new.before ≡ writer.old.before }
+{
+    writer.begin_object()?;
+    if !errors.is_empty() {
+        writer.key("errors")?;
+        writer.begin_array()?;
+        put_errors(writer, errors)?;
+    }
+    writer.key("data")
+}
 
 /// Writes an answer.
 fn put_answer(
@@ -25,13 +45,7 @@ fn put_answer(
         ≡ writer.old.tokens ++ json_tokens (answer_json response.now errors.now)) }
     ensures before { writer.new.before ≡ writer.old.before }
 {
-    writer.begin_object()?;
-    if !errors.is_empty() {
-        writer.key("errors")?;
-        writer.begin_array()?;
-        put_errors(writer, errors)?;
-    }
-    writer.key("data")?;
+    begin_answer(writer, errors)?;
     put_response(writer, response)?;
     writer.end_object()
 }
@@ -71,8 +85,10 @@ fn put_refusal(writer: &mut Writer, message: &str, place: Option<Place>) -> Resu
 /// Returns what was written, as text.
 fn into_text(writer: Writer) -> String
     requires { writer.before ≡ [] }
-    ensures text { string_bytes result ≡ print writer.tokens }
-    ensures tokens { tokens (string_bytes result) ≡ writer.tokens }
+    ensures text { string_bytes result
+        ≡ print writer.tokens }
+    ensures tokens { tokens (string_bytes result)
+        ≡ writer.tokens }
 {
     let bytes = writer.into_inner();
     // SAFETY: a writer's text is UTF-8.
@@ -114,7 +130,8 @@ pub fn write_refusal(
     message: &str,
     place: Option<Place>,
 ) -> Result<String, AllocError>
-    ensures text { IfOk result (λ s. string_bytes s ≡ json_text (refusal_json message.now place)) }
+    ensures text { IfOk result (λ s. string_bytes s
+        ≡ json_text (refusal_json message.now place)) }
     ensures reads_back { IfOk result (λ s.
         ReadsBack (refusal_json message.now place) (string_bytes s)) }
 {

@@ -9,5 +9,5 @@ mod answer;
 mod put;
 mod response;
 
-pub use answer::{write_answer, write_refusal};
+pub use answer::{begin_answer, write_answer, write_refusal};
 pub use response::{FieldError, PathSegment, Response};

@@ -11,7 +11,6 @@ use Rattle.execution.specs.Program.{Null, At, ListOf, ObjectOf, Part, Key, Item,
 use Rattle.execution.specs.Completion.{ResponseOf, NullResponse, null_message, own_errors}
 use Rattle.gq_resolve.specs.Answered.{part_of, items_from, members_of, response_step, response_of}
 use Rattle.gq_resolve.specs.Built.{LevelOf, BuiltOf, root_position, at_root, level_with, placed_in, placed, with_errors, with_error, path_in, count_of, step_in, put_part, member_seen, level_seen, levels_seen}
-use Rattle.gq_resolve.specs.Bounded.{without_parts, levels_without, without_last_parts}
 use Rattle.gq_resolve.specs.declared.level.Level.{Level}
 
 -- ---- parts
@@ -112,10 +111,3 @@ placed-last b now position r ls n old new left seen s last at e =
     ap (λ (x : BuiltOf). record x { levels = levels_seen (set ls n new) }) left
     ∙ ap (λ (x : List LevelOf). record { levels = x; position = root_position; top = b.top; errors = b.errors }) (parts.1.1 ∙ ap (λ l. l ∷ around) put)
     ∙ ap (λ (x : List LevelOf). placed_in x r b) (sym had)
-
--- the parts of the last were dropped
-pub last-without : (b : BuiltOf) (ls : List Level) (n : ℕ) (old new : Level) → b.levels ≡ levels_seen ls → n + 1 ≡ length ls → old ≡ get_or ls n old → level_seen new ≡ without_parts (level_seen old) → record b { levels = levels_seen (set ls n new) } ≡ without_last_parts b
-last-without b ls n old new seen last at e =
-    let parts = levels-set ls n old new last at in
-    let around : List LevelOf = parts.0 in
-    ap (λ (x : List LevelOf). record b { levels = x }) (parts.1.1 ∙ ap (λ (l : LevelOf). l ∷ around) e) ∙ ap (λ (x : List LevelOf). record b { levels = levels_without x }) (sym (seen ∙ parts.1.0))

@@ -8,8 +8,12 @@ pub mod Advancing
 pub mod Polling
 pub mod BuildingLevels
 pub mod BuildingTrees
+pub mod Faulting
+pub mod Texting
 pub mod Sizes
+pub mod FaultingLevels
 pub mod Bounding
+pub mod Holding
 pub mod Limiting
 pub mod KeyByKey
 pub mod ReadingOn

@@ -8,23 +8,19 @@ use Rattle.json.specs.Print.{escape_letter, escape_byte, escape, quoted, token_t
 use Rattle.json.specs.Json.{Members, member, no_members, array}
 use Rattle.answer_json.specs.Answer.{places_json}
 use Rattle.json.specs.Tree.{json_tokens, items_tokens, members_tokens}
-use Rattle.execution.specs.Program.{ListOf, ObjectOf, Part, Key, Item, Text, Int, Boolean}
-use Rattle.execution.specs.Completion.{ResponseOf, NullResponse, LeafResponse, Holding, ResponsesOf, NoResponses, Responding, ErrorOf, AnsweredOf}
-use Rattle.gq_resolve.specs.Answered.{json_of, items_json, members_json, path_json, error_json, errors_json, errors_before, answered_json, answer_text}
-use Rattle.gq_resolve.specs.Bounded.{size_of, sizes_of, error_size, errors_size}
+use Rattle.execution.specs.Program.{Part, Key, Item}
+use Rattle.execution.specs.Completion.{ErrorOf, AnsweredOf}
+use Rattle.gq_resolve.specs.Answered.{json_of, path_json, error_json, errors_json, errors_before, answered_json, answer_text}
+use Rattle.gq_resolve.specs.Bounded.{error_size, errors_size}
+use Rattle.gq_resolve.specs.Texted.{bytes_of}
 
 -- ---- texts of tokens
 
--- the bytes of these tokens, without commas
-abbrev texts : List Token → ℕ
-texts [] = 0
-texts (t ∷ ts) = length (token_text t) + texts ts
+pub bytes-append : (ts us : List Token) → bytes_of (ts ++ us) ≡ bytes_of ts + bytes_of us
+bytes-append [] us = omega arith
+bytes-append (t ∷ ts) us = omega (arith, bytes-append ts us)
 
-texts-append : (ts us : List Token) → texts (ts ++ us) ≡ texts ts + texts us
-texts-append [] us = omega arith
-texts-append (t ∷ ts) us = omega (arith, texts-append ts us)
-
-printed : (c : Bool) (ts : List Token) → texts ts ≤ length (print_from c ts)
+pub printed : (c : Bool) (ts : List Token) → bytes_of ts ≤ length (print_from c ts)
 unfolding print_from
 printed c [] = omega arith
 printed c (t ∷ ts) = omega (arith, length-append (separator c t) (token_text t ++ print_from (ends t) ts), length-append (token_text t) (print_from (ends t) ts), printed (ends t) ts)
@@ -43,7 +39,7 @@ escaped : (s : List ℕ) → length s ≤ length (escape s)
 escaped [] = omega arith
 escaped (x ∷ xs) = omega (arith, length-append (escape_byte x) (escape xs), byte-escaped x, escaped xs)
 
-in-quotes : (s : List ℕ) → suc (length s) ≤ length (quoted s)
+pub in-quotes : (s : List ℕ) → suc (length s) ≤ length (quoted s)
 in-quotes s = omega (arith, length-append (escape s) (34 ∷ []), escaped s)
 
 -- ---- numbers
@@ -66,57 +62,30 @@ some-digits k base upper n = go (n / base == 0)
 some-decimal : (n : ℕ) → 1 ≤ length (decimal n)
 some-decimal n = subst (λ (ds : List ℕ). 1 ≤ length ds) (digits_onto-nil 10 false n) (some-digits 63 10 false n)
 
-some-number : (z : ℤ) → 1 ≤ length (signed_decimal z)
+pub some-number : (z : ℤ) → 1 ≤ length (signed_decimal z)
 some-number (pos n) = some-decimal n
 some-number (negsuc n) = omega arith
 
--- ---- responses
-
-mutual
-  response-sure : (r : ResponseOf) → size_of r ≤ texts (json_tokens (json_of r))
-  response-sure NullResponse = omega arith
-  response-sure (LeafResponse (Text text)) = omega (arith, in-quotes text)
-  response-sure (LeafResponse (Int z)) = omega (arith, some-number z)
-  response-sure (LeafResponse (Boolean true)) = omega arith
-  response-sure (LeafResponse (Boolean false)) = omega arith
-  response-sure (Holding ListOf rs) = omega (arith, items-sure rs)
-  response-sure (Holding ObjectOf rs) = omega (arith, members-sure rs)
-
-  items-sure : (rs : ResponsesOf) → sizes_of ListOf rs ≤ texts (items_tokens (items_json rs))
-  items-sure NoResponses = omega arith
-  items-sure (Responding part r rs) = omega (arith, texts-append (json_tokens (json_of r)) (items_tokens (items_json rs)), response-sure r, items-sure rs)
-
-  members-sure : (rs : ResponsesOf) → sizes_of ObjectOf rs ≤ texts (members_tokens (members_json rs))
-  members-sure NoResponses = omega arith
-  members-sure (Responding (Key k) r rs) = omega (arith, length-append (quoted k) (58 ∷ []), in-quotes k, texts-append (json_tokens (json_of r)) (members_tokens (members_json rs)), response-sure r, members-sure rs)
-  members-sure (Responding (Item n) r rs) = omega (arith, texts-append (json_tokens (json_of r)) (members_tokens (members_json rs)), response-sure r, members-sure rs)
-
 -- ---- errors
 
-path-sure : (path : List Part) → length path ≤ texts (items_tokens (path_json path))
+path-sure : (path : List Part) → length path ≤ bytes_of (items_tokens (path_json path))
 path-sure [] = omega arith
 path-sure (Key k ∷ ps) = omega (arith, in-quotes k, path-sure ps)
 path-sure (Item n ∷ ps) = omega (arith, some-decimal n, path-sure ps)
 
-error-sure : (e : ErrorOf) → error_size e ≤ texts (json_tokens (error_json e))
-error-sure e = omega (arith, in-quotes e.message, path-sure e.path, texts-append (items_tokens (path_json e.path)) (members_tokens no_members), texts-append (json_tokens (places_json e.place)) (members_tokens (member (codes "path") (array (path_json e.path)) no_members)))
+error-sure : (e : ErrorOf) → error_size e ≤ bytes_of (json_tokens (error_json e))
+error-sure e = omega (arith, in-quotes e.message, path-sure e.path, bytes-append (items_tokens (path_json e.path)) (members_tokens no_members), bytes-append (json_tokens (places_json e.place)) (members_tokens (member (codes "path") (array (path_json e.path)) no_members)))
 
-errors-sure : (es : List ErrorOf) → errors_size es ≤ texts (items_tokens (errors_json es))
+errors-sure : (es : List ErrorOf) → errors_size es ≤ bytes_of (items_tokens (errors_json es))
 errors-sure [] = omega arith
-errors-sure (e ∷ es) = omega (arith, error-sure e, texts-append (json_tokens (error_json e)) (items_tokens (errors_json es)), errors-sure es)
+errors-sure (e ∷ es) = omega (arith, error-sure e, bytes-append (json_tokens (error_json e)) (items_tokens (errors_json es)), errors-sure es)
 
 -- ---- answers
 
-abbrev data_member : ResponseOf → Members
-data_member r = member (codes "data") (json_of r) no_members
+members-sure : (es : List ErrorOf) (others : Members) → errors_size es ≤ bytes_of (members_tokens (errors_before es others))
+members-sure [] others = omega arith
+members-sure (e ∷ es) others = omega (arith, errors-sure (e ∷ es), bytes-append (items_tokens (errors_json (e ∷ es))) (members_tokens others))
 
-data-sure : (r : ResponseOf) → size_of r ≤ texts (members_tokens (data_member r))
-data-sure r = omega (arith, response-sure r, texts-append (json_tokens (json_of r)) (members_tokens no_members))
-
-members-both : (es : List ErrorOf) (r : ResponseOf) → errors_size es + size_of r ≤ texts (members_tokens (errors_before es (data_member r)))
-members-both [] r = omega (arith, data-sure r)
-members-both (e ∷ es) r = omega (arith, errors-sure (e ∷ es), data-sure r, texts-append (items_tokens (errors_json (e ∷ es))) (members_tokens (data_member r)))
-
--- an answer's text has at least the bytes that are counted of its errors and its response
-pub answer-sure : (a : AnsweredOf) → errors_size a.errors + size_of a.response ≤ length (answer_text a)
-answer-sure a = omega (arith, printed false (json_tokens (answered_json a)), members-both a.errors a.response)
+-- of the errors so many bytes are sure
+pub answer-sure : (a : AnsweredOf) → errors_size a.errors ≤ length (answer_text a)
+answer-sure a = omega (arith, printed false (json_tokens (answered_json a)), members-sure a.errors (member (codes "data") (json_of a.response) no_members))

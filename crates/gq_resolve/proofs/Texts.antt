@@ -1,6 +1,8 @@
 -- An answer's text by what is seen of it.
-use Rattle.std.proofs.Common.{◌≡◌, ◌∙◌, sym, ap, ℕ, suc, List, [], ◌∷◌, map, refl, String, string_bytes, codes}
+use Rattle.std.proofs.Common.{◌≡◌, ◌∙◌, sym, ap, ℕ, suc, List, [], ◌∷◌, ◌++◌, append_assoc, map, refl, String, string_bytes, codes}
 use Rattle.std.specs.declared.alloc.Global.{Global}
+use Rattle.json.specs.Token.{Token, begin_object, end_object, begin_array, key}
+use Rattle.json.specs.Tree.{json_tokens, items_tokens}
 use Rattle.json.specs.Json.{Json, string, array, object, Items, item, Members, no_members, member}
 use Rattle.json.specs.Value.{items_of}
 use Rattle.answer_json.specs.declared.response.Response.{Response, ind-Response, roll-Response, map-Response, fold-roll-Response}
@@ -82,3 +84,14 @@ same_answer a =
 -- the text of an answer
 pub same_text : (a : ExecutionResult) → written.json_text (written.answer_json a.response a.errors.items) ≡ answer_text (answered_of a)
 same_text a = ap written.json_text (same_answer a)
+
+-- the tokens of an answer, by those before its data
+pub front-text : (es : List FieldError) (r : ResponseOf) → (written.answer_front es ++ json_tokens (json_of r)) ++ end_object ∷ [] ≡ json_tokens (answered_json (record { response = r; errors = errors_of es }))
+front-text [] r = refl
+front-text (e ∷ es) r =
+    let found : List Token = items_tokens (written.errors_items (e ∷ es)) in
+    let named : List Token = key (codes "data") ∷ [] in
+    let value : List Token = json_tokens (json_of r) in
+    let end : List Token = end_object ∷ [] in
+    let start : List Token → List Token = λ (ts : List Token). begin_object ∷ key (codes "errors") ∷ begin_array ∷ ts in
+    ap start (append_assoc (found ++ named) value end ∙ append_assoc found named (value ++ end)) ∙ ap (λ (is : Items). start (items_tokens is ++ key (codes "data") ∷ (value ++ end))) (same_errors (e ∷ es))

@@ -16,14 +16,20 @@ pub none-within : (n : ℕ) → AreWithin n []
 none-within n = λ k d lt. absurd (omega (arith, lt))
 
 pub adds-none : (v : View) (s : Unread) → AddsWaits v [] s s
-adds-none v s = record { added = []; all = sym (append-nil s.positions.items); within = none-within v.count; programs = refl }
+adds-none v s = record {
+  added = [];
+  all = sym (append-nil s.positions.items);
+  within = none-within v.count;
+  programs = refl;
+}
 
 pub adds-more : (v : View) (ps qs : List Put) (a b c : Unread)
     → AddsWaits v ps a b → AddsWaits v qs b c → AddsWaits v (ps ++ qs) a c
 adds-more v ps qs a b c p q = record {
   added = p.added ++ q.added;
   all = q.all ∙ ap (λ bs. bs ++ q.added) p.all ∙ append_assoc a.positions.items p.added q.added;
-  within = All-append (λ (b : BlockedPosition). b.onward.group < v.count) p.added q.added p.within q.within;
+  within = All-append (λ (b : BlockedPosition). b.onward.group < v.count) p.added
+      q.added p.within q.within;
   programs = map-append (left_of v) p.added q.added ∙ ap (λ xs. xs ++ all_left v q.added) p.programs
       ∙ ap (λ xs. flat_map put_waits ps ++ xs) q.programs
       ∙ sym (flat_map-append put_waits ps qs);
@@ -34,7 +40,8 @@ unread-rises n m s le h = λ k d lt. lt_of_lt_of_le (h k d lt) le
 
 pub unread-stays : (v : View) (ps : List Put) (a b : Unread)
     → AddsWaits v ps a b → IsUnread v.count a → IsUnread v.count b
-unread-stays v ps a b p h = subst (AreWithin v.count) (sym p.all) (All-append (λ (x : BlockedPosition). x.onward.group < v.count) a.positions.items p.added h p.within)
+unread-stays v ps a b p h = subst (AreWithin v.count) (sym p.all) (All-append
+    (λ (x : BlockedPosition). x.onward.group < v.count) a.positions.items p.added h p.within)
 
 -- a walk added no position where as many wait as before
 pub adds-narrow : (v w : View) (n : ℕ) (ps : List Put) (a b : Unread) → n ≤ v.count
@@ -44,5 +51,7 @@ adds-narrow v w n ps a b le same within count p = go p.added p.all p.programs
   where
     go : (added : List BlockedPosition) → b.positions.items ≡ a.positions.items ++ added
         → all_left w added ≡ flat_map put_waits ps → AddsWaits v ps a b
-    go [] all programs = record { added = []; all = all; within = none-within v.count; programs = programs }
-    go (x ∷ xs) all programs = absurd (omega (arith, count, ap length all, length-append a.positions.items (x ∷ xs)))
+    go [] all programs =
+        record { added = []; all = all; within = none-within v.count; programs = programs }
+    go (x ∷ xs) all programs =
+        absurd (omega (arith, count, ap length all, length-append a.positions.items (x ∷ xs)))

@@ -41,7 +41,8 @@ part_of (path.Key k) = Key (string_bytes k)
 part_of (path.Item i) = Item i
 
 abbrev pub error_of : FieldError → ErrorOf
-error_of e = record { message = string_bytes e.message; place = e.place; path = map part_of e.path.items }
+error_of e =
+    record { message = string_bytes e.message; place = e.place; path = map part_of e.path.items }
 
 abbrev pub errors_of : List FieldError → List ErrorOf
 errors_of es = map error_of es
@@ -97,7 +98,8 @@ errors_before [] others = others
 errors_before (e ∷ es) others = member (codes "errors") (array (errors_json (e ∷ es))) others
 
 abbrev pub answered_json : AnsweredOf → Json
-answered_json a = object (errors_before a.errors (member (codes "data") (json_of a.response) no_members))
+answered_json a =
+    object (errors_before a.errors (member (codes "data") (json_of a.response) no_members))
 
 abbrev pub answer_text : AnsweredOf → List ℕ
 answer_text a = json_text (answered_json a)

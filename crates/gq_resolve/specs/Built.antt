@@ -74,30 +74,51 @@ at_root b = record b { position = root_position }
 -- a response is put in what was begun last, or is the root's
 abbrev pub placed_in : List LevelOf → ResponseOf → BuiltOf → BuiltOf
 placed_in [] r b = record { levels = []; position = root_position; top = r; errors = b.errors }
-placed_in (l ∷ ls) r b = record { levels = level_with b.position r l ∷ ls; position = root_position; top = b.top; errors = b.errors }
+placed_in (l ∷ ls) r b = record {
+  levels = level_with b.position r l ∷ ls;
+  position = root_position;
+  top = b.top;
+  errors = b.errors;
+}
 
 abbrev pub placed : ResponseOf → BuiltOf → BuiltOf
 placed r b = placed_in b.levels r b
 
 abbrev pub begun : Kind → BuiltOf → BuiltOf
-begun kind b = record { levels = record { position = b.position; kind = kind; parts = NoResponses; pulled = false } ∷ b.levels; position = root_position; top = b.top; errors = b.errors }
+begun kind b = record {
+  levels = record {
+    position = b.position;
+    kind = kind;
+    parts = NoResponses;
+    pulled = false;
+  } ∷ b.levels;
+  position = root_position;
+  top = b.top;
+  errors = b.errors;
+}
 
 abbrev pub level_response : LevelOf → ResponseOf
 level_response l = if l.pulled then NullResponse else Holding l.kind l.parts
 
 abbrev pub ended_in : List LevelOf → BuiltOf → BuiltOf
 ended_in [] b = b
-ended_in (l ∷ ls) b = placed_in ls (level_response l) (record b { levels = ls; position = l.position })
+ended_in (l ∷ ls) b =
+    placed_in ls (level_response l) (record b { levels = ls; position = l.position })
 
 abbrev pub with_errors : List ErrorOf → BuiltOf → BuiltOf
 with_errors es b = record b { errors = b.errors ++ es }
 
 abbrev pub with_error : List ℕ → BuiltOf → BuiltOf
-with_error message b = with_errors (record { message = message; place = b.position.place; path = path_in b.levels b.position.part } ∷ []) b
+with_error message b = with_errors (record {
+  message = message;
+  place = b.position.place;
+  path = path_in b.levels b.position.part;
+} ∷ []) b
 
 -- a position with nothing below it, at a type that is non-null or not
 abbrev pub given_leaf_value : Bool → LeafValue → BuiltOf → BuiltOf
-given_leaf_value non_null leaf_value b = placed (response (At leaf_value)) (with_errors (own_errors non_null b.position.place (path_in b.levels b.position.part) (At leaf_value)) b)
+given_leaf_value non_null leaf_value b = placed (response (At leaf_value)) (with_errors
+    (own_errors non_null b.position.place (path_in b.levels b.position.part) (At leaf_value)) b)
 
 abbrev pub after_put : Put → BuiltOf → BuiltOf
 after_put (Begins kind) b = begun kind b
@@ -144,7 +165,8 @@ abbrev pub member_seen : (String Global × Response) → (String Global × Respo
 member_seen m = (m.0, response_of m.1)
 
 abbrev pub position_held : Position → FieldPosition
-position_held p = record { part = part_of p.step; non_null = is_non_null p.nullability; place = p.place }
+position_held p =
+    record { part = part_of p.step; non_null = is_non_null p.nullability; place = p.place }
 
 abbrev pub kind_held : PartialValue → Kind
 kind_held (parts.Items rs) = ListOf
@@ -155,13 +177,23 @@ parts_held (parts.Items rs) = items_from 0 (map response_of rs.items)
 parts_held (parts.Fields ms) = members_of (map member_seen ms.items)
 
 abbrev pub level_seen : Level → LevelOf
-level_seen l = record { position = position_held l.position; kind = kind_held l.parts; parts = parts_held l.parts; pulled = l.pulled }
+level_seen l = record {
+  position = position_held l.position;
+  kind = kind_held l.parts;
+  parts = parts_held l.parts;
+  pulled = l.pulled;
+}
 
 abbrev pub levels_seen : List Level → List LevelOf
 levels_seen ls = reverse (map level_seen ls)
 
 abbrev pub built_of : Builder → BuiltOf
-built_of b = record { levels = levels_seen b.levels.items; position = position_held b.position; top = response_of b.top; errors = errors_of b.errors.items }
+built_of b = record {
+  levels = levels_seen b.levels.items;
+  position = position_held b.position;
+  top = response_of b.top;
+  errors = errors_of b.errors.items;
+}
 
 -- the puts of two calls, one after the other
 pub goes-append : (ps qs : List Put) (a b c : BuiltOf)

@@ -21,4 +21,5 @@ abbrev pub null_at : Bool → Bool → CompletedOf
 null_at non_null faulted = if non_null then NullAbove (not faulted) else Null
 
 abbrev pub complete : Bool → ResponseOf → Bool → CompletedOf
-complete non_null response faulted = if is_null_response response then null_at non_null faulted else Value response
+complete non_null response faulted =
+    if is_null_response response then null_at non_null faulted else Value response

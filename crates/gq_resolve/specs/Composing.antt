@@ -35,11 +35,16 @@ puts-none v o = record {
 pub puts-more : (v : View) (ps qs : List Put) (a b c : Output)
     → Puts v ps a b → Puts v qs b c → Puts v (ps ++ qs) a c
 puts-more v ps qs a b c p q = record {
-  first = (p.first.0 ++ q.first.0, q.first.1 ∙ ap (λ bs. bs ++ q.first.0) p.first.1 ∙ append_assoc a.blocked p.first.0 q.first.0);
+  first = (
+    p.first.0 ++ q.first.0,
+    q.first.1 ∙ ap (λ bs. bs ++ q.first.0) p.first.1 ∙ append_assoc a.blocked p.first.0 q.first.0,
+  );
   within = λ h. q.within (p.within h);
   asked = λ R. q.asked R ∙ ap (λ ls. thinned ls (flat_map (put_asks R) qs)) (p.asked R)
-      ∙ sym (thinned-append (thinned [] (all_asks v a.blocked R)) (flat_map (put_asks R) ps) (flat_map (put_asks R) qs))
-      ∙ ap (thinned (thinned [] (all_asks v a.blocked R))) (sym (flat_map-append (put_asks R) ps qs));
+      ∙ sym (thinned-append (thinned [] (all_asks v a.blocked R)) (flat_map (put_asks R) ps)
+      (flat_map (put_asks R) qs))
+      ∙ ap (thinned (thinned [] (all_asks v a.blocked R)))
+      (sym (flat_map-append (put_asks R) ps qs));
   written = λ w.
       let u = q.written w in
       let t = p.written u.0 in (
@@ -73,8 +78,11 @@ pub asks-narrow : (v w : View) (n : ℕ) (bs : List BlockedPosition) (R : Reader
     → AreWithin n bs → all_asks v bs R ≡ all_asks w bs R
 asks-narrow v w n [] R same h = refl
 asks-narrow v w n (b ∷ bs) R same h =
-    ap (λ (f : List RowOf → Program). asks (read_key b.loader (key_of b.key) f) R ++ all_asks v bs R) (same (onward_of b.onward) (All-head (λ (x : BlockedPosition). x.onward.group < n) b bs h))
-    ∙ ap (λ ls. asks (left_of w b) R ++ ls) (asks-narrow v w n bs R same (All-tail (λ (x : BlockedPosition). x.onward.group < n) b bs h))
+    ap (λ (f : List RowOf → Program).
+    asks (read_key b.loader (key_of b.key) f) R ++ all_asks v bs R)
+    (same (onward_of b.onward) (All-head (λ (x : BlockedPosition). x.onward.group < n) b bs h))
+    ∙ ap (λ ls. asks (left_of w b) R ++ ls) (asks-narrow v w n bs R same
+    (All-tail (λ (x : BlockedPosition). x.onward.group < n) b bs h))
 
 pub puts-narrow : (v w : View) (n : ℕ) (ps : List Put) (a b : Output) → n ≤ v.count
     → ((o : OnwardOf) → o.group < n → v.after o ≡ w.after o) → IsWithin n a
@@ -85,7 +93,8 @@ puts-narrow v w n ps a b le same within count p =
       first = p.first;
       within = λ h. subst (AreWithin v.count) (sym keys) h;
       asked = λ R.
-          let alike : all_asks v a.blocked R ≡ all_asks w a.blocked R = asks-narrow v w n a.blocked R same within in
+          let alike : all_asks v a.blocked R ≡ all_asks w a.blocked R =
+          asks-narrow v w n a.blocked R same within in
           ap (λ bs. thinned [] (all_asks v bs R)) keys ∙ ap (thinned []) alike
           ∙ ap (λ bs. thinned [] (all_asks w bs R)) (sym keys)
           ∙ p.asked R ∙ ap (λ ls. thinned (thinned [] ls) (flat_map (put_asks R) ps)) (sym alike);

@@ -68,7 +68,8 @@ pub record AddsWaits (v : View) (ps : List Put) (old new : Unread) : Type 0 wher
 
 -- gives how many loads are read from the positions on
 abbrev pub left_read : PlanOf → MemoryOf → Progress Unread → ℕ
-left_read plan m at = all_read (all_left (view_of plan at.groups.items) at.out.positions.items) (lookup m)
+left_read plan m at =
+    all_read (all_left (view_of plan at.groups.items) at.out.positions.items) (lookup m)
 
 -- the groups are right, and each position goes on at one of them
 pub record IsReading (plan : PlanOf) (at : Progress Unread) : Type 0 where
@@ -77,9 +78,11 @@ pub record IsReading (plan : PlanOf) (at : Progress Unread) : Type 0 where
 
 -- gives what is put over a reader after the load of a position, where a memory says what it gives
 abbrev pub puts_after : View → BlockedPosition → MemoryOf → Reader → List Put
-puts_after v b m R = given (lookup m (load_of b)) [] (λ outcome. puts false (with_rows (v.after (onward_of b.onward)) outcome) R)
+puts_after v b m R = given (lookup m (load_of b)) []
+    (λ outcome. puts false (with_rows (v.after (onward_of b.onward)) outcome) R)
 
 -- the load of a position was read in a memory, and what waits after it was added
 abbrev pub ReadsOn : Walk → MemoryOf → BlockedPosition → Progress Unread → Progress Unread → Type 0
 ReadsOn walk m b old new =
-    Goes AddsWaits IsUnread walk.most (plan_of walk.plan.now) (b.onward.group < length old.groups.items) (λ v. puts_after v b m (lookup walk.memory.now)) old new
+    Goes AddsWaits IsUnread walk.most (plan_of walk.plan.now) (b.onward.group
+    < length old.groups.items) (λ v. puts_after v b m (lookup walk.memory.now)) old new

@@ -19,7 +19,9 @@ abbrev mutual
   pub IsKeyByKey : Program → List KeyCall → Tree → Type 0
   IsKeyByKey (Is own) calls t = (calls ≡ []) × (t ≡ At own)
   IsKeyByKey (Read load next) calls t =
-      (outcome : OutcomeOf) × (later : List KeyCall) × (calls ≡ record { load = load; outcome = outcome } ∷ later) × IsKeyByKey (next outcome) later t
+      (outcome : OutcomeOf)
+      × (later : List KeyCall) × (calls ≡ record { load = load; outcome = outcome } ∷ later)
+      × IsKeyByKey (next outcome) later t
   IsKeyByKey (Under kind below) calls t = (ts : Trees)
       × (t ≡ Over kind ts) × AreKeyByKey below calls ts
 

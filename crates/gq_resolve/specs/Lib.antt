@@ -5,6 +5,8 @@ pub mod Written
 pub mod Composing
 pub mod Suspended
 pub mod Built
+pub mod Faulted
+pub mod Texted
 pub mod Limited
 pub mod Bounded
 pub mod Within

@@ -4,14 +4,14 @@ use Rattle.std.specs.declared.alloc.Global.{Global}
 use Rattle.answer_json.specs.Answer.{json_text, refusal_json}
 use Rattle.execution.specs.Completion.{AnsweredOf, is_open}
 use Rattle.execution.specs.Executed.{completed}
-use Rattle.execution.specs.Program.{tree}
+use Rattle.execution.specs.Loads.{Reader}
+use Rattle.execution.specs.Program.{Program, tree}
 use Rattle.load_memory.specs.Pairs.{MemoryOf}
 use Rattle.gq_check.specs.Plans.{PlanOf}
 use Rattle.plan_program.specs.PlanPrograms.{plan_program}
 use Rattle.gq_resolve.specs.Answered.{answer_text}
-use Rattle.gq_resolve.specs.Suspended.{IsResponse, Advanced}
+use Rattle.gq_resolve.specs.Suspended.{Advanced}
 use Rattle.gq_resolve.specs.declared.advance.FinishedWalk.{FinishedWalk}
-use Rattle.gq_resolve.specs.declared.answered.ExecutionResult.{ExecutionResult}
 use Rattle.gq_resolve.specs.declared.output.Output.{Output}
 use Rattle.plan_walk.specs.Reading.{lookup}
 
@@ -27,11 +27,17 @@ limited_text most text = if nat_lt most (length text) then too_long_text else te
 abbrev pub limited_answer : ℕ → AnsweredOf → List ℕ
 limited_answer most answered = limited_text most (answer_text answered)
 
--- the answer of a plan of which nothing is missing, or none where its text is longer
-abbrev pub RespondsWithin : ℕ → PlanOf → MemoryOf → Option ExecutionResult → Type 0
-RespondsWithin most plan m (Some a) = IsResponse plan m a
-RespondsWithin most plan m None = is_open (tree (plan_program plan) (lookup m)) ≡ false
-    → most < length (answer_text (completed (tree (plan_program plan) (lookup m))))
+-- the text of a plan's answer, of which nothing is missing
+abbrev pub IsAnswerText : PlanOf → MemoryOf → String Global → Type 0
+IsAnswerText plan m text = is_open (tree (plan_program plan) (lookup m)) ≡ false
+    → string_bytes text ≡ answer_text (completed (tree (plan_program plan) (lookup m)))
+
+-- the text of a program's answer, of which nothing is missing, or none where it is longer
+abbrev pub AnswersWithin : ℕ → Program → Reader → Option (String Global) → Type 0
+AnswersWithin most p R (Some text) = is_open (tree p R) ≡ false
+    → string_bytes text ≡ answer_text (completed (tree p R))
+AnswersWithin most p R None = is_open (tree p R) ≡ false
+    → most < length (answer_text (completed (tree p R)))
 
 -- the execution has come to its end
 abbrev pub IsDone : PlanOf → MemoryOf → FinishedWalk Output → Type 0

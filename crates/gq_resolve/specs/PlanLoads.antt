@@ -51,7 +51,8 @@ module _ (n : ℕ) where
   within-end : AreWithin End
   within-end R l h = absurd h
 
-  within-with : (position : FieldPosition) (p : Program) (ps : Programs) → HasLoaders n p → AreWithin ps → AreWithin (With position p ps)
+  within-with : (position : FieldPosition) (p : Program) (ps : Programs) → HasLoaders n p
+      → AreWithin ps → AreWithin (With position p ps)
   within-with position p ps h k R l i = go (split l (needs p R) (all_needs ps R) i) where
     go : IsOneOf l (needs p R) ⊎ IsOneOf l (all_needs ps R) → l.loader < n
     go (inl a) = h R l a
@@ -66,7 +67,8 @@ module _ (n : ℕ) where
 
   within-key : (loader : ℕ) (key : KeyOf) (next : List RowOf → Program) → loader < n
       → ((rs : List RowOf) → HasLoaders n (next rs)) → HasLoaders n (read_key loader key next)
-  within-key loader key next lt h = within-read (record { loader = loader; key = key }) (with_rows next) lt (within-rows next h)
+  within-key loader key next lt h =
+      within-read (record { loader = loader; key = key }) (with_rows next) lt (within-rows next h)
 
   within-cell : (loader : ℕ) (column : List ℕ) (c : Option (List ℕ)) (next : List RowOf → Program)
       → loader < n → ((rs : List RowOf) → HasLoaders n (next rs))
@@ -81,23 +83,32 @@ module _ (n : ℕ) where
   within-pair loader (known_part one) (lacking column) next lt h = λ R l h. absurd h
   within-pair loader (known_part None) (known_part two) next lt h = λ R l h. absurd h
   within-pair loader (known_part (Some s)) (known_part None) next lt h = λ R l h. absurd h
-  within-pair loader (known_part (Some s)) (known_part (Some t)) next lt h = within-key loader (pair s t) next lt h
+  within-pair loader (known_part (Some s)) (known_part (Some t)) next lt h =
+      within-key loader (pair s t) next lt h
 
   within-from : (loader : ℕ) (from : KeyFrom) (row : RowOf) (next : List RowOf → Program)
       → loader < n → ((rs : List RowOf) → HasLoaders n (next rs))
       → HasLoaders n (read_from loader from row next)
   within-from loader (fixed key) row next lt h = within-key loader key next lt h
-  within-from loader (of_column column) row next lt h = within-cell loader column (cell_of row column) next lt h
-  within-from loader (of_pair one two) row next lt h = within-pair loader (part_over one row) (part_over two row) next lt h
+  within-from loader (of_column column) row next lt h =
+      within-cell loader column (cell_of row column) next lt h
+  within-from loader (of_pair one two) row next lt h =
+      within-pair loader (part_over one row) (part_over two row) next lt h
 
-  within-if : (loader : ℕ) (next : List RowOf → Program) → loader < n → ((rs : List RowOf) → HasLoaders n (next rs)) → (key : Option KeyOf) → HasLoaders n (read_if loader next key)
+  within-if : (loader : ℕ) (next : List RowOf → Program)
+      → loader < n → ((rs : List RowOf) → HasLoaders n (next rs)) → (key : Option KeyOf)
+      → HasLoaders n (read_if loader next key)
   within-if loader next lt h None = λ R l h. absurd h
   within-if loader next lt h (Some key) = within-key loader key next lt h
 
   -- lists
-  within-places : {A : Type 0} (non_null : Bool) (place : Place) (i : ℕ) (f : A → Program) (xs : List A) → ((x : A) → HasLoaders n (f x)) → AreWithin (places non_null place i (map f xs))
+  within-places : {A : Type 0} (non_null : Bool)
+      (place : Place) (i : ℕ) (f : A → Program) (xs : List A) → ((x : A) → HasLoaders n (f x))
+      → AreWithin (places non_null place i (map f xs))
   within-places non_null place i f [] h = within-end
-  within-places non_null place i f (x ∷ xs) h = within-with (record { part = Item i; non_null = non_null; place = place }) (f x) (places non_null place (suc i) (map f xs)) (h x) (within-places non_null place (suc i) f xs h)
+  within-places non_null place i f (x ∷ xs) h =
+      within-with (record { part = Item i; non_null = non_null; place = place }) (f x) (places
+      non_null place (suc i) (map f xs)) (h x) (within-places non_null place (suc i) f xs h)
 
   within-list : {A : Type 0} (below : ChildrenOf) (f : A → Program) (xs : List A)
       → ((x : A) → HasLoaders n (f x)) → HasLoaders n (list_of below (map f xs))
@@ -125,7 +136,8 @@ module _ (n : ℕ) where
   AreAskedWithin [] = Unit {0}
   AreAskedWithin (p ∷ ps) = IsAskedWithin p.asked × AreAskedWithin ps
 
-  module _ (defs : List Definition) (objects : Objects) (h : (ty : List ℕ) (fields : List FieldOf) (row : RowOf) → HasLoaders n (objects ty fields row)) where
+  module _ (defs : List Definition) (objects : Objects) (h : (ty : List ℕ) (fields : List FieldOf)
+      (row : RowOf) → HasLoaders n (objects ty fields row)) where
     within-typed : (below : ChildrenOf) (row : RowOf) (t : TypeOf)
         → HasLoaders n (typed_object objects below row t)
     within-typed below row (type_fault fault) = λ R l h. absurd h
@@ -143,25 +155,36 @@ module _ (n : ℕ) where
     within-joined : (below : ChildrenOf) (steps : List StepOf) → StepsWithin steps
         → (row : RowOf) → HasLoaders n (joined_object defs objects below steps row)
     within-joined below [] k row = within-row below row
-    within-joined below (s ∷ ss) k row = within-from s.loader (of_column s.column) row (first_of (joined_object defs objects below ss)) k.0 (first-within (joined_object defs objects below ss) (within-joined below ss k.1))
+    within-joined below (s ∷ ss) k row = within-from s.loader
+        (of_column s.column) row (first_of (joined_object defs objects below ss)) k.0
+        (first-within (joined_object defs objects below ss) (within-joined below ss k.1))
 
     within-asked : (row : RowOf) (a : ValueFrom) → IsAskedWithin a
         → HasLoaders n (asked_program defs objects row a)
     within-asked row (settled leaf_value) lt = within-is leaf_value
     within-asked row (cell column t) lt = λ R l h. absurd h
-    within-asked row (first_row loader key below) lt = within-from loader key row (first_object defs objects below) lt (within-first below)
-    within-asked row (all_rows loader key below) lt = within-from loader key row (all_objects defs objects below) lt (λ rs. within-list below (row_object defs objects below) rs (within-row below))
-    within-asked row (each_row loader keys below) lt = within-list below (read_if loader (first_object defs objects below)) keys (within-if loader (first_object defs objects below) lt (within-first below))
+    within-asked row (first_row loader key below) lt =
+        within-from loader key row (first_object defs objects below) lt (within-first below)
+    within-asked row (all_rows loader key below) lt =
+        within-from loader key row (all_objects defs objects below) lt
+        (λ rs. within-list below (row_object defs objects below) rs (within-row below))
+    within-asked row (each_row loader keys below) lt =
+        within-list below (read_if loader (first_object defs objects below)) keys
+        (within-if loader (first_object defs objects below) lt (within-first below))
     within-asked row (joined_rows loader key steps below) lt =
-        within-from loader key row (joined_objects defs objects below steps) lt.0 (λ rs. within-list below (joined_object defs objects below steps) rs (within-joined below steps lt.1))
+        within-from loader key row (joined_objects defs objects below steps) lt.0 (λ rs. within-list
+        below (joined_object defs objects below steps) rs (within-joined below steps lt.1))
 
     within-fields : (row : RowOf) (ps : List PreparedOf) → AreAskedWithin ps
         → AreWithin (fields_of (asked_program defs objects row) ps)
     within-fields row [] k = within-end
-    within-fields row (p ∷ ps) k = within-with p.position (asked_program defs objects row p.asked) (fields_of (asked_program defs objects row) ps) (within-asked row p.asked k.0) (within-fields row ps k.1)
+    within-fields row (p ∷ ps) k = within-with p.position (asked_program defs objects row p.asked)
+        (fields_of (asked_program defs objects row) ps) (within-asked row p.asked k.0)
+        (within-fields row ps k.1)
 
 abbrev typename_asked : List ℕ → FieldOf → GroupOf → PreparedOf
-typename_asked ty f g = record { position = position_of g.key f.place true; asked = settled (Value (Text ty)) }
+typename_asked ty f g =
+    record { position = position_of g.key f.place true; asked = settled (Value (Text ty)) }
 
 -- gives what a plan's groups ask
 module _ (plan : PlanOf) where
@@ -169,7 +192,8 @@ module _ (plan : PlanOf) where
       → (loader < length plan.bindings.loaders → IsAskedWithin (length plan.bindings.loaders) a)
       → IsAskedWithin (length plan.bindings.loaders) (with_loader plan loader a)
   asked-loader loader a h = go (nat_lt loader (length plan.bindings.loaders)) refl where
-    go : (b : Bool) → nat_lt loader (length plan.bindings.loaders) ≡ b → IsAskedWithin (length plan.bindings.loaders) (if b then a else settled Null)
+    go : (b : Bool) → nat_lt loader (length plan.bindings.loaders) ≡ b
+        → IsAskedWithin (length plan.bindings.loaders) (if b then a else settled Null)
     go true e = h (ltb-true loader (length plan.bindings.loaders) e)
     go false e = tt
 
@@ -179,9 +203,13 @@ module _ (plan : PlanOf) where
       let parts = and_parts (nat_lt s.loader m) (have_loaders ss m) e in
       (ltb-true s.loader m parts.0, steps-within m ss parts.1)
 
-  asked-steps : (steps : List StepOf) (a : ValueFrom) → (StepsWithin (length plan.bindings.loaders) steps → IsAskedWithin (length plan.bindings.loaders) a) → IsAskedWithin (length plan.bindings.loaders) (with_steps plan steps a)
+  asked-steps : (steps : List StepOf) (a : ValueFrom)
+      → (StepsWithin (length plan.bindings.loaders) steps
+      → IsAskedWithin (length plan.bindings.loaders) a)
+      → IsAskedWithin (length plan.bindings.loaders) (with_steps plan steps a)
   asked-steps steps a h = go (have_loaders steps (length plan.bindings.loaders)) refl where
-    go : (b : Bool) → have_loaders steps (length plan.bindings.loaders) ≡ b → IsAskedWithin (length plan.bindings.loaders) (if b then a else settled Null)
+    go : (b : Bool) → have_loaders steps (length plan.bindings.loaders) ≡ b
+        → IsAskedWithin (length plan.bindings.loaders) (if b then a else settled Null)
     go true e = h (steps-within (length plan.bindings.loaders) steps e)
     go false e = tt
 
@@ -206,15 +234,24 @@ module _ (plan : PlanOf) where
   asked-bound t below values None = tt
   asked-bound t below values (Some (by_column column)) = tt
   asked-bound t below values (Some (by_one loader key)) =
-      asked-loader loader (with_key (key_from values key) (λ k. first_row loader k below)) (λ lt. asked-key (key_from values key) (λ k. first_row loader k below) (λ k. lt))
+      asked-loader loader (with_key (key_from values key) (λ k. first_row loader k below))
+      (λ lt. asked-key (key_from values key) (λ k. first_row loader k below) (λ k. lt))
   asked-bound t below values (Some (by_many loader key)) =
-      asked-loader loader (with_key (key_from values key) (λ k. all_rows loader k below)) (λ lt. asked-key (key_from values key) (λ k. all_rows loader k below) (λ k. lt))
-  asked-bound t below values (Some (by_each loader name)) = asked-loader loader (each_asked loader below (input_named name values)) (λ lt. asked-each loader below (input_named name values) lt)
+      asked-loader loader (with_key (key_from values key) (λ k. all_rows loader k below))
+      (λ lt. asked-key (key_from values key) (λ k. all_rows loader k below) (λ k. lt))
+  asked-bound t below values (Some (by_each loader name)) =
+      asked-loader loader (each_asked loader below (input_named name values))
+      (λ lt. asked-each loader below (input_named name values) lt)
   asked-bound t below values (Some (by_via loader key steps)) =
-      asked-loader loader (with_steps plan steps (with_key (key_from values key) (λ k. joined_rows loader k steps below)))
-      (λ one. asked-steps steps (with_key (key_from values key) (λ k. joined_rows loader k steps below)) (λ others. asked-key (key_from values key) (λ k. joined_rows loader k steps below) (λ k. (one, others))))
+      asked-loader loader (with_steps plan steps
+      (with_key (key_from values key) (λ k. joined_rows loader k steps below)))
+      (λ one. asked-steps steps (with_key (key_from values key)
+      (λ k. joined_rows loader k steps below)) (λ others. asked-key (key_from values key)
+      (λ k. joined_rows loader k steps below) (λ k. (one, others))))
 
-  asked-with : (args : ArgumentsOf) (f : List ValueOf → ValueFrom) → ((values : List ValueOf) → IsAskedWithin (length plan.bindings.loaders) (f values)) → IsAskedWithin (length plan.bindings.loaders) (with_arguments args f)
+  asked-with : (args : ArgumentsOf) (f : List ValueOf → ValueFrom)
+      → ((values : List ValueOf) → IsAskedWithin (length plan.bindings.loaders) (f values))
+      → IsAskedWithin (length plan.bindings.loaders) (with_arguments args f)
   asked-with (null_argument name) f h = tt
   asked-with (all_values values) f h = h values
 
@@ -222,12 +259,16 @@ module _ (plan : PlanOf) where
       → IsAskedWithin (length plan.bindings.loaders) (defined_asked plan ty f g d).asked
   asked-defined ty f g None = tt
   asked-defined ty f g (Some d) =
-      asked-with (arguments_of plan ty g) (λ values. bound_asked plan d.of_type (children_of d.of_type f.place g.fields) values (binding_in plan.bindings.fields ty f.name)) (λ values. asked-bound d.of_type (children_of d.of_type f.place g.fields) values (binding_in plan.bindings.fields ty f.name))
+      asked-with (arguments_of plan ty g) (λ values. bound_asked plan d.of_type (children_of
+      d.of_type f.place g.fields) values (binding_in plan.bindings.fields ty f.name))
+      (λ values. asked-bound d.of_type (children_of d.of_type f.place g.fields) values
+      (binding_in plan.bindings.fields ty f.name))
 
   asked-field : (ty : List ℕ) (f : FieldOf) (g : GroupOf)
       → IsAskedWithin (length plan.bindings.loaders) (field_asked plan ty f g).asked
   asked-field ty f g = go (bytes_eq f.name (codes "__typename")) where
-    go : (b : Bool) → IsAskedWithin (length plan.bindings.loaders) (if b then typename_asked ty f g else defined_asked plan ty f g (field_in plan.definitions ty f.name)).asked
+    go : (b : Bool) → IsAskedWithin (length plan.bindings.loaders) (if b then typename_asked ty f g
+        else defined_asked plan ty f g (field_in plan.definitions ty f.name)).asked
     go true = tt
     go false = asked-defined ty f g (field_in plan.definitions ty f.name)
 
@@ -245,9 +286,15 @@ module _ (plan : PlanOf) where
       → HasLoaders (length plan.bindings.loaders) (object_program plan levels ty fields row)
   within-object zero ty fields row = λ R l h. absurd h
   within-object (suc levels) ty fields row =
-      within-fields (length plan.bindings.loaders) plan.definitions (object_program plan levels) (within-object levels) row (all_prepared plan ty (collect_subfields plan ty nothing_collected fields).groups) (asked-all ty (collect_subfields plan ty nothing_collected fields).groups)
+      within-fields (length plan.bindings.loaders) plan.definitions (object_program plan levels)
+      (within-object levels) row
+      (all_prepared plan ty (collect_subfields plan ty nothing_collected fields).groups)
+      (asked-all ty (collect_subfields plan ty nothing_collected fields).groups)
 
   -- a plan's program asks no loader but those that its bindings define
   pub plan-loads : HasLoaders (length plan.bindings.loaders) (plan_program plan)
   plan-loads =
-      within-fields (length plan.bindings.loaders) plan.definitions (object_program plan most_levels) (within-object most_levels) [] (root_prepared plan) (asked-all (root_in plan.definitions) (collect plan (root_in plan.definitions) (selections_in plan.operation.selection_set)))
+      within-fields (length plan.bindings.loaders) plan.definitions
+      (object_program plan most_levels)
+      (within-object most_levels) [] (root_prepared plan) (asked-all (root_in plan.definitions)
+      (collect plan (root_in plan.definitions) (selections_in plan.operation.selection_set)))

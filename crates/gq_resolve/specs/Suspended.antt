@@ -14,7 +14,7 @@ use Rattle.plan_program.specs.PlanPrograms.{root_prepared, plan_program}
 use Rattle.gq_resolve.specs.Answered.{answered_of, answered_json}
 use Rattle.gq_resolve.specs.Evaluated.{front_over, missing_over}
 use Rattle.plan_walk.specs.Reading.{lookup}
-use Rattle.plan_walk.specs.Groups.{after_at, Makes, AreRight}
+use Rattle.plan_walk.specs.Groups.{view_of, Makes, AreRight}
 use Rattle.plan_walk.specs.Puts.{Put, View, puts}
 use Rattle.gq_resolve.specs.Written.{asks, thinned, all_asks, AreWithin, IsWriting}
 use Rattle.plan_walk.specs.declared.loading_fields.LoadingField.{LoadingField}
@@ -33,7 +33,8 @@ pub record IsRooted (plan : PlanOf) (r : RootObject) : Type 0 where
   pub right : AreRight plan r.groups.items
 
 -- Over each larger memory these positions ask what the plan asks, each load once.
-pub record MayGoOn (plan : PlanOf) (m : MemoryOf) (r : RootObject) (bs : List BlockedPosition) : Type 0 where
+pub record MayGoOn (plan : PlanOf) (m : MemoryOf) (r : RootObject)
+    (bs : List BlockedPosition) : Type 0 where
   pub rooted : IsRooted plan r
   pub within : AreWithin (length r.groups.items) bs
   pub ask : (R : Reader) → AnswersMore (lookup m) R
@@ -76,9 +77,11 @@ abbrev pub WaitsBelow : {S : Type 0} → (ℕ → S → Type 0) → RootObject �
 WaitsBelow below r s = below (length r.groups.items) s
 
 -- the whole plan was put, by what the groups do
-pub record GoesOver {S : Type 0} (goes : View → List Put → S → S → Type 0) (plan : PlanOf) (m : MemoryOf) (old : S) (w : FinishedWalk S) : Type 0 where
+pub record GoesOver {S : Type 0} (goes : View → List Put → S → S → Type 0) (plan : PlanOf)
+    (m : MemoryOf) (old : S) (w : FinishedWalk S) : Type 0 where
   pub rooted : IsRooted plan w.rooted
-  pub put : goes (view_of plan w.rooted.groups.items) (puts false (plan_program plan) (lookup m)) old w.out
+  pub put : goes (view_of plan w.rooted.groups.items)
+      (puts false (plan_program plan) (lookup m)) old w.out
 
 -- says the same of a tour's plan and memory
 abbrev pub GoesOverTour : {S : Type 0} → (View → List Put → S → S → Type 0)

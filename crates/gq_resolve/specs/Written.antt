@@ -122,7 +122,8 @@ pub record Adds (plain : Bool) (ts : List Token) (old new : Output) : Type 0 whe
       → IsWriting old × (plain ≡ true) × (new.writer.tokens ≡ old.writer.tokens ++ ts)
 
 abbrev pub AddsLeafValue : Bool → LeafValue → Output → Output → Type 0
-AddsLeafValue non_null leaf_value old new = Adds (leaf_value_plain non_null leaf_value) (leaf_value_tokens leaf_value) old new
+AddsLeafValue non_null leaf_value old new =
+    Adds (leaf_value_plain non_null leaf_value) (leaf_value_tokens leaf_value) old new
 
 -- the value of a leaf, or that there is none
 abbrev pub leaf_tokens : Option Leaf → List Token

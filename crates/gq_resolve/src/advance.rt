@@ -6,10 +6,8 @@ ghost use Rattle.execution.specs.Executes.{CanExecute, GrowsTo};
 ghost use Rattle.gq_check.specs.Plans.{plan_of};
 ghost use Rattle.gq_resolve.specs.Evaluated.{AddsPart};
 ghost use Rattle.gq_resolve.specs.Suspended.{plan_on, IsRooted, WaitsBelow, GoesOverTour, IsResponse, MayGoOn, Advanced, FitsStopped, FitsTour, IsAdvanced, lacking};
-ghost use Rattle.gq_resolve.specs.Limited.{RespondsWithin};
 
 use crate::answered::ExecutionResult;
-use crate::bounded::BoundedBuilder;
 use crate::builder::Builder;
 use crate::output::Output;
 use crate::wanting::add_wants;
@@ -51,7 +49,8 @@ pub struct Suspension<'p> {
 
 /// The root object (section 6.2.1).
 pub fn prepare_root<'p>(walk: &Walk<'_, 'p>) -> Result<RootObject<'p>, AllocError>
-    ensures { IfOk result (IsRooted (plan_of walk.now.plan.now)) }
+    ensures { IfOk result
+        (IsRooted (plan_of walk.now.plan.now)) }
 {
     let ty = walk.plan.schema().root();
     let selections = &walk.plan.operation().selection_set.selections;
@@ -116,20 +115,6 @@ pub fn build_response<'p>(
         → IfOk result (IsResponse (plan_on walk.now) walk.now.memory.now) }
 {
     let walked = go_over(walk, rooted, Builder::new(walk.alloc))?;
-    Ok(walked.out.finish())
-}
-
-/// Does the same where its text may have `most` bytes. None where it is certain that it is longer.
-pub fn build_response_within<'p>(
-    walk: &Walk<'_, 'p>,
-    rooted: RootObject<'p>,
-    most: usize,
-) -> Result<Option<ExecutionResult>, AllocError>
-    ensures { IsRooted (plan_on walk.now) rooted.entry
-        → IfOk result (RespondsWithin most (plan_on walk.now) walk.now.memory.now) }
-{
-    let builder = BoundedBuilder::new(walk.alloc, most);
-    let walked = go_over(walk, rooted, builder)?;
     Ok(walked.out.finish())
 }
 

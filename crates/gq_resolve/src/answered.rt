@@ -20,7 +20,8 @@ pub struct ExecutionResult {
 ///
 /// Only when out of memory.
 pub fn answer_text(alloc: Global, answered: &ExecutionResult) -> Result<String, AllocError>
-    ensures { IfOk result (λ text. string_bytes text ≡ answer_text (answered_of answered.now)) }
+    ensures { IfOk result (λ text. string_bytes text
+        ≡ answer_text (answered_of answered.now)) }
 {
     Ok(write_answer(alloc, &answered.response, &answered.errors)?)
 }

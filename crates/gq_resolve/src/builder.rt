@@ -8,7 +8,6 @@ ghost use Rattle.execution.specs.Program.{Null, Program, tree};
 ghost use Rattle.execution.specs.Executed.{completed};
 ghost use Rattle.plan_program.specs.Prepared.{leaf_value_seen};
 ghost use Rattle.gq_resolve.specs.Answered.{part_of, response_of, answered_of};
-ghost use Rattle.gq_resolve.specs.Bounded.{key_size, without_last_parts, without_errors, is_pulled};
 ghost use Rattle.plan_walk.specs.Positions.{is_non_null};
 ghost use Rattle.gq_resolve.specs.Built.{path_in, placed, given_leaf_value, at_root, with_error, built, nothing_built, IsWhole, position_held, built_of, goes-append};
 
@@ -36,9 +35,10 @@ pub struct Builder {
     errors: Vec<FieldError>,
 }
 
-/// A copy of an own value.
-pub fn copy_leaf_value(alloc: Global, leaf_value: &LeafValue) -> Result<LeafValue, AllocError>
-    ensures { IfOk result (λ copy. leaf_value_seen copy ≡ leaf_value_seen leaf_value.now) }
+// A copy of an own value.
+fn copy_leaf_value(alloc: Global, leaf_value: &LeafValue) -> Result<LeafValue, AllocError>
+    ensures { IfOk result (λ copy. leaf_value_seen copy
+        ≡ leaf_value_seen leaf_value.now) }
 {
     match leaf_value {
         LeafValue::Text(text) => Ok(LeafValue::Text(String::from_str(alloc, text.as_str())?)),
@@ -74,46 +74,12 @@ impl Builder {
         }
     }
 
-    /// The number of bytes that the key of the next value has.
-    pub fn key_size(&self) -> usize
-        ensures { result ≡ key_size (built_of self.now).levels (built_of self.now).position.part }
-    {
-        match self.levels.last() {
-            Some(level) => level.key_size(&self.position),
-            None => 0,
-        }
-    }
-
-    /// Tells whether what was begun last will be null.
-    pub fn is_pulled(&self) -> bool
-        ensures { result ≡ is_pulled (built_of self.now).levels }
-    {
-        match self.levels.last() {
-            Some(level) => level.pulled,
-            None => false,
-        }
-    }
-
-    /// Drops the parts of what was begun last.
-    pub fn drop_last_parts(&mut self)
-        ensures { built_of self.new ≡ without_last_parts (built_of self.old) }
-    {
-        if let Some(level) = self.levels.last_mut() {
-            level.drop_parts(self.alloc);
-        }
-    }
-
-    /// Drops the errors.
-    pub fn drop_errors(&mut self)
-        ensures { built_of self.new ≡ without_errors (built_of self.old) }
-    {
-        self.errors = Vec::new(self.alloc);
-    }
-
     // The position of what is put next, which is then the root's until another is entered.
     fn take_position(&mut self) -> Position
-        ensures position { position_held result ≡ (built_of self.old).position }
-        ensures left { built_of self.new ≡ at_root (built_of self.old) }
+        ensures position { position_held result
+            ≡ (built_of self.old).position }
+        ensures left { built_of self.new
+            ≡ at_root (built_of self.old) }
     {
         mem::replace(&mut self.position, Position::root())
     }
@@ -162,8 +128,8 @@ impl Builder {
         }
     }
 
-    /// Puts an own value, and its error.
-    pub fn put_leaf_value(
+    // Puts an own value, and its error.
+    fn put_leaf_value(
         &mut self,
         leaf_value: LeafValue,
         nullability: Nullability,

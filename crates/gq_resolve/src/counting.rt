@@ -140,8 +140,10 @@ fn read_all<'p>(
 ///
 /// Only when out of memory.
 pub fn loads_read(alloc: Global, plan: &Plan, memory: &Memory) -> Result<u64, AllocError>
-    requires { length (plan_of plan.now).bindings.loaders ≤ length memory.now.modes }
-    ensures { IfOk result (λ count. count ≡ counted (plan_read (plan_of plan.now) memory.now)) }
+    requires { length (plan_of plan.now).bindings.loaders
+        ≤ length memory.now.modes }
+    ensures { IfOk result (λ count. count ≡ counted
+        (plan_read (plan_of plan.now) memory.now)) }
 {
     let nothing = Memory::new(alloc, Vec::new(alloc))?;
     let walk = Walk {

@@ -3,7 +3,6 @@
 ghost use Rattle.std.specs.Prelude.{◌≡◌, IfOk, OnOk, string_bytes};
 ghost use Rattle.execution.specs.Program.{Key, ObjectOf};
 ghost use Rattle.gq_resolve.specs.Answered.{part_of, response_of, is_null_response};
-ghost use Rattle.gq_resolve.specs.Bounded.{part_size, without_parts};
 ghost use Rattle.gq_resolve.specs.Built.{root_position, step_in, level_with, level_response, position_held, level_seen};
 
 use answer_json::{PathSegment, Response};
@@ -56,7 +55,8 @@ impl Position {
 
     /// A copy of the last step of its path.
     pub fn copy_step(&self, alloc: Global) -> Result<PathSegment, AllocError>
-        ensures { IfOk result (λ step. part_of step ≡ (position_held self.now).part) }
+        ensures { IfOk result (λ step.
+            part_of step ≡ (position_held self.now).part) }
     {
         match &self.step {
             PathSegment::Key(key) => Ok(PathSegment::Key(String::from_str(alloc, key.as_str())?)),
@@ -66,7 +66,8 @@ impl Position {
 
     // The key of a field. No item has one.
     fn into_key(self, alloc: Global) -> String
-        ensures { Key (string_bytes result) ≡ step_in ObjectOf 0 (position_held self).part }
+        ensures { Key (string_bytes result)
+            ≡ step_in ObjectOf 0 (position_held self).part }
     {
         match self.step {
             PathSegment::Key(key) => key,
@@ -94,30 +95,12 @@ impl Level {
         Ok(())
     }
 
-    /// Returns how many bytes the key of one of its positions has.
-    pub fn key_size(&self, position: &Position) -> usize
-        ensures { result ≡ part_size (level_seen self.now).kind (position_held position.now).part }
-    {
-        match (&self.parts, &position.step) {
-            (PartialValue::Fields(_), PathSegment::Key(key)) => key.len(),
-            _ => 0,
-        }
-    }
-
-    /// Drops what it has.
-    pub fn drop_parts(&mut self, alloc: Global)
-        ensures { level_seen self.new ≡ without_parts (level_seen self.old) }
-    {
-        match self.parts {
-            PartialValue::Items(_) => self.parts = PartialValue::Items(Vec::new(alloc)),
-            PartialValue::Fields(_) => self.parts = PartialValue::Fields(Vec::new(alloc)),
-        }
-    }
-
     /// Its position and its response, now that it ends.
     pub fn into_ended(self) -> EndedLevel
-        ensures position { position_held result.position ≡ (level_seen self).position }
-        ensures response { response_of result.response ≡ level_response (level_seen self) }
+        ensures position { position_held result.position
+            ≡ (level_seen self).position }
+        ensures response { response_of result.response
+            ≡ level_response (level_seen self) }
     {
         let position = self.position;
         let response = match self.parts {
@@ -131,7 +114,8 @@ impl Level {
 
 /// Tells whether a response is null.
 pub fn is_null(response: &Response) -> bool
-    ensures { result ≡ is_null_response (response_of response.now) }
+    ensures { result ≡ is_null_response
+        (response_of response.now) }
 {
     matches!(response, Response::Null)
 }

@@ -4,8 +4,8 @@ ghost use Rattle.std.specs.Prelude.{◌≡◌, IfOk, string_bytes};
 ghost use Rattle.gq_resolve.specs.Limited.{too_long_text, limited_text, IsDone, IsLimitedAnswer};
 ghost use Rattle.gq_resolve.specs.Suspended.{plan_on};
 
-use crate::advance::{FinishedWalk, build_response_within};
-use crate::answered::answer_text;
+use crate::advance::FinishedWalk;
+use crate::faulted_text::faulted_text;
 use crate::output::Output;
 use answer_json::write_refusal;
 use plan_walk::walk::Walk;
@@ -13,14 +13,16 @@ use std::alloc::{AllocError, Global};
 
 // The refusal of an answer that is too long.
 fn too_long(alloc: Global) -> Result<String, AllocError>
-    ensures { IfOk result (λ text. string_bytes text ≡ too_long_text) }
+    ensures { IfOk result
+        (λ text. string_bytes text ≡ too_long_text) }
 {
     write_refusal(alloc, "answer too long", None)
 }
 
 // The text, unless it is too long.
 fn limit_text(alloc: Global, text: String, most: usize) -> Result<String, AllocError>
-    ensures { IfOk result (λ kept. string_bytes kept ≡ limited_text most (string_bytes text)) }
+    ensures { IfOk result (λ kept. string_bytes kept
+        ≡ limited_text most (string_bytes text)) }
 {
     if text.len() > most {
         return too_long(alloc);
@@ -29,7 +31,7 @@ fn limit_text(alloc: Global, text: String, most: usize) -> Result<String, AllocE
 }
 
 /// The text of an answer of which nothing is missing, or its refusal where that has more bytes. An answer without errors was
-/// written, if it isn't too long. Any other is built first.
+/// written, if it isn't too long. Any other is written now.
 pub fn text_or_refusal<'p>(
     walk: &Walk<'_, 'p>,
     walked: FinishedWalk<'p, Output>,
@@ -43,8 +45,8 @@ pub fn text_or_refusal<'p>(
         return limit_text(walk.alloc, out.into_text(), most);
     }
     drop(out);
-    match build_response_within(walk, rooted, most)? {
-        Some(answered) => limit_text(walk.alloc, answer_text(walk.alloc, &answered)?, most),
+    match faulted_text(walk, rooted, most)? {
+        Some(text) => limit_text(walk.alloc, text, most),
         None => too_long(walk.alloc),
     }
 }

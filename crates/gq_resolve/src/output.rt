@@ -1,16 +1,15 @@
 //! An answer without errors, as it is written within a limit, and the positions of it that wait.
 //!
 //! An answer without errors is written straight from the rows, with no response and no string for a cell. Where
-//! an error was met and nothing is missing a second walk builds the response, since an error can make null what
-//! was written around it. Both ways have one contract.
+//! an error was met and nothing is missing, `faulted_text` writes the answer anew, since an error can make null
+//! what was written around it.
 
-ghost use Rattle.std.specs.Prelude.{◌≡◌, ◌↔◌, ◌∷◌, [], IfOk, OnOk, IsTrue, Bool, false, true, option_map, string_bytes};
+ghost use Rattle.std.specs.Prelude.{◌≡◌, ◌≤◌, ◌↔◌, ◌∷◌, [], suc, length, IfOk, OnOk, IsTrue, Bool, false, true, option_map, string_bytes};
 ghost use Rattle.std.specs.Fmt.{signed_decimal};
-ghost use Rattle.json.specs.Print.{IsPrintable, print};
+ghost use Rattle.json.specs.Print.{IsPrintable, print, token_text};
 ghost use Rattle.json.specs.Reads.{token_of};
 ghost use Rattle.json.specs.Token.{number};
 ghost use Rattle.execution.specs.Program.{Null};
-ghost use Rattle.plan_program.specs.Prepared.{leaf_value_seen};
 ghost use Rattle.plan_walk.specs.Cells.{value_seen};
 ghost use Rattle.plan_walk.specs.Positions.{is_non_null};
 
@@ -24,7 +23,7 @@ use plan_walk::waiting::Waiting;
 use std::alloc::{AllocError, Global};
 
 /// The room that a text has from the start.
-const FIRST_ROOM: usize = 128;
+pub const FIRST_ROOM: usize = 128;
 
 /// A limit that no text reaches.
 pub const NO_LIMIT: usize = usize::MAX;
@@ -43,10 +42,22 @@ pub struct Output {
     pub ghost begins: { writer.before ≡ [] },
 }
 
-// Returns how many bytes a token takes at least.
-fn least_bytes(token: Token<'_>) -> usize {
+// Returns how many bytes a text in quotes takes at least.
+fn text_bytes(text: &str) -> usize
+    ensures { result ≤ suc (length text.now) }
+{
+    text.len().saturating_add(1)
+}
+
+/// Returns how many bytes a token takes at least.
+pub fn least_bytes(token: Token<'_>) -> usize
+    ensures { result ≤ length
+        (token_text (token_of token.entry)) }
+{
     match token {
-        Token::Key(text) | Token::String(text) => text.len().saturating_add(2),
+        Token::Key(text) => text_bytes(text),
+        Token::String(text) => text_bytes(text),
+        Token::Number(_) | Token::Bad => 0,
         _ => 1,
     }
 }
@@ -56,8 +67,10 @@ impl Output {
 
     /// Nothing yet. It writes up to `most` bytes, and one token more.
     pub fn new(alloc: Global, most: usize) -> Result<Output, AllocError>
-        ensures tokens { IfOk result (λ out. out.writer.tokens ≡ []) }
-        ensures blocked { IfOk result (λ out. out.blocked ≡ []) }
+        ensures tokens { IfOk result
+            (λ out. out.writer.tokens ≡ []) }
+        ensures blocked { IfOk result
+            (λ out. out.blocked ≡ []) }
     {
         Ok(Output {
             alloc,
@@ -84,7 +97,8 @@ impl Output {
 
     /// Returns what was written, as text.
     pub fn into_text(self) -> String
-        ensures { string_bytes result ≡ print self.writer.tokens }
+        ensures { string_bytes result
+            ≡ print self.writer.tokens }
     {
         let bytes = self.writer.into_inner();
         // SAFETY: a writer's text is UTF-8.

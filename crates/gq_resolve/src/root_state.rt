@@ -11,7 +11,8 @@ ghost use Rattle.gq_resolve.specs.Limited.{limited_answer};
 ghost use Rattle.gq_resolve.specs.Suspended.{plan_in, FitsMemory};
 
 use crate::advance::{FinishedWalk, Suspension, advance, build_response};
-use crate::answered::{ExecutionResult, answer_text};
+use crate::answered::ExecutionResult;
+use crate::faulted_text::whole_text;
 use crate::limited::text_or_refusal;
 use crate::most_groups::most_groups_of;
 use crate::output::NO_LIMIT;
@@ -41,7 +42,8 @@ impl<'p> RootState<'p> {
     /// The execution of a plan, of which nothing is done. It takes no memory.
     pub fn new(plan: &'p Plan) -> RootState<'p>
         ensures plan { plan_in result ≡ plan_of plan.now }
-        ensures fits { (m : MemoryOf) → FitsMemory result m }
+        ensures fits { (m : MemoryOf)
+            → FitsMemory result m }
     {
         RootState {
             plan,
@@ -63,13 +65,14 @@ impl<'p> RootState<'p> {
         wants: &mut Wants,
     ) -> Result<Poll<String>, AllocError>
         requires { CanExecute (length (plan_in self.old).bindings.loaders) memory.now wants.old }
-        ensures ok { FitsMemory self.old memory.now
-            → IfOk result (IsExecuted answer_text wants.old wants.new (plan_program (plan_in self.old)) memory.now) }
+        ensures ok { FitsMemory self.old memory.now → IfOk result (IsExecuted answer_text
+            wants.old wants.new (plan_program (plan_in self.old)) memory.now) }
         ensures err { FitsMemory self.old memory.now → OnErr result (AddsPart wants.old
             wants.new (missing_over memory.now (plan_program (plan_in self.old)))) }
         ensures grown { (m : MemoryOf) → FitsMemory self.old memory.now
             → GrowsTo memory.now m → FitsMemory self.new m }
-        ensures same_plan { plan_in self.new ≡ plan_in self.old }
+        ensures same_plan { plan_in self.new
+            ≡ plan_in self.old }
     {
         let walk = Walk {
             alloc,
@@ -85,8 +88,7 @@ impl<'p> RootState<'p> {
             return Ok(Poll::Ready(out.into_text()));
         }
         drop(out);
-        let answered = build_response(&walk, rooted)?;
-        Ok(Poll::Ready(answer_text(alloc, &answered)?))
+        Ok(Poll::Ready(whole_text(&walk, rooted)?))
     }
 
     /// Does the same, where the text may have `most` bytes and no more: a longer one is refused, and the text is that of
@@ -103,13 +105,14 @@ impl<'p> RootState<'p> {
         most: usize,
     ) -> Result<Poll<String>, AllocError>
         requires { CanExecute (length (plan_in self.old).bindings.loaders) memory.now wants.old }
-        ensures ok { FitsMemory self.old memory.now
-            → IfOk result (IsExecuted (limited_answer most) wants.old wants.new (plan_program (plan_in self.old)) memory.now) }
+        ensures ok { FitsMemory self.old memory.now → IfOk result (IsExecuted (limited_answer most)
+            wants.old wants.new (plan_program (plan_in self.old)) memory.now) }
         ensures err { FitsMemory self.old memory.now → OnErr result (AddsPart wants.old
             wants.new (missing_over memory.now (plan_program (plan_in self.old)))) }
         ensures grown { (m : MemoryOf) → FitsMemory self.old memory.now
             → GrowsTo memory.now m → FitsMemory self.new m }
-        ensures same_plan { plan_in self.new ≡ plan_in self.old }
+        ensures same_plan { plan_in self.new
+            ≡ plan_in self.old }
     {
         let walk = Walk {
             alloc,

@@ -19,7 +19,8 @@ use std::alloc::AllocError;
 // Adds a load, if there is such a loader.
 fn want(loader: usize, key: Key, loaders: usize, wants: &mut Wants) -> Result<(), AllocError>
     requires { loaders ≡ length wants.old }
-    ensures ok { OnOk result (wants.new ≡ with_wanted wants.old loader (key_of key)) }
+    ensures ok { OnOk result (wants.new
+        ≡ with_wanted wants.old loader (key_of key)) }
     ensures loaders { length wants.new ≡ length wants.old }
     ensures kept { OnErr result (wants.new ≡ wants.old) }
 {
@@ -32,7 +33,8 @@ fn want(loader: usize, key: Key, loaders: usize, wants: &mut Wants) -> Result<()
 // Adds their loads, and keeps them.
 fn want_each(waiting: &Waiting, loaders: usize, wants: &mut Wants) -> Result<(), AllocError>
     requires { loaders ≡ length wants.old }
-    ensures ok { OnOk result (wants.new ≡ wanting wants.old (loads_of waiting.now)) }
+    ensures ok { OnOk result (wants.new
+        ≡ wanting wants.old (loads_of waiting.now)) }
     ensures part { OnErr result (AddsPart wants.old wants.new (loads_of waiting.now)) }
 {
     for position in waiting.as_slice() {
@@ -44,8 +46,10 @@ fn want_each(waiting: &Waiting, loaders: usize, wants: &mut Wants) -> Result<(),
 // Adds their loads.
 fn want_all(waiting: Waiting, loaders: usize, wants: &mut Wants) -> Result<(), AllocError>
     requires { loaders ≡ length wants.old }
-    ensures ok { OnOk result (wants.new ≡ wanting wants.old (loads_of waiting)) }
-    ensures part { OnErr result (AddsPart wants.old wants.new (loads_of waiting)) }
+    ensures ok { OnOk result
+        (wants.new ≡ wanting wants.old (loads_of waiting)) }
+    ensures part { OnErr result
+        (AddsPart wants.old wants.new (loads_of waiting)) }
 {
     for position in waiting {
         want(position.loader, position.key, loaders, wants)?;
@@ -70,9 +74,12 @@ pub fn add_wants(
     wants: &mut Wants,
 ) -> Result<Option<Waiting>, AllocError>
     requires { loaders ≡ length wants.old }
-    ensures ok { OnOk result (wants.new ≡ wanting wants.old (loads_of waiting)) }
-    ensures kept { IfOk result (λ kept. IfSome kept (λ positions. positions ≡ waiting)) }
-    ensures part { OnErr result (AddsPart wants.old wants.new (loads_of waiting)) }
+    ensures ok { OnOk result
+        (wants.new ≡ wanting wants.old (loads_of waiting)) }
+    ensures kept { IfOk result (λ kept.
+        IfSome kept (λ positions. positions ≡ waiting)) }
+    ensures part { OnErr result
+        (AddsPart wants.old wants.new (loads_of waiting)) }
 {
     if any_may_load(groups, &waiting) {
         want_each(&waiting, loaders, wants)?;

@@ -13,7 +13,8 @@ use Rattle.plan_walk.specs.declared.cells.TypeOf as rust
 use Rattle.plan_walk.specs.declared.cells.TypeOf.TheVariants as variant
 
 abbrev pub leaf_seen : Leaf → LeafValue
-leaf_seen leaf = cell_value (tree_of leaf.schema.now) leaf.column.now (type_of leaf.ty.now) (cell_of leaf.row.now leaf.column.now)
+leaf_seen leaf = cell_value (tree_of leaf.schema.now) leaf.column.now (type_of leaf.ty.now)
+    (cell_of leaf.row.now leaf.column.now)
 
 abbrev pub value_seen : CellValue → program.Leaf
 value_seen (value.Text t) = Text t.now

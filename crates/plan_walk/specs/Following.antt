@@ -20,16 +20,20 @@ use Rattle.plan_walk.specs.declared.following.ViaRows.TheVariants as followed
 -- gives where one loader came to, and what comes after its first row
 abbrev pub stepped_puts : Bool → Reader → ℕ → (RowOf → Program) → ViaRow → List Put
 stepped_puts non_null R loader next (stepped.Row row) = puts non_null (next row.now) R
-stepped_puts non_null R loader next (stepped.LeafValue leaf_value) = Has non_null (leaf_value_seen leaf_value) ∷ []
-stepped_puts non_null R loader next (stepped.Missing key) = Waits (read_key loader (borrowed_of key) (first_of next)) ∷ []
+stepped_puts non_null R loader next (stepped.LeafValue leaf_value) =
+    Has non_null (leaf_value_seen leaf_value) ∷ []
+stepped_puts non_null R loader next (stepped.Missing key) =
+    Waits (read_key loader (borrowed_of key) (first_of next)) ∷ []
 
 -- Gives where these steps came to, and what comes after some of them. Past a load that is missing come those that are
 -- left.
 abbrev pub followed_puts : Bool → Reader
     → (List StepOf → RowOf → Program) → List StepOf → ViaRows → List Put
 followed_puts non_null R joined steps (followed.Row row) = puts non_null (joined [] row.now) R
-followed_puts non_null R joined steps (followed.LeafValue leaf_value) = Has non_null (leaf_value_seen leaf_value) ∷ []
-followed_puts non_null R joined steps (followed.Missing left loader key) = Waits (read_key loader (borrowed_of key) (first_of (joined (last_steps left steps)))) ∷ []
+followed_puts non_null R joined steps (followed.LeafValue leaf_value) =
+    Has non_null (leaf_value_seen leaf_value) ∷ []
+followed_puts non_null R joined steps (followed.Missing left loader key) =
+    Waits (read_key loader (borrowed_of key) (first_of (joined (last_steps left steps)))) ∷ []
 
 -- says what one loader comes to from a row, whatever follows it
 abbrev pub StepsTo : Reader → StepOf → RowOf → ViaRow → Type 0
@@ -45,6 +49,7 @@ ComesTo R loader outcome there = (non_null : Bool) (next : RowOf → Program)
 
 -- says what the last `left` of these steps come to from a row, whatever the object is
 abbrev pub FollowsTo : Reader → List StepOf → ℕ → RowOf → ViaRows → Type 0
-FollowsTo R steps left row there = (non_null : Bool) (defs : List Definition) (objects : Objects) (below : ChildrenOf)
+FollowsTo R steps left row there =
+    (non_null : Bool) (defs : List Definition) (objects : Objects) (below : ChildrenOf)
     → puts non_null (joined_object defs objects below (last_steps left steps) row) R
     ≡ followed_puts non_null R (joined_object defs objects below) steps there

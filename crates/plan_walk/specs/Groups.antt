@@ -36,9 +36,12 @@ children_in children = children_seen (arc_value children)
 
 -- the rows have `levels` levels of objects below them
 abbrev pub then_rows : PlanOf → ℕ → RowUse → ChildrenOf → List RowOf → Program
-then_rows plan levels First children rows = first_object plan.definitions (object_program plan levels) children rows
-then_rows plan levels Each children rows = all_objects plan.definitions (object_program plan levels) children rows
-then_rows plan levels (Joined steps) children rows = joined_objects plan.definitions (object_program plan levels) children (map step_of steps.now) rows
+then_rows plan levels First children rows =
+    first_object plan.definitions (object_program plan levels) children rows
+then_rows plan levels Each children rows =
+    all_objects plan.definitions (object_program plan levels) children rows
+then_rows plan levels (Joined steps) children rows = joined_objects plan.definitions
+    (object_program plan levels) children (map step_of steps.now) rows
 
 -- the later loaders of its `via`
 abbrev pub steps_in : RowUse → List StepOf
@@ -49,20 +52,28 @@ steps_in (Joined steps) = map step_of steps.now
 -- after a later load the first row is taken, and `left` of these loaders are left
 abbrev pub next_rows : PlanOf → ℕ → Option ℕ → RowUse → ChildrenOf → List RowOf → Program
 next_rows plan levels None next children rows = then_rows plan levels next children rows
-next_rows plan levels (Some left) next children rows = first_of (joined_object plan.definitions (object_program plan levels) children (last_steps left (steps_in next))) rows
+next_rows plan levels (Some left) next children rows = first_of (joined_object plan.definitions
+    (object_program plan levels) children (last_steps left (steps_in next))) rows
 
 -- gives what the group of a number stands for; past the last of them nothing
 abbrev pub nowhere : ChildrenOf
-nowhere = record { type_name = []; item_non_null = false; place = record { line = 1; column = 1 }; fields = [] }
+nowhere = record {
+  type_name = [];
+  item_non_null = false;
+  place = record { line = 1; column = 1 };
+  fields = [];
+}
 
 abbrev pub children_at : List LoadingField → ℕ → ChildrenOf
-children_at gs i = option_map_or (λ (g : LoadingField). children_in g.children) (slice_get gs i) nowhere
+children_at gs i =
+    option_map_or (λ (g : LoadingField). children_in g.children) (slice_get gs i) nowhere
 
 abbrev pub then_at : List LoadingField → ℕ → RowUse
 then_at gs i = option_map_or (λ (g : LoadingField). g.then) (slice_get gs i) First
 
 abbrev pub after_at : PlanOf → List LoadingField → OnwardOf → List RowOf → Program
-after_at plan gs onward = next_rows plan onward.levels onward.later (then_at gs onward.group) (children_at gs onward.group)
+after_at plan gs onward = next_rows plan onward.levels onward.later (then_at gs onward.group)
+    (children_at gs onward.group)
 
 -- gives what the groups do
 abbrev pub view_of : PlanOf → List LoadingField → View
@@ -78,14 +89,18 @@ pub record Covers (plan : PlanOf) (gs : List LoadingField) (v : View) : Type 0 w
 
 abbrev pub asks_seen : List Definition → View → ℕ → RowOf → FieldResolver → Program
 asks_seen defs v levels row (asks.Known leaf_value) = Is (leaf_value_seen leaf_value)
-asks_seen defs v levels row (asks.Cell column ty) = Is (cell_value defs column.now (type_of ty.now) (cell_of row column.now))
-asks_seen defs v levels row (asks.Load loader key group) = read_from loader (key_from_seen key) row (v.after (record { group = group; later = None; levels = levels }))
+asks_seen defs v levels row (asks.Cell column ty) =
+    Is (cell_value defs column.now (type_of ty.now) (cell_of row column.now))
+asks_seen defs v levels row (asks.Load loader key group) = read_from loader (key_from_seen key) row
+    (v.after (record { group = group; later = None; levels = levels }))
 asks_seen defs v levels row (asks.Each loader keys items group) =
-    Under ListOf (places (is_non_null items.nullability) items.place 0 (map (read_if loader (v.after (record { group = group; later = None; levels = levels }))) (keys_seen keys.items)))
+    Under ListOf (places (is_non_null items.nullability) items.place 0 (map (read_if loader (v.after
+    (record { group = group; later = None; levels = levels }))) (keys_seen keys.items)))
 
 abbrev pub members_seen : List Definition → View → ℕ → RowOf → List Member → Programs
 members_seen defs v levels row [] = End
-members_seen defs v levels row (m ∷ ms) = With (position_seen m.position) (asks_seen defs v levels row m.asks) (members_seen defs v levels row ms)
+members_seen defs v levels row (m ∷ ms) = With (position_seen m.position)
+    (asks_seen defs v levels row m.asks) (members_seen defs v levels row ms)
 
 -- its group is below `count`
 abbrev pub IsAsked : ℕ → FieldResolver → Type 0
@@ -101,7 +116,8 @@ AreKnown count ms = All (λ (m : Member). IsAsked count m.asks) ms
 
 -- gives what the plan asks of an object of this type below a group
 abbrev pub type_prepared : PlanOf → ChildrenOf → List ℕ → List PreparedOf
-type_prepared plan children ty = all_prepared plan ty (collect_subfields plan ty nothing_collected children.fields).groups
+type_prepared plan children ty =
+    all_prepared plan ty (collect_subfields plan ty nothing_collected children.fields).groups
 
 -- over each row the members are these groups, however many levels of objects there are below
 abbrev pub AreMembers : PlanOf → View → List Member → List PreparedOf → Type 0
@@ -110,7 +126,8 @@ AreMembers plan v ms ps = (levels : ℕ) (row : RowOf)
     ≡ fields_of (asked_program plan.definitions (object_program plan levels) row) ps
 
 -- the members, over these groups, are what the plan asks
-pub record Makes (plan : PlanOf) (gs : List LoadingField) (ms : List Member) (ps : List PreparedOf) : Type 0 where
+pub record Makes (plan : PlanOf) (gs : List LoadingField) (ms : List Member)
+    (ps : List PreparedOf) : Type 0 where
   pub known : AreKnown (length gs) ms
   pub members : (v : View) → Covers plan gs v → AreMembers plan v ms ps
 
@@ -119,8 +136,10 @@ pub record IsOnly (defs : List Definition) (children : ChildrenOf) (ty : List �
   pub object : is_object_type defs children.type_name ≡ true
   pub same : ty ≡ children.type_name
 
-pub record IsShape (plan : PlanOf) (gs : List LoadingField) (children : ChildrenOf) (s : TypePositions) : Type 0 where
-  pub makes : Makes plan gs (arc_value s.members).items (type_prepared plan children (string_bytes s.ty))
+pub record IsShape (plan : PlanOf) (gs : List LoadingField) (children : ChildrenOf)
+    (s : TypePositions) : Type 0 where
+  pub makes : Makes plan gs (arc_value s.members).items
+      (type_prepared plan children (string_bytes s.ty))
   pub only : s.only ≡ true → IsOnly plan.definitions children (string_bytes s.ty)
 
 abbrev pub IsRight : PlanOf → List LoadingField → LoadingField → Type 0
@@ -145,7 +164,8 @@ GrowsByShape count group shape old new = (plan : PlanOf)
 -- ---- what is made
 
 -- a group more, of this number
-pub record IsNew (old new : List LoadingField) (next : RowUse) (children : ChildrenOf) (number : ℕ) : Type 0 where
+pub record IsNew (old new : List LoadingField) (next : RowUse) (children : ChildrenOf)
+    (number : ℕ) : Type 0 where
   pub grows : (plan : PlanOf) → Grows plan old new
   pub front : take (length old) new ≡ old
   pub within : number < length new
@@ -153,7 +173,8 @@ pub record IsNew (old new : List LoadingField) (next : RowUse) (children : Child
   pub stands : children_at new number ≡ children
 
 -- with the groups that it needs it asks for this
-pub record IsAsking (old new : List LoadingField) (asked : ValueFrom) (asks : FieldResolver) : Type 0 where
+pub record IsAsking (old new : List LoadingField) (asked : ValueFrom)
+    (asks : FieldResolver) : Type 0 where
   pub grows : (plan : PlanOf) → Grows plan old new
   pub front : take (length old) new ≡ old
   pub known : IsAsked (length new) asks
@@ -161,7 +182,8 @@ pub record IsAsking (old new : List LoadingField) (asked : ValueFrom) (asks : Fi
       → asks_seen plan.definitions v levels row asks
       ≡ asked_program plan.definitions (object_program plan levels) row asked
 
-pub record AreMade (old new : List LoadingField) (ps : List PreparedOf) (ms : List Member) : Type 0 where
+pub record AreMade (old new : List LoadingField) (ps : List PreparedOf)
+    (ms : List Member) : Type 0 where
   pub grows : (plan : PlanOf) → Grows plan old new
   pub front : take (length old) new ≡ old
   pub makes : (plan : PlanOf) → Makes plan new ms ps
@@ -177,7 +199,8 @@ AreKept gs group ty ms = (plan : PlanOf) → AreRight plan gs
     → Makes plan gs ms (type_prepared plan (children_at gs group) ty)
 
 -- these are the members of all objects below a group, where the groups are right
-pub record IsWhole (plan : PlanOf) (gs : List LoadingField) (children : ChildrenOf) (ms : List Member) : Type 0 where
+pub record IsWhole (plan : PlanOf) (gs : List LoadingField) (children : ChildrenOf)
+    (ms : List Member) : Type 0 where
   pub object : is_object_type plan.definitions children.type_name ≡ true
   pub makes : Makes plan gs ms (type_prepared plan children children.type_name)
 
@@ -185,7 +208,8 @@ abbrev pub AreOnly : List LoadingField → ℕ → List Member → Type 0
 AreOnly gs group ms = (plan : PlanOf) → AreRight plan gs → IsWhole plan gs (children_at gs group) ms
 
 -- The members of a type below a group. They are kept from then on, unless there are `most` groups.
-pub record IsShaped (plan : PlanOf) (most : ℕ) (old new : List LoadingField) (group : ℕ) (ty : List ℕ) (ms : List Member) : Type 0 where
+pub record IsShaped (plan : PlanOf) (most : ℕ) (old new : List LoadingField) (group : ℕ)
+    (ty : List ℕ) (ms : List Member) : Type 0 where
   pub grows : Grows plan old new
   pub front : most ≤ length old → take (length old) new ≡ old
   pub makes : AreRight plan old → Makes plan new ms (type_prepared plan (children_at old group) ty)

@@ -20,7 +20,8 @@ is_non_null nullability.Nullable = false
 is_non_null nullability.NonNull = true
 
 abbrev pub position_seen : rust-position.FieldPosition → program.FieldPosition
-position_seen s = record { part = program.Key s.key.now; non_null = is_non_null s.nullability; place = s.place }
+position_seen s =
+    record { part = program.Key s.key.now; non_null = is_non_null s.nullability; place = s.place }
 
 abbrev pub onward_of : rust-onward.Onward → OnwardOf
 onward_of o = record { group = o.group; later = o.later; levels = o.levels }
@@ -31,4 +32,5 @@ later_of left o = record { group = o.group; later = Some left; levels = o.levels
 
 -- the item of a number, from 0
 abbrev pub item_position : rust-items.Items → ℕ → program.FieldPosition
-item_position items n = record { part = program.Item n; non_null = is_non_null items.nullability; place = items.place }
+item_position items n =
+    record { part = program.Item n; non_null = is_non_null items.nullability; place = items.place }

@@ -21,12 +21,14 @@ pub data Put : Type 0 where
 abbrev mutual
   pub puts : Bool → Program → Reader → List Put
   puts non_null (Is leaf_value) R = Has non_null leaf_value ∷ []
-  puts non_null (Read load next) R = given (R load) (Waits (Read load next) ∷ []) (λ outcome. puts non_null (next outcome) R)
+  puts non_null (Read load next) R =
+      given (R load) (Waits (Read load next) ∷ []) (λ outcome. puts non_null (next outcome) R)
   puts non_null (Under kind below) R = Begins kind ∷ (all_puts kind below R ++ Ends kind ∷ [])
 
   pub all_puts : Kind → Programs → Reader → List Put
   all_puts kind End R = []
-  all_puts kind (With position p rest) R = Enters kind position ∷ (puts position.non_null p R ++ all_puts kind rest R)
+  all_puts kind (With position p rest) R =
+      Enters kind position ∷ (puts position.non_null p R ++ all_puts kind rest R)
 
 -- Continuation of a position after a load: by what its group does with the rows, or, after a later
 -- load of a `via`, by the first of them and `later` more loaders. Below it are `levels` levels of

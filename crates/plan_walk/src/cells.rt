@@ -70,7 +70,8 @@ fn int_of(text: &str) -> Option<i32>
 }
 
 fn int_leaf<'t>(text: &str) -> Option<CellValue<'t>>
-    ensures { option_map value_seen result ≡ int_leaf text.now }
+    ensures { option_map value_seen result
+        ≡ int_leaf text.now }
 {
     if !is_int_text(text.as_bytes()) {
         return None;
@@ -79,7 +80,8 @@ fn int_leaf<'t>(text: &str) -> Option<CellValue<'t>>
 }
 
 fn boolean_leaf<'t>(text: &str) -> Option<CellValue<'t>>
-    ensures { option_map value_seen result ≡ boolean_of text.now }
+    ensures { option_map value_seen result
+        ≡ boolean_of text.now }
 {
     if text == "true" {
         return Some(CellValue::Bool(true));
@@ -92,7 +94,8 @@ fn boolean_leaf<'t>(text: &str) -> Option<CellValue<'t>>
 
 // Returns what a text is at the type of this name.
 fn named_leaf<'t>(schema: &Schema, name: &str, text: &'t str) -> Option<CellValue<'t>>
-    ensures { option_map value_seen result ≡ named_leaf (tree_of schema.now) name.now text.now }
+    ensures { option_map value_seen result ≡ named_leaf
+        (tree_of schema.now) name.now text.now }
 {
     if name == "Int" {
         return int_leaf(text);
@@ -125,8 +128,8 @@ pub fn cell_value(
     ty: &TypeRef,
     row: &Row,
 ) -> Result<LeafValue, AllocError>
-    ensures { IfOk result (λ leaf_value. leaf_value_seen leaf_value
-        ≡ cell_value (tree_of schema.now) column.now (type_of ty.now) (cell_of row.now column.now)) }
+    ensures { IfOk result (λ leaf_value. leaf_value_seen leaf_value ≡ cell_value
+        (tree_of schema.now) column.now (type_of ty.now) (cell_of row.now column.now)) }
 {
     match row.get(column) {
         Cell::NoColumn => Ok(LeafValue::Fault(no_column_message(alloc, column)?)),
@@ -148,7 +151,8 @@ pub enum TypeOf<'a> {
 
 /// Tells whether it is an object type.
 pub fn is_object_type(schema: &Schema, name: &str) -> bool
-    ensures { result ≡ is_object_type (tree_of schema.now) name.now }
+    ensures { result ≡ is_object_type
+        (tree_of schema.now) name.now }
 {
     matches!(schema.kind_of(name), Some(TypeKind::Object))
 }
@@ -160,7 +164,8 @@ pub fn type_of_row<'a>(
     name: &'a str,
     row: &'a Row,
 ) -> Result<TypeOf<'a>, AllocError>
-    ensures { IfOk result (λ ty. type_seen ty ≡ type_of_row (tree_of schema.now) name.now row.now) }
+    ensures { IfOk result (λ ty. type_seen ty ≡ type_of_row
+        (tree_of schema.now) name.now row.now) }
 {
     if is_object_type(schema, name) {
         return Ok(TypeOf::Object(name));

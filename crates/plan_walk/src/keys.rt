@@ -45,7 +45,8 @@ pub fn column_over<'k>(column: &'k str, row: &'k Row) -> KeyOver<'k>
 }
 
 fn part_over<'k>(part: &'k KeyPartFrom<'k>, row: &'k Row) -> KeyPartOver<'k>
-    ensures { part_seen result ≡ part_over (part_from_seen part.now) row.now }
+    ensures { part_seen result
+        ≡ part_over (part_from_seen part.now) row.now }
 {
     match part {
         KeyPartFrom::Fixed(Some(text)) => KeyPartOver::Known(Some(text.as_str())),

@@ -5,7 +5,8 @@ ghost use Rattle.std.specs.Arc.{arc_value};
 ghost use Rattle.gq_schema.specs.Types.{tree_of};
 ghost use Rattle.gq_bindings.specs.Seen.{step_of};
 ghost use Rattle.gq_check.specs.Plans.{plan_of};
-ghost use Rattle.plan_program.specs.Prepared.{value_from_seen, prepared_seen, all_prepared_seen, children_seen};
+ghost use Rattle.plan_program.specs.FieldValues.{each_row};
+ghost use Rattle.plan_program.specs.Prepared.{keys_seen, value_from_seen, prepared_seen, all_prepared_seen, children_seen};
 ghost use Rattle.plan_walk.specs.Positions.{is_non_null, position_seen};
 ghost use Rattle.plan_walk.specs.Groups.{children_in, children_at, then_at, steps_in, GrowsByShape, IsNew, IsAsking, AreMade, Meets, AreKept, IsOnly, AreOnly, IsShaped};
 
@@ -95,7 +96,8 @@ pub fn then_of<'p>(groups: &[LoadingField<'p>], group: usize) -> RowUse<'p>
 
 /// The later loaders of a group.
 pub fn steps_of<'p>(groups: &[LoadingField<'p>], group: usize) -> &'p [ViaLoader]
-    ensures { map step_of result.now ≡ steps_in (then_at groups.now group) }
+    ensures { map step_of result.now
+        ≡ steps_in (then_at groups.now group) }
 {
     match then_of(groups, group) {
         RowUse::First => &[],
@@ -106,7 +108,8 @@ pub fn steps_of<'p>(groups: &[LoadingField<'p>], group: usize) -> &'p [ViaLoader
 
 /// The name of the type of the objects below a group.
 pub fn type_name_of<'p>(groups: &[LoadingField<'p>], group: usize) -> &'p str
-    ensures { result.now ≡ (children_at groups.now group).type_name }
+    ensures { result.now
+        ≡ (children_at groups.now group).type_name }
 {
     match groups.get(group) {
         Some(group) => group.children.type_name,
@@ -118,7 +121,8 @@ pub fn type_name_of<'p>(groups: &[LoadingField<'p>], group: usize) -> &'p str
 fn child_items(children: &Children<'_>) -> Items
     ensures nullability { is_non_null result.nullability
         ≡ (children_seen children.now).item_non_null }
-    ensures place { result.place ≡ (children_seen children.now).place }
+    ensures place { result.place
+        ≡ (children_seen children.now).place }
 {
     let nullability = if children.item_non_null {
         Nullability::NonNull
@@ -135,7 +139,8 @@ fn child_items(children: &Children<'_>) -> Items
 pub fn items_of(groups: &[LoadingField<'_>], group: usize) -> Items
     ensures nullability { is_non_null result.nullability
         ≡ (children_at groups.now group).item_non_null }
-    ensures place { result.place ≡ (children_at groups.now group).place }
+    ensures place { result.place
+        ≡ (children_at groups.now group).place }
 {
     match groups.get(group) {
         Some(group) => child_items(&group.children),
@@ -163,6 +168,26 @@ fn new_loading_field<'p>(
         shapes,
     })?;
     Ok(number)
+}
+
+// Returns that the first row of each key is asked for, with a group more.
+fn asks_for_each<'p>(
+    groups: &mut Vec<LoadingField<'p>>,
+    loader: usize,
+    keys: Vec<Option<Key>>,
+    children: Arc<Children<'p>>,
+) -> Result<FieldResolver<'p>, AllocError>
+    ensures { IfOk result (IsAsking groups.old.items groups.new.items
+        (each_row loader (keys_seen keys.items) (children_in children.entry))) }
+{
+    let items = child_items(&children);
+    let group = new_loading_field(groups, RowUse::First, children)?;
+    Ok(FieldResolver::Each {
+        loader,
+        keys,
+        items,
+        group,
+    })
 }
 
 // Returns what is asked for, with a group more where it loads.
@@ -196,16 +221,7 @@ fn asks_of<'p>(
             loader,
             keys,
             children,
-        } => {
-            let items = child_items(&children);
-            let group = new_loading_field(groups, RowUse::First, children)?;
-            Ok(FieldResolver::Each {
-                loader,
-                keys,
-                items,
-                group,
-            })
-        }
+        } => asks_for_each(groups, loader, keys, children),
         ValueFrom::Joined {
             loader,
             key,
@@ -220,7 +236,8 @@ fn asks_of<'p>(
 
 // The position of what was prepared.
 fn position_of<'p>(prepared: &PreparedField<'p>) -> FieldPosition<'p>
-    ensures { position_seen result ≡ (prepared_seen prepared.now).position }
+    ensures { position_seen result
+        ≡ (prepared_seen prepared.now).position }
 {
     let nullability = if prepared.non_null {
         Nullability::NonNull
@@ -291,7 +308,8 @@ pub fn only_members<'p>(
 
 // Tells whether all objects below a group have this type, since the group's field is of it.
 fn is_only(schema: &Schema, groups: &[LoadingField<'_>], group: usize, ty: &str) -> bool
-    ensures { IsTrue result → IsOnly (tree_of schema.now) (children_at groups.now group) ty.now }
+    ensures { IsTrue result → IsOnly (tree_of schema.now)
+        (children_at groups.now group) ty.now }
 {
     let name = type_name_of(groups, group);
     ty == name && is_object_type(schema, name)
@@ -304,8 +322,8 @@ fn meet<'p>(
     children: &Children<'p>,
     ty: &str,
 ) -> Result<Arc<Vec<Member<'p>>>, AllocError>
-    ensures { IfOk result (λ members. Meets (plan_of walk.now.plan.now) (children_seen children.now) ty.now
-        groups.old.items groups.new.items (arc_value members).items) }
+    ensures { IfOk result (λ members. Meets (plan_of walk.now.plan.now) (children_seen children.now)
+        ty.now groups.old.items groups.new.items (arc_value members).items) }
 {
     let collected = collect_subfields(walk.alloc, walk.plan, ty, &children.fields)?;
     let all = prepare_groups(walk.alloc, walk.plan, ty, collected)?;
@@ -323,7 +341,8 @@ fn keep<'p>(
 ) -> Result<(), AllocError>
     ensures grows { OnOk result
         (GrowsByShape count group shape.entry groups.old.items groups.new.items) }
-    ensures most { OnOk result (most ≤ count → groups.new.items ≡ groups.old.items) }
+    ensures most { OnOk result (most ≤ count
+        → groups.new.items ≡ groups.old.items) }
 {
     if group < count && count < most && group < groups.len() {
         groups[group].shapes.push(shape)?;
@@ -337,7 +356,8 @@ fn children_of<'p>(
     groups: &[LoadingField<'p>],
     group: usize,
 ) -> Result<Arc<Children<'p>>, AllocError>
-    ensures { IfOk result (λ children. children_in children ≡ children_at groups.now group) }
+    ensures { IfOk result (λ children. children_in children
+        ≡ children_at groups.now group) }
 {
     if let Some(group) = groups.get(group) {
         return Ok(Arc::try_clone(&group.children)?);

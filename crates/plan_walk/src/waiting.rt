@@ -64,7 +64,8 @@ impl Model for Waiting {
 
 // Tells whether two keys are exactly equal.
 fn is_key(one: &Key, other: KeyRef<'_>) -> bool
-    ensures { IsTrue result → key_of one.now ≡ borrowed_of other.entry }
+    ensures { IsTrue result
+        → key_of one.now ≡ borrowed_of other.entry }
 {
     match (one, other) {
         (Key::All, KeyRef::All) => true,
@@ -78,7 +79,8 @@ fn is_key(one: &Key, other: KeyRef<'_>) -> bool
 
 impl PositionSet {
     fn new(alloc: Global, first: BlockedPosition) -> Result<PositionSet, AllocError>
-        ensures { IfOk result (λ table. table.positions.keys ≡ first ∷ []) }
+        ensures { IfOk result
+            (λ table. table.positions.keys ≡ first ∷ []) }
     {
         let mut positions = IndexSet::new(alloc);
         positions.insert(first)?;
@@ -130,7 +132,8 @@ impl PositionSet {
     fn add(&mut self, position: BlockedPosition) -> Result<(), AllocError>
         ensures added { OnOk result
             (self.new.positions.keys ≡ with_position self.old.positions.keys position) }
-        ensures some { self.old.positions.keys ≢ [] → self.new.positions.keys ≢ [] }
+        ensures some { self.old.positions.keys ≢ []
+            → self.new.positions.keys ≢ [] }
     {
         let (place, is_new) = self.positions.insert_full(position)?;
         if is_new || self.places.serves(self.positions.len()) {
@@ -146,7 +149,8 @@ fn parts_of(
     alloc: Global,
     held: HeldPositions,
 ) -> (Option<BlockedPosition>, IndexSet<BlockedPosition>)
-    ensures { option_to_list result.0 ++ result.1.keys ≡ positions_in held }
+    ensures { option_to_list result.0 ++ result.1.keys
+        ≡ positions_in held }
 {
     match held {
         HeldPositions::Nothing => (None, IndexSet::new(alloc)),
@@ -197,7 +201,8 @@ impl Waiting {
 
     // A position that may be one that goes on so after the load of such a key.
     fn likely(&self, onward: Onward, key: KeyRef<'_>) -> Option<&BlockedPosition>
-        ensures { IfSome result (λ there. with_position self.now there.now ≡ self.now) }
+        ensures { IfSome result (λ there.
+            with_position self.now there.now ≡ self.now) }
     {
         match &self.held {
             HeldPositions::Nothing => None,
@@ -208,7 +213,8 @@ impl Waiting {
 
     // Tells whether it is seen at once that such a position was noted.
     fn is_seen(&self, onward: Onward, loader: usize, key: KeyRef<'_>) -> bool
-        ensures { IsTrue result → IsNoted onward loader (borrowed_of key.entry) self.now self.now }
+        ensures { IsTrue result → IsNoted onward loader
+            (borrowed_of key.entry) self.now self.now }
     {
         match self.likely(onward, key) {
             Some(there) => {
@@ -220,7 +226,8 @@ impl Waiting {
 
     // Adds a position, unless it is there.
     fn add(&mut self, position: BlockedPosition) -> Result<(), AllocError>
-        ensures { OnOk result (self.new ≡ with_position self.old position) }
+        ensures { OnOk result
+            (self.new ≡ with_position self.old position) }
     {
         if let HeldPositions::Several(table) = &mut self.held {
             return table.add(position);

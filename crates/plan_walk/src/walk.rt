@@ -230,8 +230,8 @@ impl<'w, 'p> Walk<'w, 'p> {
         left: usize,
         rows: &[Row],
     ) -> Result<(), AllocError>
-        ensures { OnOk result (WalksList S.goes S.below self.now onward
-            (λ v. items_after v at.old.groups.items (onward_of onward) left rows.now) at.old at.new) }
+        ensures { OnOk result (WalksList S.goes S.below self.now onward (λ v.
+            items_after v at.old.groups.items (onward_of onward) left rows.now) at.old at.new) }
     {
         let items = items_of(&at.groups, onward.group);
         let to = LoadingPosition {
@@ -287,8 +287,8 @@ impl<'w, 'p> Walk<'w, 'p> {
         keys: &[Option<Key>],
         items: Items,
     ) -> Result<(), AllocError>
-        ensures { OnOk result (WalksList S.goes S.below self.now onward
-            (λ v. items_read v items (onward_of onward) loader (keys_seen keys.now)) at.old at.new) }
+        ensures { OnOk result (WalksList S.goes S.below self.now onward (λ v.
+            items_read v items (onward_of onward) loader (keys_seen keys.now)) at.old at.new) }
     {
         let to = LoadingPosition {
             onward,

@@ -6,9 +6,8 @@ use Rattle.execution.specs.Executed.{completed}
 use Rattle.execution.specs.Program.{tree}
 use Rattle.gq_check.specs.Plans.{PlanOf, plan_of}
 use Rattle.plan_program.specs.PlanPrograms.{plan_program}
-use Rattle.gq_resolve.specs.Answered.{answered_of}
 use Rattle.plan_walk.specs.Reading.{lookup}
-use Rattle.gq_resolve.proofs.Polling.{answer-done}
+use Rattle.gq_resolve.proofs.Polling.{answer-done, answer-shut}
 use Rattle.gq_resolve.proofs.root_state.RootState.poll_text.Goals as goal
 
 pub returns-then-out-clause-ok : goal.returns-then-out-clause-ok
@@ -25,6 +24,7 @@ returns-clause-ok c = λ fits.
     let plan : PlanOf = plan_of c.args.self.now.plan.now in
     let m : MemoryOf = c.args.memory.now in
     let far = rw c.in-Some.is at (c.in_ok-walked.ensures.ok fits) in
-    let answer : AnsweredOf = answered_of c.in_ok-answered.answered in
-    let done = answer-done plan m c.args.wants.now _ c.requires far.0 answer far.1 (c.in_ok-answered.ensures far.0.goes_on.rooted) in
-    (done.0, record { answered = answer; executed = done.1; report = c.in_ok-answer_text.ensures }, far.2)
+    let answer : AnsweredOf = completed (tree (plan_program plan) (lookup m)) in
+    let done = answer-done plan m c.args.wants.now _ c.requires far.0 answer far.1 (λ shut. refl) in
+    let text = c.in_ok-whole_text.ensures far.0.goes_on.rooted (answer-shut plan m c.args.wants.now _ c.requires far.0 far.1) in
+    (done.0, record { answered = answer; executed = done.1; report = text }, far.2)
