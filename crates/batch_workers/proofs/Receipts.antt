@@ -1,6 +1,6 @@
 -- Lemmas on what the receipts of workers are to the run whose round is out.
 use Rattle.std.proofs.Common.{◌≡◌, List, [], ◌∷◌, map, length, Result, Ok, Err, subst, arith}
-use Rattle.std.specs.Prelude.{OnOk, OnErr}
+use Rattle.std.specs.Prelude.{OnErr}
 use Rattle.std.proofs.lemmas.List.{length-map}
 use Rattle.std.proofs.lemmas.List.Sorted.{IsPermutation-map, IsPermutation-sym}
 use Rattle.load_memory.specs.Keys.{KeyOf}
@@ -44,19 +44,7 @@ have-loaders s p =
     let below = orders-below 0 (length s.loaders) rules (λ m. keys_for m (front_in s p)) (omega (arith, length-map s.loaders rule_of)) in
     rw (← orders-loads 0 rules (front_in s p)) below
 
--- a property of the run that a call leaves
-pub ok-run : {X T E : Type 0} (F : X → Type 0) (r : Result T E) (new run : X) → F new → OnOk r (new ≡ run) → OnOk r (F run)
-ok-run F (Ok x) new run h is = subst F is h
-ok-run F (Err e) new run h is = tt
-
+-- a property of the run that a failed call leaves
 pub err-run : {X T E : Type 0} (F : X → Type 0) (r : Result T E) (new run : X) → F new → OnErr r (new ≡ run) → OnErr r (F run)
 err-run F (Ok x) new run h is = tt
 err-run F (Err e) new run h is = subst F is h
-
-pub on-ok-too : {T E P : Type 0} (r : Result T E) → P → OnOk r P
-on-ok-too (Ok x) h = h
-on-ok-too (Err e) h = tt
-
-pub ok-with : {T E P : Type 0} (Q : Type 0) (r : Result T E) → P → OnOk r (P → Q) → OnOk r Q
-ok-with Q (Ok x) given h = h given
-ok-with Q (Err e) given h = tt

@@ -4,16 +4,15 @@
 //! shelf goes with its round, so that no receipt of an earlier round is on it; the memory copies outcomes from
 //! it.
 ghost use Rattle.std.specs.Prelude.{◌≡◌, ◌<◌, ◌≤◌, ◌↔◌, length, IfOk, OnOk, OnErr, IsErrOf};
-ghost use Rattle.execution.specs.Executes.{GrowsTo};
-ghost use Rattle.load_rounds.specs.Sessions.{state_of, memory_of};
+ghost use Rattle.load_rounds.specs.Sessions.{state_of};
 ghost use Rattle.load_rounds.specs.Headline.{HasHeadline};
-ghost use Rattle.load_rounds.specs.ByHand.{run_of, orders_in, IsAsked};
-ghost use Rattle.batch_workers.specs.Workers.{IsBadCount, Stops, StoresRound, LosesRound};
+ghost use Rattle.load_rounds.specs.ByHand.{orders_in, AwaitsReplies};
+ghost use Rattle.batch_workers.specs.Workers.{IsBadCount, Stops, MakesRound, LosesRound};
 
 use crate::fault::WorkFault;
 use load_memory::Shelf;
 use load_queue::{Order, Source};
-use load_rounds::{Answer, Execute, Next, RoundsByHand, Session, Stage};
+use load_rounds::{Answer, Execute, Next, RoundsByHand, Session};
 use round_workers::round::MOST_WORKERS;
 use round_workers::run_round;
 use std::alloc::AllocError;
@@ -43,11 +42,14 @@ pub fn answer_with<'p, S: Source, E: Drop, P: Execute<'p, E>, R: Threads + Wait 
     plan: &'p P,
     workers: usize,
 ) -> Result<Answer, WorkFault>
-    requires loaders { P.loaders plan.now ≤ length session.old.loaders }
-    ensures bad_count { IsErrOf result WorkFault.BadCount ↔ IsBadCount workers }
-    ensures refused { IsErrOf result WorkFault.BadCount → session.new ≡ session.old }
-    ensures answer { IfOk result (HasHeadline S.may_answer (state_of session.old) (state_of session.new)
-        (P.program plan.now) (P.text_of plan.now)) }
+    requires loaders { P.loaders plan.now
+        ≤ length session.old.loaders }
+    ensures bad_count { IsErrOf result WorkFault.BadCount
+        ↔ IsBadCount workers }
+    ensures refused { IsErrOf result WorkFault.BadCount
+        → session.new ≡ session.old }
+    ensures answer { IfOk result (HasHeadline S.may_answer (state_of session.old)
+        (state_of session.new) (P.program plan.now) (P.text_of plan.now)) }
     ensures stopped { IsErrOf result WorkFault.NoMemory
         → Stops S.may_answer session.old session.new (P.program plan.now) }
 {
@@ -68,9 +70,10 @@ fn answer_in_rounds<'p, S: Source, E: Drop, P: Execute<'p, E>, R: Threads + Wait
     workers: usize,
 ) -> Result<Answer, AllocError>
     requires count { (0 < workers) × (workers ≤ 16) }
-    requires loaders { P.loaders plan.now ≤ length session.old.loaders }
-    ensures answer { IfOk result (HasHeadline S.may_answer (state_of session.old) (state_of session.new)
-        (P.program plan.now) (P.text_of plan.now)) }
+    requires loaders { P.loaders plan.now
+        ≤ length session.old.loaders }
+    ensures answer { IfOk result (HasHeadline S.may_answer (state_of session.old)
+        (state_of session.new) (P.program plan.now) (P.text_of plan.now)) }
     ensures stopped { OnErr result (Stops S.may_answer session.old session.new
         (P.program plan.now)) }
 {
@@ -93,15 +96,14 @@ fn make_round<'p, S: Source, E, P: Execute<'p, E>, R: Threads + Wait + Sync>(
     workers: usize,
 ) -> Result<(), AllocError>
     requires count { (0 < workers) × (workers ≤ 16) }
-    requires out { run.old.stage ≡ Stage.Out }
-    requires latest { IsAsked (P.program run.old.plan) (state_of session.old) }
-    requires orders { orders.items ≡ orders_in (state_of session.old) (P.program run.old.plan) }
-    ensures ready { OnOk result (run.new ≡ run_of run.old.plan run.old.rounds Stage.Ready) }
-    ensures made { OnOk result (StoresRound S.may_answer (P.program run.old.plan) (state_of session.old)
-        (state_of session.new) run.old.rounds) }
-    ensures grown { OnOk result (GrowsTo (memory_of session.old) (memory_of session.new)) }
-    ensures lost { OnErr result (LosesRound S.may_answer (P.program run.old.plan) (state_of session.old)
-        (state_of session.new) run.old.rounds) }
+    requires out { AwaitsReplies (P.program run.old.plan)
+        run.old.stage (state_of session.old) }
+    requires orders { orders.items ≡ orders_in
+        (state_of session.old) (P.program run.old.plan) }
+    ensures made { OnOk result (MakesRound S.may_answer (P.program run.old.plan)
+        session.old session.new run.old run.new) }
+    ensures lost { OnErr result (LosesRound S.may_answer (P.program run.old.plan)
+        (state_of session.old) (state_of session.new) run.old.rounds) }
 {
     let alloc = *orders.allocator();
     let shelf = Shelf::new(alloc)?;

@@ -1,15 +1,15 @@
 //! Answers to several plans with workers: round after round that the plans share, each by workers over a shelf of its own.
 ghost use Rattle.std.specs.Prelude.{◌≡◌, ◌<◌, ◌≤◌, ◌↔◌, All, length, IfOk, OnOk, OnErr, IsErrOf};
 ghost use Rattle.load_rounds.specs.Sessions.{state_of, memory_of};
-ghost use Rattle.load_rounds.specs.ByHand.{orders_in, IsAsked};
+ghost use Rattle.load_rounds.specs.ByHand.{orders_in, AwaitsReplies};
 ghost use Rattle.load_rounds.specs.SharedRounds.{requests, joint, AreAnswers};
-ghost use Rattle.load_rounds.specs.SharedRuns.{FitsRun, FitsLater, GoesOnFrom};
-ghost use Rattle.batch_workers.specs.Workers.{IsBadCount, Stops, LosesShared};
+ghost use Rattle.load_rounds.specs.SharedRuns.{FitsLater};
+ghost use Rattle.batch_workers.specs.Workers.{IsBadCount, Stops, MakesShared, LosesShared};
 
 use crate::fault::WorkFault;
 use load_memory::Shelf;
 use load_queue::{Order, Source};
-use load_rounds::{AllRoundsByHand, Answer, Execute, NextAll, Session, Stage};
+use load_rounds::{AllRoundsByHand, Answer, Execute, NextAll, Session};
 use round_workers::round::MOST_WORKERS;
 use round_workers::run_round;
 use std::alloc::AllocError;
@@ -35,9 +35,12 @@ pub fn answer_all_with<'p, S: Source, E: Drop, P: Execute<'p, E>, R: Threads + W
     plans: &'p [P],
     workers: usize,
 ) -> Result<Vec<Answer>, WorkFault>
-    requires loaders { All (λ plan. P.loaders plan ≤ length session.old.loaders) plans.now }
-    ensures bad_count { IsErrOf result WorkFault.BadCount ↔ IsBadCount workers }
-    ensures refused { IsErrOf result WorkFault.BadCount → session.new ≡ session.old }
+    requires loaders { All (λ plan. P.loaders plan
+        ≤ length session.old.loaders) plans.now }
+    ensures bad_count { IsErrOf result WorkFault.BadCount
+        ↔ IsBadCount workers }
+    ensures refused { IsErrOf result WorkFault.BadCount
+        → session.new ≡ session.old }
     ensures answers { IfOk result (AreAnswers S.may_answer (state_of session.old)
         (state_of session.new) (requests P.program P.text_of plans.now)) }
     ensures stopped { IsErrOf result WorkFault.NoMemory
@@ -60,7 +63,8 @@ fn answer_all_in_rounds<'p, S: Source, E: Drop, P: Execute<'p, E>, R: Threads + 
     workers: usize,
 ) -> Result<Vec<Answer>, AllocError>
     requires count { (0 < workers) × (workers ≤ 16) }
-    requires loaders { All (λ plan. P.loaders plan ≤ length session.old.loaders) plans.now }
+    requires loaders { All (λ plan. P.loaders plan
+        ≤ length session.old.loaders) plans.now }
     ensures answers { IfOk result (AreAnswers S.may_answer (state_of session.old)
         (state_of session.new) (requests P.program P.text_of plans.now)) }
     ensures stopped { OnErr result
@@ -84,16 +88,14 @@ fn make_round<'p, S: Source, E: Drop, P: Execute<'p, E>, R: Threads + Wait + Syn
     workers: usize,
 ) -> Result<(), AllocError>
     requires count { (0 < workers) × (workers ≤ 16) }
-    requires out { run.old.stage ≡ Stage.Out }
-    requires latest { IsAsked (joint P.program P.text_of run.old.plans) (state_of session.old) }
+    requires out { AwaitsReplies (joint P.program P.text_of run.old.plans)
+        run.old.stage (state_of session.old) }
     requires orders { orders.items
         ≡ orders_in (state_of session.old) (joint P.program P.text_of run.old.plans) }
-    requires fits { FitsLater P.program P.text_of P.loaders P.fits run.old (memory_of session.old) }
-    ensures ready { OnOk result (run.new ≡ record run.old { stage = Stage.Ready }) }
-    ensures made { OnOk result (GoesOnFrom P.program P.text_of S.may_answer
-        (state_of session.old) (state_of session.new) run.old run.new) }
-    ensures fits { OnOk result
-        (FitsRun P.program P.text_of P.loaders P.fits run.new (memory_of session.new)) }
+    requires fits { FitsLater P.program P.text_of
+        P.loaders P.fits run.old (memory_of session.old) }
+    ensures made { OnOk result (MakesShared P.program P.text_of P.loaders P.fits S.may_answer
+        session.old session.new run.old run.new) }
     ensures lost { OnErr result (LosesShared P.program P.text_of
         S.may_answer (state_of session.old) (state_of session.new) run.old) }
 {

@@ -11,4 +11,5 @@ with_byte b p = (b ∷ p.0, p.1)
 -- the text before the first of this byte, and the text after it
 abbrev pub cut_at : ℕ → Text → Option (Text × Text)
 cut_at mark [] = None
-cut_at mark (b ∷ bs) = if b == mark then Some ([], bs) else option_map (with_byte b) (cut_at mark bs)
+cut_at mark (b ∷ bs) =
+    if b == mark then Some ([], bs) else option_map (with_byte b) (cut_at mark bs)

@@ -26,7 +26,8 @@ abbrev pub statement_lines : Text → List Text
 statement_lines [] = []
 statement_lines (b ∷ bs) =
     if b == line_feed then [] ∷ statement_lines bs
-    else (if begins_with_line_feed bs && (b == carriage_return) then statement_lines bs else on_first b (statement_lines bs))
+    else (if begins_with_line_feed bs && (b == carriage_return) then statement_lines bs
+    else on_first b (statement_lines bs))
 
 -- an empty line, and one whose first character is `#`
 abbrev pub is_skipped : Text → Bool
@@ -41,7 +42,8 @@ pub record NumberedLine : Type 0 where
 -- the lines that count, where the first has this number: skipped lines are counted
 abbrev pub kept_from : ℕ → List Text → List NumberedLine
 kept_from n [] = []
-kept_from n (line ∷ lines) = if is_skipped line then kept_from (n + 1) lines else record { number = n; text = line } ∷ kept_from (n + 1) lines
+kept_from n (line ∷ lines) = if is_skipped line then kept_from (n + 1) lines
+    else record { number = n; text = line } ∷ kept_from (n + 1) lines
 
 -- the lines of a text that count, numbered from 1
 abbrev pub kept_lines : Text → List NumberedLine

@@ -19,17 +19,23 @@ pub record BindingsTextOf : Type 0 where
   pub bad_line : Option ℕ
 
 abbrev pub with_first : NumberedOf → BindingsTextOf → BindingsTextOf
-with_first first text = record { is_headed = text.is_headed; statements = first ∷ text.statements; bad_line = text.bad_line }
+with_first first text = record {
+  is_headed = text.is_headed;
+  statements = first ∷ text.statements;
+  bad_line = text.bad_line;
+}
 
 -- a line that is this statement, or has no form
 abbrev pub from_line : ℕ → Option StatementOf → BindingsTextOf → BindingsTextOf
 from_line line None later = record { is_headed = true; statements = []; bad_line = Some line }
-from_line line (Some statement) later = with_first (record { line = line; statement = statement }) later
+from_line line (Some statement) later =
+    with_first (record { line = line; statement = statement }) later
 
 -- the lines after the version: statements up to the first line that has no form
 abbrev pub statements_of : Version → List NumberedLine → BindingsTextOf
 statements_of v [] = record { is_headed = true; statements = []; bad_line = None }
-statements_of v (line ∷ lines) = from_line line.number (statement_of v (words_of line.text)) (statements_of v lines)
+statements_of v (line ∷ lines) =
+    from_line line.number (statement_of v (words_of line.text)) (statements_of v lines)
 
 -- the lines behind one that is this version, or is none
 abbrev pub of_version : ℕ → Option Version → List NumberedLine → BindingsTextOf

@@ -18,7 +18,8 @@ use Rattle.bindings_syntax.specs.Statements.{ByOf, PartOf, argument_part, column
 use Rattle.bindings_syntax.specs.Reading.{NumberedOf, BindingsTextOf}
 
 abbrev pub by_seen : By → ByOf
-by_seen by = record { column = by.column.now; second = option_map (λ t. t.now) by.second; fold = by.fold }
+by_seen by =
+    record { column = by.column.now; second = option_map (λ t. t.now) by.second; fold = by.fold }
 
 abbrev pub part_seen : KeyPart → PartOf
 part_seen (part.Argument name) = argument_part name.now
@@ -36,7 +37,8 @@ step_seen step = (step.loader.now, step.column.now)
 abbrev pub steps_seen : ViaLoaders → List StepOf
 steps_seen (steps.One first) = step_seen first ∷ []
 steps_seen (steps.Two first second) = step_seen first ∷ step_seen second ∷ []
-steps_seen (steps.Three first second third) = step_seen first ∷ step_seen second ∷ step_seen third ∷ []
+steps_seen (steps.Three first second third) =
+    step_seen first ∷ step_seen second ∷ step_seen third ∷ []
 
 abbrev pub form_seen : Form → FormOf
 form_seen (form.Column column) = to_column column.now
@@ -46,11 +48,18 @@ form_seen (form.Each loader argument) = to_each loader.now argument.now
 form_seen (form.Via loader key following) = to_via loader.now (key_seen key) (steps_seen following)
 
 abbrev pub statement_seen : Statement → StatementOf
-statement_seen (statement.Loader name table by) = loader_line name.now table.now (option_map by_seen by)
-statement_seen (statement.Field type_name field_name form) = field_line type_name.now field_name.now (form_seen form)
+statement_seen (statement.Loader name table by) =
+    loader_line name.now table.now (option_map by_seen by)
+statement_seen (statement.Field type_name field_name form) =
+    field_line type_name.now field_name.now (form_seen form)
 
 abbrev pub numbered_seen : NumberedStatement → NumberedOf
-numbered_seen numbered = record { line = numbered.line; statement = statement_seen numbered.statement }
+numbered_seen numbered =
+    record { line = numbered.line; statement = statement_seen numbered.statement }
 
 abbrev pub text_seen : BindingsText → BindingsTextOf
-text_seen text = record { is_headed = text.is_headed; statements = map numbered_seen text.statements.items; bad_line = text.bad_line }
+text_seen text = record {
+  is_headed = text.is_headed;
+  statements = map numbered_seen text.statements.items;
+  bad_line = text.bad_line;
+}

@@ -45,7 +45,8 @@ version_number number =
 
 -- `bindings 1` or `bindings 2`
 abbrev pub version_of : List Text → Option Version
-version_of (word ∷ number ∷ []) = if bytes_eq word (codes "bindings") then version_number number else None
+version_of (word ∷ number ∷ []) =
+    if bytes_eq word (codes "bindings") then version_number number else None
 version_of words = None
 
 -- gives what only version 2 has
@@ -57,16 +58,19 @@ in_two version.Two x = x
 abbrev pub columns_of : Version → List Text → Option ByOf
 columns_of v (column ∷ []) = Some (record { column = column; second = None; fold = false })
 columns_of v (column ∷ last ∷ []) =
-    if bytes_eq last (codes "fold") then Some (record { column = column; second = None; fold = true })
+    if bytes_eq last (codes "fold")
+    then Some (record { column = column; second = None; fold = true })
     else in_two v (Some (record { column = column; second = Some last; fold = false }))
 columns_of v (column ∷ second ∷ last ∷ []) =
-    in_two v (if bytes_eq last (codes "fold") then Some (record { column = column; second = Some second; fold = true }) else None)
+    in_two v (if bytes_eq last (codes "fold")
+    then Some (record { column = column; second = Some second; fold = true }) else None)
 columns_of v words = None
 
 -- nothing, or `by` and columns
 abbrev pub by_of : Version → List Text → Option (Option ByOf)
 by_of v [] = Some None
-by_of v (word ∷ words) = if bytes_eq word (codes "by") then option_map (λ by. Some by) (columns_of v words) else None
+by_of v (word ∷ words) =
+    if bytes_eq word (codes "by") then option_map (λ by. Some by) (columns_of v words) else None
 
 -- NAME TABLE, and by which columns
 abbrev pub loader_of : Version → List Text → Option StatementOf
@@ -126,7 +130,8 @@ lone_key v words = option_and_then alone (key_of v words)
 abbrev pub more_steps : List Text → Option (List StepOf)
 more_steps [] = Some []
 more_steps (loader ∷ column ∷ []) = Some ((loader, column) ∷ [])
-more_steps (loader ∷ column ∷ last ∷ its_column ∷ []) = Some ((loader, column) ∷ (last, its_column) ∷ [])
+more_steps (loader ∷ column ∷ last ∷ its_column ∷ []) =
+    Some ((loader, column) ∷ (last, its_column) ∷ [])
 more_steps words = None
 
 -- gives what may stand after the first LOADER COLUMN: in version 1 nothing
@@ -137,7 +142,8 @@ further_of version.Two words = more_steps words
 
 -- LOADER COLUMN, and in version 2 up to two more of these
 abbrev pub steps_of : Version → List Text → Option (List StepOf)
-steps_of v (loader ∷ column ∷ words) = option_map (λ further. (loader, column) ∷ further) (further_of v words)
+steps_of v (loader ∷ column ∷ words) =
+    option_map (λ further. (loader, column) ∷ further) (further_of v words)
 steps_of v words = None
 
 abbrev pub with_steps : Version → Text → KeyOf × List Text → Option FormOf
@@ -149,14 +155,16 @@ via_of v loader words = option_and_then (with_steps v loader) (key_of v words)
 
 -- `arg NAME`
 abbrev pub each_of : Text → List Text → Option FormOf
-each_of loader (word ∷ name ∷ []) = if bytes_eq word (codes "arg") then Some (to_each loader name) else None
+each_of loader (word ∷ name ∷ []) =
+    if bytes_eq word (codes "arg") then Some (to_each loader name) else None
 each_of loader words = None
 
 -- gives what stands behind `one`, `many`, `each` and `via`: LOADER first
 abbrev pub loaded_of : Version → Text → Text → List Text → Option FormOf
 loaded_of v kind loader words =
     if bytes_eq kind (codes "one") then option_map (λ key. to_one loader key) (lone_key v words)
-    else (if bytes_eq kind (codes "many") then option_map (λ key. to_many loader key) (lone_key v words)
+    else (if bytes_eq kind (codes "many")
+    then option_map (λ key. to_many loader key) (lone_key v words)
     else (if bytes_eq kind (codes "each") then each_of loader words
     else (if bytes_eq kind (codes "via") then via_of v loader words else None)))
 
@@ -167,13 +175,15 @@ column_of column words = None
 
 -- `column COLUMN`, `one LOADER KEY`, `many LOADER KEY`, `each LOADER arg NAME`, `via LOADER KEY LOADER2 COLUMN ..`
 abbrev pub form_of : Version → List Text → Option FormOf
-form_of v (kind ∷ first ∷ words) = if bytes_eq kind (codes "column") then column_of first words else loaded_of v kind first words
+form_of v (kind ∷ first ∷ words) =
+    if bytes_eq kind (codes "column") then column_of first words else loaded_of v kind first words
 form_of v words = None
 
 -- T.F is cut at its first dot
 abbrev pub field_of : Version → List Text → Option StatementOf
 field_of v [] = None
-field_of v (word ∷ words) = option_and_then (λ names. option_map (λ form. field_line names.0 names.1 form) (form_of v words)) (cut_at 46 word)
+field_of v (word ∷ words) = option_and_then (λ names.
+    option_map (λ form. field_line names.0 names.1 form) (form_of v words)) (cut_at 46 word)
 
 -- the statement that these words are in a text of this version, if they are one
 abbrev pub statement_of : Version → List Text → Option StatementOf

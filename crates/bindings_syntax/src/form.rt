@@ -40,7 +40,8 @@ fn version_from(number: &str) -> Option<Version>
 
 /// The statement that a line is in a text of this version.
 pub(crate) fn statement(version: Version, line: &str) -> Option<Statement<'_>>
-    ensures { option_map statement_seen result ≡ statement_of version (words_of line.now) }
+    ensures { option_map statement_seen result
+        ≡ statement_of version (words_of line.now) }
 {
     let mut words = LineWords::of(line);
     let word = words.next()?;
@@ -55,7 +56,8 @@ pub(crate) fn statement(version: Version, line: &str) -> Option<Statement<'_>>
 
 /// `NAME TABLE`, and by which columns.
 fn loader<'text>(version: Version, mut words: LineWords<'text>) -> Option<Statement<'text>>
-    ensures { option_map statement_seen result ≡ loader_of version words.entry }
+    ensures { option_map statement_seen result
+        ≡ loader_of version words.entry }
 {
     let name = words.next()?;
     let table = words.next()?;
@@ -65,7 +67,8 @@ fn loader<'text>(version: Version, mut words: LineWords<'text>) -> Option<Statem
 
 /// Nothing, or `by` and columns.
 fn by<'text>(version: Version, mut words: LineWords<'text>) -> Option<Option<By<'text>>>
-    ensures { option_map (option_map by_seen) result ≡ by_of version words.entry }
+    ensures { option_map (option_map by_seen) result
+        ≡ by_of version words.entry }
 {
     let Some(word) = words.next() else {
         return Some(None);
@@ -79,7 +82,8 @@ fn by<'text>(version: Version, mut words: LineWords<'text>) -> Option<Option<By<
 
 /// `COLUMN` or `COLUMN fold`; in version 2 also `COLUMN COLUMN2` or `COLUMN COLUMN2 fold`.
 fn columns<'text>(version: Version, mut words: LineWords<'text>) -> Option<By<'text>>
-    ensures { option_map by_seen result ≡ columns_of version words.entry }
+    ensures { option_map by_seen result
+        ≡ columns_of version words.entry }
 {
     let column = words.next()?;
     let Some(second) = words.next() else {
@@ -100,7 +104,8 @@ fn columns<'text>(version: Version, mut words: LineWords<'text>) -> Option<By<'t
 
 /// `COLUMN fold`, or in version 2 `COLUMN COLUMN2`.
 fn one_or_two<'text>(version: Version, column: &'text str, last: &'text str) -> Option<By<'text>>
-    ensures { option_map by_seen result ≡ columns_of version (column.now ∷ last.now ∷ []) }
+    ensures { option_map by_seen result
+        ≡ columns_of version (column.now ∷ last.now ∷ []) }
 {
     if last == "fold" {
         return Some(By {
@@ -144,7 +149,8 @@ fn two_folded<'text>(
 
 /// `T.F` and a form.
 fn field<'text>(version: Version, mut words: LineWords<'text>) -> Option<Statement<'text>>
-    ensures { option_map statement_seen result ≡ field_of version words.entry }
+    ensures { option_map statement_seen result
+        ≡ field_of version words.entry }
 {
     let (type_name, field_name) = cut(words.next()?, '.')?;
     let form = form(version, words)?;
@@ -157,7 +163,8 @@ fn field<'text>(version: Version, mut words: LineWords<'text>) -> Option<Stateme
 
 /// `column COLUMN`, or a form with a loader.
 fn form<'text>(version: Version, mut words: LineWords<'text>) -> Option<Form<'text>>
-    ensures { option_map form_seen result ≡ form_of version words.entry }
+    ensures { option_map form_seen result
+        ≡ form_of version words.entry }
 {
     let kind = words.next()?;
     let first = words.next()?;
@@ -176,7 +183,8 @@ fn form_behind<'text>(
     loader: &'text str,
     words: LineWords<'text>,
 ) -> Option<Form<'text>>
-    ensures { option_map form_seen result ≡ loaded_of version kind.now loader.now words.entry }
+    ensures { option_map form_seen result ≡ loaded_of
+        version kind.now loader.now words.entry }
 {
     if kind == "one" {
         let key = only_key(version, words)?;
@@ -195,7 +203,8 @@ fn form_behind<'text>(
 
 /// No further word.
 fn end<'text>(mut words: LineWords<'text>) -> Option<()>
-    ensures { MatchOption result (words.entry ≢ []) (λ _. words.entry ≡ []) }
+    ensures { MatchOption result (words.entry ≢ [])
+        (λ _. words.entry ≡ []) }
 {
     match words.next() {
         Some(_) => None,
@@ -221,7 +230,8 @@ fn part<'text>(words: &mut LineWords<'text>) -> Option<KeyPart<'text>>
 
 /// A part as a key of its own.
 fn single_key(part: KeyPart<'_>) -> KeyWords<'_>
-    ensures { key_seen result ≡ lone_part (part_seen part.entry) }
+    ensures { key_seen result
+        ≡ lone_part (part_seen part.entry) }
 {
     match part {
         KeyPart::Argument(name) => KeyWords::Argument(name),
@@ -268,7 +278,8 @@ fn only_key<'text>(version: Version, mut words: LineWords<'text>) -> Option<KeyW
 
 /// `arg NAME`.
 fn each<'text>(loader: &'text str, mut words: LineWords<'text>) -> Option<Form<'text>>
-    ensures { option_map form_seen result ≡ each_of loader.now words.entry }
+    ensures { option_map form_seen result
+        ≡ each_of loader.now words.entry }
 {
     let word = words.next()?;
     let argument = words.next()?;
@@ -303,7 +314,8 @@ fn more_steps<'text>(
 
 /// A loader and its column, and in version 2 up to two more of these.
 fn steps<'text>(version: Version, mut words: LineWords<'text>) -> Option<ViaLoaders<'text>>
-    ensures { option_map steps_seen result ≡ steps_of version words.entry }
+    ensures { option_map steps_seen result
+        ≡ steps_of version words.entry }
 {
     let loader = words.next()?;
     let column = words.next()?;
@@ -323,7 +335,8 @@ fn via<'text>(
     loader: &'text str,
     mut words: LineWords<'text>,
 ) -> Option<Form<'text>>
-    ensures { option_map form_seen result ≡ via_of version loader.now words.entry }
+    ensures { option_map form_seen result
+        ≡ via_of version loader.now words.entry }
 {
     let key = key_source(version, &mut words)?;
     let steps = steps(version, words)?;

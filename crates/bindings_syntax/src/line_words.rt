@@ -59,7 +59,8 @@ impl<'text> LineWords<'text> {
     /// Takes the next word where it is this one, and tells whether it did.
     pub(crate) fn take(&mut self, wanted: &str) -> bool
         ensures taken { behind wanted.now self.old ≡ (if result then Some self.new else None) }
-        ensures left { result ≡ false → self.new ≡ self.old }
+        ensures left { result ≡ false
+            → self.new ≡ self.old }
     {
         match first_word(self.rest) {
             Some((word, rest)) if word == wanted => {

@@ -10,7 +10,8 @@ use std::marker::Model;
 fn first_line(text: &str) -> Option<(&str, &str)>
     ensures line { MatchOption result (statement_lines text.now ≡ []) (λ p.
         statement_lines text.now ≡ p.0.now ∷ statement_lines p.1.now) }
-    ensures shorter { IfSome result (λ p. length p.1.now < length text.now) }
+    ensures shorter { IfSome result
+        (λ p. length p.1.now < length text.now) }
 {
     match cut(text, '\n') {
         Some((line, rest)) => Some((line.strip_suffix('\r').unwrap_or(line), rest)),

@@ -23,7 +23,8 @@ use std::alloc::{AllocError, Global};
 ///
 /// Only when out of memory.
 pub fn read(alloc: Global, text: &str) -> Result<BindingsText<'_>, AllocError>
-    ensures { IfOk result (λ read. text_seen read ≡ bindings_text text.now) }
+    ensures { IfOk result
+        (λ read. text_seen read ≡ bindings_text text.now) }
 {
     let mut lines = Lines::of(text);
     let Some(first) = lines.next() else {
@@ -49,7 +50,8 @@ fn statements<'text>(
     version: Version,
     mut lines: Lines<'text>,
 ) -> Result<BindingsText<'text>, AllocError>
-    ensures { IfOk result (λ read. text_seen read ≡ statements_of version lines.entry) }
+    ensures { IfOk result (λ read. text_seen read
+        ≡ statements_of version lines.entry) }
 {
     let mut statements = Vec::new(alloc);
     while let Some(line) = lines.next() {

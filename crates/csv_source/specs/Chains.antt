@@ -12,7 +12,8 @@ pub record IsNext (test : RowOf → Bool) (rows : List RowOf) (from to : ℕ) : 
   pub passes : to < length rows → test (get_or rows to []) ≡ true
 
 -- the links of the rows from a place on, by a test that tells, for a number of buckets, whether a row is of one of them
-pub record IsLinked (is_in : ℕ → ℕ → RowOf → Bool) (rows : List RowOf) (first next : List ℕ) (from : ℕ) : Type 0 where
+pub record IsLinked (is_in : ℕ → ℕ → RowOf → Bool) (rows : List RowOf) (first next : List ℕ)
+    (from : ℕ) : Type 0 where
   pub links : length next ≡ length rows
   pub heads : (bucket : ℕ) → bucket < length first
       → IsNext (is_in (length first) bucket) rows from (get_or first bucket 0)
@@ -24,9 +25,15 @@ pub record IsLinked (is_in : ℕ → ℕ → RowOf → Bool) (rows : List RowOf)
 abbrev pub IsColumn : SheetOf → ℕ → Type 0
 IsColumn s column = Some column ≡ position (λ n. bytes_eq n (get_or s.names column [])) s.names
 
+-- a sheet whose rows can be linked by a column
+pub record IsLinkable (s : SheetOf) (column : ℕ) : Type 0 where
+  pub rectangular : IsRectangular s
+  pub named : IsColumn s column
+
 -- the links of a sheet's rows by a column
 abbrev pub IsLinkedIn : SheetOf → ℕ → KeyMode → List ℕ → List ℕ → ℕ → Type 0
-IsLinkedIn s column mode first next from = IsLinked (in_bucket mode (get_or s.names column [])) (rows_of s) first next from
+IsLinkedIn s column mode first next from =
+    IsLinked (in_bucket mode (get_or s.names column [])) (rows_of s) first next from
 
 -- the index of a column of a sheet
 pub record IsIndex (s : SheetOf) (column : ℕ) (mode : KeyMode) (first next : List ℕ) : Type 0 where
@@ -38,12 +45,20 @@ pub record IsIndex (s : SheetOf) (column : ℕ) (mode : KeyMode) (first next : L
 abbrev pub AreColumns : SheetOf → ℕ → ℕ → Type 0
 AreColumns s column second = IsColumn s column × IsColumn s second
 
+-- a sheet whose rows can be linked by two columns
+pub record IsPairLinkable (s : SheetOf) (column second : ℕ) : Type 0 where
+  pub rectangular : IsRectangular s
+  pub named : AreColumns s column second
+
 -- the links of a sheet's rows by two columns
 abbrev pub IsPairLinkedIn : SheetOf → ℕ → ℕ → KeyMode → List ℕ → List ℕ → ℕ → Type 0
-IsPairLinkedIn s column second mode first next from = IsLinked (pair_in_bucket mode (get_or s.names column []) (get_or s.names second [])) (rows_of s) first next from
+IsPairLinkedIn s column second mode first next from =
+    IsLinked (pair_in_bucket mode (get_or s.names column []) (get_or s.names second []))
+    (rows_of s) first next from
 
 -- the index of two columns of a sheet
-pub record IsPairIndex (s : SheetOf) (column second : ℕ) (mode : KeyMode) (first next : List ℕ) : Type 0 where
+pub record IsPairIndex (s : SheetOf) (column second : ℕ) (mode : KeyMode)
+    (first next : List ℕ) : Type 0 where
   pub rectangular : IsRectangular s
   pub named : AreColumns s column second
   pub buckets : 0 < length first

@@ -21,7 +21,8 @@ bucket_of mode buckets folded = text_hash mode folded % buckets
 
 abbrev pub cell_in : KeyMode → ℕ → ℕ → Option (List ℕ) → Bool
 cell_in mode buckets bucket None = false
-cell_in mode buckets bucket (Some field) = not (length field == 0) && (bucket_of mode buckets (fold_text mode field) == bucket)
+cell_in mode buckets bucket (Some field) =
+    not (length field == 0) && (bucket_of mode buckets (fold_text mode field) == bucket)
 
 -- one number of the hashes of two texts, in which their order counts
 abbrev pub joined_hash : ℕ → ℕ → ℕ
@@ -39,8 +40,10 @@ abbrev pub cells_in : KeyMode → ℕ → ℕ → Option (List ℕ) → Option (
 cells_in mode buckets bucket None other = false
 cells_in mode buckets bucket (Some s) None = false
 cells_in mode buckets bucket (Some s) (Some t) =
-    (not (length s == 0) && not (length t == 0)) && (pair_bucket_of mode buckets (fold_text mode s) (fold_text mode t) == bucket)
+    (not (length s == 0) && not (length t == 0))
+    && (pair_bucket_of mode buckets (fold_text mode s) (fold_text mode t) == bucket)
 
 -- neither of the row's two columns is null and their texts are of this bucket
 abbrev pub pair_in_bucket : KeyMode → List ℕ → List ℕ → ℕ → ℕ → RowOf → Bool
-pair_in_bucket mode column second buckets bucket row = cells_in mode buckets bucket (cell_of row column) (cell_of row second)
+pair_in_bucket mode column second buckets bucket row =
+    cells_in mode buckets bucket (cell_of row column) (cell_of row second)

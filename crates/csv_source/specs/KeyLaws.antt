@@ -24,12 +24,15 @@ rows_by-folded mode table columns (text s) (pair t u) e = absurd (cc e)
 rows_by-folded mode table columns (pair s t) all e = absurd (cc e)
 rows_by-folded mode table columns (pair s t) (text u) e = absurd (cc e)
 rows_by-folded mode table no_column (text s) (text t) e = refl
-rows_by-folded mode table (one_column column) (text s) (text t) e = ap (λ folded. filter (has_text mode column folded) table) (text-same (fold_text mode s) (fold_text mode t) e)
+rows_by-folded mode table (one_column column) (text s) (text t) e =
+    ap (λ folded. filter (has_text mode column folded) table)
+    (text-same (fold_text mode s) (fold_text mode t) e)
 rows_by-folded mode table (two_columns column second) (text s) (text t) e = refl
 rows_by-folded mode table no_column (pair s t) (pair u v) e = refl
 rows_by-folded mode table (one_column column) (pair s t) (pair u v) e = refl
 rows_by-folded mode table (two_columns column second) (pair s t) (pair u v) e =
-    let parts = pair-same (fold_text mode s) (fold_text mode t) (fold_text mode u) (fold_text mode v) e in
+    let parts =
+    pair-same (fold_text mode s) (fold_text mode t) (fold_text mode u) (fold_text mode v) e in
     rw (parts.0, parts.1) refl
 
 pub item_of_key-folded : (s : SourceOf) (j k : KeyOf)

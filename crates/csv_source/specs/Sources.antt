@@ -8,4 +8,5 @@ source_of (All table) = source_of_all (rows_of table.now)
 source_of (Owned index) = source_by index.rows index.column index.mode
 source_of (Shared index) = source_by index.now.rows index.now.column index.now.mode
 source_of (OwnedPair index) = source_by_two index.rows index.column index.second index.mode
-source_of (SharedPair index) = source_by_two index.now.rows index.now.column index.now.second index.now.mode
+source_of (SharedPair index) =
+    source_by_two index.now.rows index.now.column index.now.second index.now.mode

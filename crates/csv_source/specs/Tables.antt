@@ -12,7 +12,8 @@ rows_of s = map (paired s.names) s.rows
 
 -- the field at a place of a row equals a text
 abbrev pub equals_at : KeyMode → List (List ℕ) → ℕ → List ℕ → Bool
-equals_at mode fields place t = bytes_eq (fold_text mode t) (fold_text mode (get_or fields place []))
+equals_at mode fields place t =
+    bytes_eq (fold_text mode t) (fold_text mode (get_or fields place []))
 
 -- a field equals a folded text; an empty field is null, and equals none
 abbrev pub cell_is : KeyMode → List ℕ → Option (List ℕ) → Bool
@@ -44,8 +45,18 @@ pub record PairIndexOf : Type 0 where
   pub second : List ℕ
   pub mode : KeyMode
 
+-- the index of these rows by two columns of these names
+abbrev pub index_by_two : List RowOf → List ℕ → List ℕ → KeyMode → PairIndexOf
+index_by_two table column second mode =
+    record { rows = table; column = column; second = second; mode = mode }
+
 abbrev pub pair_index_of : SheetOf → ℕ → ℕ → KeyMode → PairIndexOf
-pair_index_of s column second mode = record { rows = rows_of s; column = get_or s.names column []; second = get_or s.names second []; mode = mode }
+pair_index_of s column second mode = record {
+  rows = rows_of s;
+  column = get_or s.names column [];
+  second = get_or s.names second [];
+  mode = mode;
+}
 
 -- the columns by which a source finds its rows: none where it has all rows for one key
 pub data ColumnsOf : Type 0 where
@@ -69,18 +80,21 @@ source_by table column mode = record { rows = table; columns = one_column column
 
 -- the source by two columns
 abbrev pub source_by_two : List RowOf → List ℕ → List ℕ → KeyMode → SourceOf
-source_by_two table column second mode = record { rows = table; columns = two_columns column second; mode = mode }
+source_by_two table column second mode =
+    record { rows = table; columns = two_columns column second; mode = mode }
 
 abbrev pub rows_by : KeyMode → List RowOf → ColumnsOf → KeyOf → List RowOf
 rows_by mode table no_column all = table
 rows_by mode table no_column (text t) = []
 rows_by mode table no_column (pair s t) = []
 rows_by mode table (one_column column) all = []
-rows_by mode table (one_column column) (text t) = filter (has_text mode column (fold_text mode t)) table
+rows_by mode table (one_column column) (text t) =
+    filter (has_text mode column (fold_text mode t)) table
 rows_by mode table (one_column column) (pair s t) = []
 rows_by mode table (two_columns column second) all = []
 rows_by mode table (two_columns column second) (text t) = []
-rows_by mode table (two_columns column second) (pair s t) = filter (has_pair mode column second (fold_text mode s) (fold_text mode t)) table
+rows_by mode table (two_columns column second) (pair s t) =
+    filter (has_pair mode column second (fold_text mode s) (fold_text mode t)) table
 
 -- the rows of a key, in file order; a key of another form than the source's has none
 abbrev pub rows_of_key : SourceOf → KeyOf → List RowOf

@@ -22,7 +22,8 @@ fn mix_byte(hash: u64, byte: u8) -> u64
 // the keys can make them collide.
 #[tactic(auto, unfolding(crate::specs::Hashes::text_hash))]
 fn hash(mode: KeyMode, text: &str) -> u64
-    ensures { result ≡ text_hash mode (fold_text mode text.now) }
+    ensures { result ≡ text_hash mode
+        (fold_text mode text.now) }
 {
     match mode {
         KeyMode::Exact => {
@@ -57,7 +58,8 @@ pub(crate) fn pair_bucket(mode: KeyMode, buckets: usize, one: &str, two: &str) -
 /// The bucket of a text, of `buckets`.
 pub(crate) fn bucket(mode: KeyMode, buckets: usize, text: &str) -> usize
     requires { 0 < buckets }
-    ensures value { result ≡ bucket_of mode buckets (fold_text mode text.now) }
+    ensures value { result ≡ bucket_of mode buckets
+        (fold_text mode text.now) }
     ensures within { result < buckets }
 {
     (hash(mode, text) % buckets as u64) as usize

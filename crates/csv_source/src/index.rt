@@ -3,7 +3,7 @@ ghost use Rattle.std.specs.Prelude.{◌≡◌, ◌<◌, ◌+◌, ◌++◌, ◌�
 ghost use Rattle.std.specs.Arc.{arc_value};
 ghost use Rattle.load_memory.specs.Keys.{fold_text};
 ghost use Rattle.load_memory.specs.Rows.{IsRectangular};
-ghost use Rattle.csv_source.specs.Chains.{IsLinkedIn, IsColumn};
+ghost use Rattle.csv_source.specs.Chains.{IsColumn, IsLinkable, IsLinkedIn};
 ghost use Rattle.csv_source.specs.Faults.{ColumnFault};
 ghost use Rattle.csv_source.specs.Tables.{rows_of, has_text};
 
@@ -55,14 +55,14 @@ impl Model for ColumnIndex {
 // Puts a row before the rows that come after it.
 fn link(sheet: &Sheet, column: usize, mode: KeyMode, row: u32, links: &mut Links)
     requires row { row < length sheet.now.rows }
-    requires rectangular { IsRectangular sheet.now }
-    requires column { IsColumn sheet.now column }
+    requires column { IsLinkable sheet.now column }
     requires buckets { 0 < length links.old.first.items }
     requires linked { IsLinkedIn sheet.now column mode
         links.old.first.items links.old.next.items (row + 1) }
     ensures linked { IsLinkedIn sheet.now column mode
         links.new.first.items links.new.next.items row }
-    ensures buckets { length links.new.first.items ≡ length links.old.first.items }
+    ensures buckets { length links.new.first.items
+        ≡ length links.old.first.items }
 {
     let text = sheet.field(row, column);
     if !text.is_empty() {
@@ -81,7 +81,8 @@ fn link_rows(
 ) -> Result<Links, AllocError>
     requires { IsColumn sheet.now column }
     ensures rectangular { IsRectangular sheet.now }
-    ensures buckets { IfOk result (λ l. 0 < length l.first.items) }
+    ensures buckets { IfOk result
+        (λ l. 0 < length l.first.items) }
     ensures linked { IfOk result (λ l.
         IsLinkedIn sheet.now column mode l.first.items l.next.items 0) }
 {
@@ -98,7 +99,8 @@ fn link_rows(
 
 /// Tells whether a field equals a text under the mode.
 pub(crate) fn is_same(mode: KeyMode, field: &str, text: &str) -> bool
-    ensures { result ≡ bytes_eq (fold_text mode text.now) (fold_text mode field.now) }
+    ensures { result ≡ bytes_eq (fold_text mode text.now)
+        (fold_text mode field.now) }
 {
     match mode {
         KeyMode::Exact => text == field,
@@ -110,7 +112,8 @@ pub(crate) fn is_same(mode: KeyMode, field: &str, text: &str) -> bool
 /// Adds a row to those that were found. Most keys have one row, so the first takes room for itself
 /// alone.
 pub(crate) fn add(found: &mut Vec<Row>, row: Row) -> Result<(), AllocError>
-    ensures { OnOk result (found.new.items ≡ found.old.items ++ row ∷ []) }
+    ensures { OnOk result
+        (found.new.items ≡ found.old.items ++ row ∷ []) }
 {
     if found.is_empty() {
         found.reserve_exact(1)?;
@@ -133,8 +136,10 @@ impl ColumnIndex {
     ) -> Result<ColumnIndex, TableFault>
         ensures ok { IfOk result (λ x.
             x ≡ record { rows = rows_of table.now; column = column.now; mode = mode }) }
-        ensures there { OnOk result (Contains table.now.names column.now) }
-        ensures err { IfErr result (ColumnFault table.now.names column.now) }
+        ensures there { OnOk result
+            (Contains table.now.names column.now) }
+        ensures err { IfErr result
+            (ColumnFault table.now.names column.now) }
     {
         let Some(column) = table.sheet.column(column) else {
             return Err(TableFault::NoSuchColumn);
@@ -158,8 +163,8 @@ impl ColumnIndex {
 
     /// The rows whose column equals the text, in file order. An empty field equals no text.
     pub fn rows(&self, alloc: Global, text: &str) -> Result<Vec<Row>, AllocError>
-        ensures { IfOk result (λ v. v.items
-            ≡ filter (has_text self.now.mode self.now.column (fold_text self.now.mode text.now)) self.now.rows) }
+        ensures { IfOk result (λ v. v.items ≡ filter (has_text self.now.mode self.now.column
+            (fold_text self.now.mode text.now)) self.now.rows) }
     {
         let mut found = Vec::new(alloc);
         let Links { first, next } = &self.links;

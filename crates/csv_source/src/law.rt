@@ -7,7 +7,8 @@ ghost use Rattle.csv_source.specs.declared.fault.TableFault.{TableFault};
 
 /// A text is one table or has one first fault, and never both.
 pub fn one_reading()
-    ensures table { (text : List ℕ) (s t : SheetOf) → IsTableOf text s → IsTableOf text t → s ≡ t }
+    ensures table { (text : List ℕ) (s t : SheetOf)
+        → IsTableOf text s → IsTableOf text t → s ≡ t }
     ensures apart { (text : List ℕ) (t : SheetOf) (e : TableFault)
         → IsTableOf text t → FirstFault text e → ⊥ }
     ensures fault { (text : List ℕ) (d e : TableFault)

@@ -3,9 +3,9 @@ ghost use Rattle.std.specs.Prelude.{◌≡◌, ◌<◌, ◌+◌, ◌&&◌, [], I
 ghost use Rattle.std.specs.Arc.{arc_value};
 ghost use Rattle.load_memory.specs.Keys.{pair};
 ghost use Rattle.load_memory.specs.Rows.{IsRectangular};
-ghost use Rattle.csv_source.specs.Chains.{AreColumns, IsPairLinkedIn};
+ghost use Rattle.csv_source.specs.Chains.{AreColumns, IsPairLinkable, IsPairLinkedIn};
 ghost use Rattle.csv_source.specs.Faults.{PairFault};
-ghost use Rattle.csv_source.specs.Tables.{rows_of, rows_by, two_columns, equals_at};
+ghost use Rattle.csv_source.specs.Tables.{rows_of, rows_by, index_by_two, two_columns, equals_at};
 
 use crate::fault::TableFault;
 use crate::hash::pair_bucket;
@@ -51,14 +51,15 @@ impl Model for PairIndex {
 // Puts a row before the rows that come after it.
 fn link(sheet: &Sheet, by: Pairing, row: u32, links: &mut Links)
     requires row { row < length sheet.now.rows }
-    requires rectangular { IsRectangular sheet.now }
-    requires columns { AreColumns sheet.now by.column by.second }
+    requires columns { IsPairLinkable
+        sheet.now by.column by.second }
     requires buckets { 0 < length links.old.first.items }
     requires linked { IsPairLinkedIn sheet.now by.column by.second
         by.mode links.old.first.items links.old.next.items (row + 1) }
     ensures linked { IsPairLinkedIn sheet.now by.column by.second
         by.mode links.new.first.items links.new.next.items row }
-    ensures buckets { length links.new.first.items ≡ length links.old.first.items }
+    ensures buckets { length links.new.first.items
+        ≡ length links.old.first.items }
 {
     let one = sheet.field(row, by.column);
     if one.is_empty() {
@@ -77,7 +78,8 @@ fn link(sheet: &Sheet, by: Pairing, row: u32, links: &mut Links)
 fn link_rows(alloc: Global, sheet: &Sheet, by: Pairing) -> Result<Links, AllocError>
     requires { AreColumns sheet.now by.column by.second }
     ensures rectangular { IsRectangular sheet.now }
-    ensures buckets { IfOk result (λ l. 0 < length l.first.items) }
+    ensures buckets { IfOk result
+        (λ l. 0 < length l.first.items) }
     ensures linked { IfOk result (λ l.
         IsPairLinkedIn sheet.now by.column by.second by.mode l.first.items l.next.items 0) }
 {
@@ -105,7 +107,8 @@ impl PairIndex {
         second: &str,
         mode: KeyMode,
     ) -> Result<PairIndex, TableFault>
-        ensures ok { IfOk result (λ x. x ≡ record { rows = rows_of table.now; column = column.now; second = second.now; mode = mode }) }
+        ensures ok { IfOk result (λ x.
+            x ≡ index_by_two (rows_of table.now) column.now second.now mode) }
         ensures there { OnOk result
             (Contains table.now.names column.now × Contains table.now.names second.now) }
         ensures err { IfErr result (PairFault table.now.names column.now second.now) }
@@ -136,8 +139,8 @@ impl PairIndex {
     /// The rows whose first column equals the first text and whose second column equals the second, in file order. An
     /// empty field equals no text.
     pub fn rows(&self, alloc: Global, one: &str, two: &str) -> Result<Vec<Row>, AllocError>
-        ensures { IfOk result (λ v. v.items
-            ≡ rows_by self.now.mode self.now.rows (two_columns self.now.column self.now.second) (pair one.now two.now)) }
+        ensures { IfOk result (λ v. v.items ≡ rows_by self.now.mode self.now.rows
+            (two_columns self.now.column self.now.second) (pair one.now two.now)) }
     {
         let mut found = Vec::new(alloc);
         let Links { first, next } = &self.links;
@@ -157,8 +160,8 @@ fn is_same_pair(sheet: &Sheet, by: Pairing, row: u32, one: &str, two: &str) -> b
     requires row { row < length sheet.now.rows }
     requires column { by.column < length sheet.now.names }
     requires second { by.second < length sheet.now.names }
-    ensures { let fields = get_or sheet.now.rows row [] in result
-        ≡ (equals_at by.mode fields by.column one.now && equals_at by.mode fields by.second two.now) }
+    ensures { let fields = get_or sheet.now.rows row [] in result ≡ (equals_at by.mode
+        fields by.column one.now && equals_at by.mode fields by.second two.now) }
 {
     is_same(by.mode, sheet.field(row, by.column), one)
         && is_same(by.mode, sheet.field(row, by.second), two)

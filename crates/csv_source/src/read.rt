@@ -22,7 +22,8 @@ const MAX_ROWS: u32 = 1_000_000;
 // Returns what a failed read means.
 fn device(error: Error) -> TableFault
     ensures device { IsDevice result }
-    ensures reported { result ≡ reported_fault (error_kind error) }
+    ensures reported { result ≡ reported_fault
+        (error_kind error) }
 {
     match error.into_kind() {
         ErrorKind::OutOfMemory => TableFault::NoMemory,
@@ -38,7 +39,8 @@ fn next<R: Read>(reader: &mut Reader<R>, raw: &mut ByteRecord) -> Result<bool, T
     ensures plain { IfOk result (λ _. IsPlain reader.new) }
     ensures more { IfOk result (λ found. found ≡ true
         → ReadsMore R.remaining reader.old reader.new (fields_of raw.new)) }
-    ensures ended { IfOk result (λ found. found ≡ false → HasEnded R.remaining reader.old) }
+    ensures ended { IfOk result (λ found.
+        found ≡ false → HasEnded R.remaining reader.old) }
 {
     match reader.read_byte_record(raw) {
         Ok(found) => Ok(found),
@@ -59,7 +61,8 @@ fn text_of(raw: ByteRecord) -> Result<StringRecord, TableFault>
 
 // Tells whether a name stands twice.
 fn repeats(alloc: Global, names: &StringRecord) -> Result<bool, AllocError>
-    ensures { IfOk result (λ b. IsTrue b ↔ Repeats (fields_of names.now)) }
+    ensures { IfOk result
+        (λ b. IsTrue b ↔ Repeats (fields_of names.now)) }
 {
     let mut seen = HashSet::new(alloc);
     for name in names {
@@ -72,7 +75,8 @@ fn repeats(alloc: Global, names: &StringRecord) -> Result<bool, AllocError>
 
 // A sheet with these columns and no row.
 fn columns(alloc: Global, names: &StringRecord) -> Result<SheetBuilder, AllocError>
-    ensures { IfOk result (λ b. b ≡ draft_with_names (fields_of names.now)) }
+    ensures { IfOk result
+        (λ b. b ≡ draft_with_names (fields_of names.now)) }
 {
     let mut sheet = SheetBuilder::new(alloc);
     for name in names {
@@ -84,8 +88,10 @@ fn columns(alloc: Global, names: &StringRecord) -> Result<SheetBuilder, AllocErr
 // A sheet with this header and no row.
 fn header(alloc: Global, names: &StringRecord) -> Result<SheetBuilder, TableFault>
     requires { AllText (fields_of names.now) }
-    ensures ok { let head = fields_of names.now in IfOk result (λ b. (b ≡ draft_with_names head) × IsHeader head) }
-    ensures err { IfErr result (HeaderFault (fields_of names.now)) }
+    ensures ok { let head = fields_of names.now in
+        IfOk result (λ b. (b ≡ draft_with_names head) × IsHeader head) }
+    ensures err { IfErr result
+        (HeaderFault (fields_of names.now)) }
 {
     if repeats(alloc, names)? {
         return Err(TableFault::DuplicateColumn);
@@ -96,9 +102,11 @@ fn header(alloc: Global, names: &StringRecord) -> Result<SheetBuilder, TableFaul
 // Adds a row of these fields.
 fn add_fields(sheet: &mut SheetBuilder, fields: &StringRecord) -> Result<(), AllocError>
     requires none { sheet.old.begun ≡ [] }
-    requires same { length (fields_of fields.now) ≡ length sheet.old.names }
+    requires same { length (fields_of fields.now)
+        ≡ length sheet.old.names }
     requires room { length sheet.old.rows + 1 < 2 ^ 32 }
-    ensures { OnOk result (sheet.new ≡ draft_with_row sheet.old (fields_of fields.now)) }
+    ensures { OnOk result (sheet.new
+        ≡ draft_with_row sheet.old (fields_of fields.now)) }
 {
     for field in fields {
         sheet.add_field(field)?;
@@ -113,7 +121,8 @@ fn add_row(sheet: &mut SheetBuilder, raw: ByteRecord) -> Result<ByteRecord, Tabl
     requires room { length sheet.old.rows + 1 < 2 ^ 32 }
     ensures ok { let row = fields_of raw in OnOk result ((sheet.new ≡ draft_with_row sheet.old row)
         × (length row ≡ length sheet.old.names) × AllText row) }
-    ensures err { IfErr result (RowFault sheet.old.names (fields_of raw)) }
+    ensures err { IfErr result
+        (RowFault sheet.old.names (fields_of raw)) }
 {
     if raw.len() != sheet.width() {
         return Err(TableFault::BadRecord);

@@ -48,7 +48,8 @@ impl<'t> Model for CsvSource<'t> {
 
 // All rows of a table, in file order.
 fn all_rows(alloc: Global, table: &Table) -> Result<Vec<Row>, AllocError>
-    ensures { IfOk result (λ v. v.items ≡ rows_of table.now) }
+    ensures { IfOk result
+        (λ v. v.items ≡ rows_of table.now) }
 {
     let sheet = table.sheet();
     let mut rows = Vec::with_capacity(alloc, sheet.len() as usize)?;
@@ -97,7 +98,8 @@ fn rows_by_two(alloc: Global, index: &PairIndex, key: &Key) -> Result<Vec<Row>, 
 impl<'t> CsvSource<'t> {
     /// The source of all rows of a table.
     pub fn all(table: &'t Table) -> CsvSource<'t>
-        ensures { result ≡ source_of_all (rows_of table.now) }
+        ensures { result ≡ source_of_all
+            (rows_of table.now) }
     {
         CsvSource {
             finder: Finder::All(table),
@@ -115,9 +117,12 @@ impl<'t> CsvSource<'t> {
         column: &str,
         mode: KeyMode,
     ) -> Result<CsvSource<'t>, TableFault>
-        ensures ok { IfOk result (λ s. s ≡ source_by (rows_of table.now) column.now mode) }
-        ensures there { OnOk result (Contains table.now.names column.now) }
-        ensures err { IfErr result (ColumnFault table.now.names column.now) }
+        ensures ok { IfOk result (λ s. s ≡ source_by
+            (rows_of table.now) column.now mode) }
+        ensures there { OnOk result
+            (Contains table.now.names column.now) }
+        ensures err { IfErr result
+            (ColumnFault table.now.names column.now) }
     {
         let index = ColumnIndex::new(alloc, table, column, mode)?;
         Ok(CsvSource {
@@ -151,7 +156,8 @@ impl<'t> CsvSource<'t> {
 
     /// The source by an existing index.
     pub fn of_index(index: &'t ColumnIndex) -> CsvSource<'t>
-        ensures { result ≡ source_by index.now.rows index.now.column index.now.mode }
+        ensures { result ≡ source_by index.now.rows
+            index.now.column index.now.mode }
     {
         CsvSource {
             finder: Finder::Shared(index),
@@ -170,7 +176,8 @@ impl<'t> CsvSource<'t> {
 
     /// The rows of a key, in file order.
     pub fn rows(&self, alloc: Global, key: &Key) -> Result<Vec<Row>, AllocError>
-        ensures { IfOk result (λ v. v.items ≡ rows_of_key self.now (key_of key.now)) }
+        ensures { IfOk result (λ v. v.items
+            ≡ rows_of_key self.now (key_of key.now)) }
     {
         match &self.finder {
             Finder::All(table) => rows_without(alloc, table, key),

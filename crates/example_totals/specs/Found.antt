@@ -45,11 +45,13 @@ abbrev mutual
   found_below (And position t rest) = both (found_in t) (found_below rest)
 
 -- it is what the program comes to over the memory, and what the program needs and the memory lacks was wanted
-pub record IsFound (p : Program) (m : MemoryOf) (old new : List WantedOf) (part : Found) : Type 0 where
+pub record IsFound (p : Program) (m : MemoryOf) (old new : List WantedOf)
+    (part : Found) : Type 0 where
   pub found : found_of part ≡ found_in (tree p (reader_of m))
   pub wants : new ≡ wanting old (missing (reader_of m) (needs p (reader_of m)))
 
 -- says the same of the programs below a position
-pub record AreFound (ps : Programs) (m : MemoryOf) (old new : List WantedOf) (part : Found) : Type 0 where
+pub record AreFound (ps : Programs) (m : MemoryOf) (old new : List WantedOf)
+    (part : Found) : Type 0 where
   pub found : found_of part ≡ found_below (trees ps (reader_of m))
   pub wants : new ≡ wanting old (missing (reader_of m) (all_needs ps (reader_of m)))

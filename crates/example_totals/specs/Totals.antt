@@ -21,11 +21,13 @@ load_of loader id = record { loader = loader; key = text id }
 
 -- decimal digits, of a number below 2^32
 abbrev pub is_number : List ℕ → Bool
-is_number digits = nat_lt 0 (length digits) && all_ascii_digits digits && nat_lt (digits_value 10 digits) (2 ^ 32)
+is_number digits =
+    nat_lt 0 (length digits) && all_ascii_digits digits && nat_lt (digits_value 10 digits) (2 ^ 32)
 
 -- the number that a text is, which may have a plus before its digits
 abbrev pub number_of : List ℕ → Option ℕ
-number_of digits = if is_number (without_leading_plus digits) then Some (digits_value 10 (without_leading_plus digits)) else None
+number_of digits = if is_number (without_leading_plus digits)
+    then Some (digits_value 10 (without_leading_plus digits)) else None
 
 abbrev pub number_in : Option (List ℕ) → Option ℕ
 number_in None = None
@@ -68,7 +70,8 @@ item n = record { part = Item n; non_null = false; place = record { line = 1; co
 -- an item for each friend, numbered from n
 abbrev pub friend_totals : ℕ → List RowOf → Programs
 friend_totals n [] = End
-friend_totals n (friend ∷ friends) = With (item n) (friend_total (cell_of friend (codes "friend"))) (friend_totals (suc n) friends)
+friend_totals n (friend ∷ friends) =
+    With (item n) (friend_total (cell_of friend (codes "friend"))) (friend_totals (suc n) friends)
 
 abbrev pub friends_total : OutcomeOf → Program
 friends_total (known (rows friends)) = Under ListOf (friend_totals 0 friends)

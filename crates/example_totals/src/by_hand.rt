@@ -73,7 +73,8 @@ fn replies_to(
     loaders: &[Loader<CountedTable<'_>>],
     elsewhere: Elsewhere,
 ) -> Result<Vec<Reply>, AllocError>
-    requires { All (λ (o : OrderOf). o.loader < length loaders.now) orders.items }
+    requires { All (λ (o : OrderOf).
+        o.loader < length loaders.now) orders.items }
     ensures { IfOk result (λ replies.
         AreReplies (may_at any_tell loaders.now) orders.items (map reply_of replies.items)) }
 {
@@ -91,7 +92,8 @@ fn last_first(
     loaders: &[Loader<CountedTable<'_>>],
     elsewhere: Elsewhere,
 ) -> Result<Vec<Reply>, AllocError>
-    requires { All (λ (o : OrderOf). o.loader < length loaders.now) orders.items }
+    requires { All (λ (o : OrderOf).
+        o.loader < length loaders.now) orders.items }
     ensures { IfOk result (λ replies.
         AreReceived (may_at any_tell loaders.now) orders.items (map reply_of replies.items)) }
 {
@@ -128,7 +130,8 @@ pub fn answer_by_hand<'p, E: Drop, P: Execute<'p, E>>(
     elsewhere: Elsewhere,
     notes: &mut String,
 ) -> Result<Answer>
-    requires { P.loaders plan.now ≤ length session.old.loaders }
+    requires { P.loaders plan.now
+        ≤ length session.old.loaders }
     ensures { IfOk result (HasHeadline any_tell (state_of session.old)
         (state_of session.new) (P.program plan.now) (P.text_of plan.now)) }
 {

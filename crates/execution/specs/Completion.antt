@@ -78,11 +78,17 @@ abbrev mutual
   pub positions_below : List Part → Trees → List PositionOf
   positions_below path NoMore = []
   positions_below path (And position t rest) =
-      positions (record { path = path ++ position.part ∷ []; non_null = position.non_null; place = position.place; at = t }) t ++ positions_below path rest
+      positions (record {
+        path = path ++ position.part ∷ [];
+        non_null = position.non_null;
+        place = position.place;
+        at = t;
+      }) t ++ positions_below path rest
 
 -- `data`: of nullable type. An error of its own, which no plan makes, has the place of a text's first character.
 abbrev pub top_position : Tree → PositionOf
-top_position t = record { path = []; non_null = false; place = record { line = 1; column = 1 }; at = t }
+top_position t =
+    record { path = []; non_null = false; place = record { line = 1; column = 1 }; at = t }
 
 -- says what contracts see of a field error
 pub record ErrorOf : Type 0 where
@@ -98,9 +104,11 @@ abbrev pub own_errors : Bool → Place → List Part → Tree → List ErrorOf
 own_errors non_null place path Open = []
 own_errors non_null place path (Over kind below) = []
 own_errors non_null place path (At (Value leaf)) = []
-own_errors true place path (At Null) = record { message = null_message; place = place; path = path } ∷ []
+own_errors true place path (At Null) =
+    record { message = null_message; place = place; path = path } ∷ []
 own_errors false place path (At Null) = []
-own_errors non_null place path (At (Fault text)) = record { message = text; place = place; path = path } ∷ []
+own_errors non_null place path (At (Fault text)) =
+    record { message = text; place = place; path = path } ∷ []
 
 abbrev pub errors_at : PositionOf → List ErrorOf
 errors_at p = own_errors p.non_null p.place p.path p.at

@@ -36,10 +36,13 @@ object fields = Under ObjectOf fields
 
 -- `{user(id:4){name}}`, where the user has no name
 abbrev pub user_without_name : Program
-user_without_name = object (With (nullable (key (codes "user")) 2) (object (With (required (key (codes "name")) 13) (Is Null) End)) End)
+user_without_name = object (With (nullable (key (codes "user")) 2)
+    (object (With (required (key (codes "name")) 13) (Is Null) End)) End)
 
 abbrev pub user_is_null : AnsweredOf
-user_is_null = answered (Holding ObjectOf (Responding (key (codes "user")) NullResponse NoResponses)) (error null_message 13 (key (codes "user") ∷ key (codes "name") ∷ []) ∷ [])
+user_is_null =
+    answered (Holding ObjectOf (Responding (key (codes "user")) NullResponse NoResponses))
+    (error null_message 13 (key (codes "user") ∷ key (codes "name") ∷ []) ∷ [])
 
 -- `{users{name}}` with the types `[User!]!` and `String!`: the second user has no name
 abbrev pub user : LeafValue → Program
@@ -47,19 +50,25 @@ user name = object (With (required (key (codes "name")) 8) (Is name) End)
 
 abbrev pub users_and_one_without_name : Program
 users_and_one_without_name =
-    object (With (required (key (codes "users")) 2) (Under ListOf (With (required (Item 0) 2) (user (Value (Text (codes "Ada")))) (With (required (Item 1) 2) (user Null) End))) End)
+    object (With (required (key (codes "users")) 2) (Under ListOf (With (required (Item 0) 2)
+    (user (Value (Text (codes "Ada")))) (With (required (Item 1) 2) (user Null) End))) End)
 
 abbrev pub data_is_null : AnsweredOf
-data_is_null = answered NullResponse (error null_message 8 (key (codes "users") ∷ Item 1 ∷ key (codes "name") ∷ []) ∷ [])
+data_is_null = answered NullResponse
+    (error null_message 8 (key (codes "users") ∷ Item 1 ∷ key (codes "name") ∷ []) ∷ [])
 
 -- gives the same with the type `[User]!`: the null stops at the item
 abbrev pub nullable_users : Program
 nullable_users =
-    object (With (required (key (codes "users")) 2) (Under ListOf (With (nullable (Item 0) 2) (user (Value (Text (codes "Ada")))) (With (nullable (Item 1) 2) (user Null) End))) End)
+    object (With (required (key (codes "users")) 2) (Under ListOf (With (nullable (Item 0) 2)
+    (user (Value (Text (codes "Ada")))) (With (nullable (Item 1) 2) (user Null) End))) End)
 
 abbrev pub item_is_null : AnsweredOf
 item_is_null =
-    answered (Holding ObjectOf (Responding (key (codes "users")) (Holding ListOf (Responding (Item 0) (Holding ObjectOf (Responding (key (codes "name")) (LeafResponse (Text (codes "Ada"))) NoResponses)) (Responding (Item 1) NullResponse NoResponses))) NoResponses))
+    answered (Holding ObjectOf (Responding (key (codes "users")) (Holding ListOf
+    (Responding (Item 0) (Holding ObjectOf (Responding (key (codes "name"))
+    (LeafResponse (Text (codes "Ada"))) NoResponses))
+    (Responding (Item 1) NullResponse NoResponses))) NoResponses))
     (error null_message 8 (key (codes "users") ∷ Item 1 ∷ key (codes "name") ∷ []) ∷ [])
 
 -- `{user(id:1){name id best{id}}}`: the name is null, the id has a bad value, and the best user's too; each is of non-null
@@ -69,7 +78,8 @@ siblings_under_a_null =
     object (With (nullable (key (codes "user")) 2) (object
     (With (required (key (codes "name")) 13) (Is Null)
     (With (required (key (codes "id")) 18) (Is (Fault (codes "bad")))
-    (With (nullable (key (codes "best")) 21) (object (With (required (key (codes "id")) 26) (Is (Fault (codes "worse"))) End)) End)))) End)
+    (With (nullable (key (codes "best")) 21) (object
+    (With (required (key (codes "id")) 26) (Is (Fault (codes "worse"))) End)) End)))) End)
 
 abbrev pub each_has_its_error : AnsweredOf
 each_has_its_error =
@@ -94,14 +104,16 @@ found (batch_fault fault) = Is (Fault fault)
 abbrev pub three_loads : Program
 three_loads =
     object (With (nullable (key (codes "a")) 2) (Read (load_of 0 (codes "1")) found)
-    (With (nullable (key (codes "b")) 4) (Read (load_of 0 (codes "2")) (λ outcome. Read (load_of 1 (codes "3")) found))
+    (With (nullable (key (codes "b")) 4)
+    (Read (load_of 0 (codes "2")) (λ outcome. Read (load_of 1 (codes "3")) found))
     (With (nullable (key (codes "c")) 6) (Read (load_of 0 (codes "1")) found) End)))
 
 -- a list with one item, which is found by three loads one after another
 abbrev pub through_four_loaders : Program
 through_four_loaders =
     object (With (nullable (key (codes "a")) 2) (Read (load_of 0 (codes "1")) (λ rows. Under ListOf
-    (With (nullable (Item 0) 2) (Read (load_of 1 (codes "2")) (λ second. Read (load_of 2 (codes "3")) (λ third. Read (load_of 3 (codes "4")) found))) End))) End)
+    (With (nullable (Item 0) 2) (Read (load_of 1 (codes "2")) (λ second.
+    Read (load_of 2 (codes "3")) (λ third. Read (load_of 3 (codes "4")) found))) End))) End)
 
 -- only loader 0 is answered
 abbrev pub first_answered : Reader
@@ -113,30 +125,40 @@ fault_answered load = Some (batch_fault (codes "down"))
 -- each of the three fields is null, and has the fault
 abbrev pub three_faults : AnsweredOf
 three_faults =
-    answered (Holding ObjectOf (Responding (key (codes "a")) NullResponse (Responding (key (codes "b")) NullResponse (Responding (key (codes "c")) NullResponse NoResponses))))
-    (error (codes "down") 2 (key (codes "a") ∷ []) ∷ error (codes "down") 4 (key (codes "b") ∷ []) ∷ error (codes "down") 6 (key (codes "c") ∷ []) ∷ [])
+    answered (Holding ObjectOf (Responding (key (codes "a")) NullResponse (Responding
+    (key (codes "b")) NullResponse (Responding (key (codes "c")) NullResponse NoResponses))))
+    (error (codes "down") 2 (key (codes "a") ∷ []) ∷ error (codes "down") 4 (key (codes "b") ∷ [])
+    ∷ error (codes "down") 6 (key (codes "c") ∷ []) ∷ [])
 
 -- loader 0 folds its keys and is asked two at once; loader 1 has no limit
 abbrev pub two_loaders : List RuleOf
-two_loaders = record { mode = FoldAscii; limit = Some 2 } ∷ record { mode = Exact; limit = None } ∷ []
+two_loaders =
+    record { mode = FoldAscii; limit = Some 2 } ∷ record { mode = Exact; limit = None } ∷ []
 
 abbrev pub five_loads : List Load
-five_loads = load_of 0 (codes "ABC") ∷ record { loader = 1; key = all } ∷ load_of 0 (codes "abc") ∷ load_of 0 (codes "b") ∷ load_of 0 (codes "c") ∷ []
+five_loads = load_of 0 (codes "ABC") ∷ record { loader = 1; key = all } ∷ load_of 0 (codes "abc")
+    ∷ load_of 0 (codes "b") ∷ load_of 0 (codes "c") ∷ []
 
 -- the first of each cache key
 abbrev pub four_loads : List Load
-four_loads = load_of 0 (codes "ABC") ∷ record { loader = 1; key = all } ∷ load_of 0 (codes "b") ∷ load_of 0 (codes "c") ∷ []
+four_loads = load_of 0 (codes "ABC") ∷ record { loader = 1; key = all } ∷ load_of 0 (codes "b")
+    ∷ load_of 0 (codes "c") ∷ []
 
 abbrev pub order : ℕ → List KeyOf → OrderOf
 order loader keys = record { loader = loader; keys = keys }
 
 -- those of loader 0 in pieces of two keys, and then that of loader 1
 abbrev pub three_orders : List OrderOf
-three_orders = order 0 (text (codes "ABC") ∷ text (codes "b") ∷ []) ∷ order 0 (text (codes "c") ∷ []) ∷ order 1 (all ∷ []) ∷ []
+three_orders = order 0 (text (codes "ABC") ∷ text (codes "b") ∷ [])
+    ∷ order 0 (text (codes "c") ∷ []) ∷ order 1 (all ∷ []) ∷ []
 
 -- two keys of loader 0, answered by one item
 abbrev pub one_item_too_few : ReplyOf
-one_item_too_few = record { loader = 0; keys = text (codes "ABC") ∷ text (codes "b") ∷ []; outcomes = outcomes_of 2 (given (rows [] ∷ [])) }
+one_item_too_few = record {
+  loader = 0;
+  keys = text (codes "ABC") ∷ text (codes "b") ∷ [];
+  outcomes = outcomes_of 2 (given (rows [] ∷ []));
+}
 
 abbrev pub one_of_two : OutcomeOf
 one_of_two = batch_fault (codes "the source answered 1 results for 2 keys")

@@ -24,7 +24,8 @@ abbrev mutual
   response (At (Value leaf)) = LeafResponse leaf
   response (At Null) = NullResponse
   response (At (Fault text)) = NullResponse
-  response (Over kind below) = if pulls_down below then NullResponse else Holding kind (responses below)
+  response (Over kind below) =
+      if pulls_down below then NullResponse else Holding kind (responses below)
 
   pub responses : Trees → ResponsesOf
   responses NoMore = NoResponses
@@ -39,7 +40,8 @@ abbrev mutual
 
   pub all_errors : List Part → Trees → List ErrorOf
   all_errors path NoMore = []
-  all_errors path (And position t rest) = errors position.non_null position.place (path ++ position.part ∷ []) t ++ all_errors path rest
+  all_errors path (And position t rest) =
+      errors position.non_null position.place (path ++ position.part ∷ []) t ++ all_errors path rest
 
 abbrev pub completed : Tree → AnsweredOf
 completed t = record { response = response t; errors = errors false (top_position t).place [] t }

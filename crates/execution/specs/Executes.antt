@@ -12,7 +12,8 @@ use Rattle.futures.specs.declared.task.Poll.TheVariants.{Ready, Pending}
 use Rattle.std.specs.declared.alloc.Global.{Global}
 
 -- the text is that of recursive execution, with one load after another answered by the reader
-pub record IsTextOf (text_of : AnsweredOf → List ℕ) (p : Program) (R : Reader) (text : List ℕ) : Type 0 where
+pub record IsTextOf (text_of : AnsweredOf → List ℕ) (p : Program) (R : Reader)
+    (text : List ℕ) : Type 0 where
   pub answered : AnsweredOf
   pub executed : exec p R ≡ Some answered
   pub report : text ≡ text_of answered

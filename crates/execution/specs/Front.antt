@@ -22,7 +22,8 @@ front modes p M = firsts modes (missing (read modes M) (needs p (read modes M)))
 
 -- front(loader, keys, M)
 abbrev pub front_of_keys : List KeyMode → ℕ → List KeyOf → Memory → List Load
-front_of_keys modes loader keys M = firsts modes (missing (read modes M) (map (λ key. record { loader = loader; key = key }) keys))
+front_of_keys modes loader keys M =
+    firsts modes (missing (read modes M) (map (λ key. record { loader = loader; key = key }) keys))
 
 -- the wants with these loads too, in order
 abbrev pub wanting : List WantedOf → List Load → List WantedOf
@@ -39,4 +40,5 @@ modes_wanted wants = map (λ w. w.mode) wants
 -- the keys that are asked of the loader of a number
 abbrev pub keys_for : ℕ → List Load → List KeyOf
 keys_for loader [] = []
-keys_for loader (l ∷ ls) = if l.loader == loader then l.key ∷ keys_for loader ls else keys_for loader ls
+keys_for loader (l ∷ ls) =
+    if l.loader == loader then l.key ∷ keys_for loader ls else keys_for loader ls

@@ -75,7 +75,8 @@ pub record FitsItems (item : ℕ → KeyOf → ItemOf) (log : LogOf) : Type 0 wh
   pub held : HoldsItems (modes_of log.rules) item log.start
 
 -- over sources that answer key by key, the log is lawful, and so are these other rounds from its start to this other end
-pub record AreBothLawful (item : ℕ → KeyOf → ItemOf) (log : LogOf) (others : List (List ReplyOf)) (last : Memory) : Type 0 where
+pub record AreBothLawful (item : ℕ → KeyOf → ItemOf) (log : LogOf) (others : List (List ReplyOf))
+    (last : Memory) : Type 0 where
   pub one : IsLawfulLog (key_by_key item) log
   pub other : IsLawful (key_by_key item) log.rules log.program log.start others last
 
@@ -94,13 +95,15 @@ abbrev pub log_cells : LogOf → List Cell
 log_cells log = asked_cells log.rules log.program log.start log.rounds
 
 -- one reply to each batch of the front, where no limit is 0
-pub record IsLimitedRound (rules : List RuleOf) (p : Program) (M : Memory) (round : List ReplyOf) : Type 0 where
+pub record IsLimitedRound (rules : List RuleOf) (p : Program) (M : Memory)
+    (round : List ReplyOf) : Type 0 where
   pub limited : AreLimited rules
   pub replies : AreReplies any_answer (round_orders rules (front (modes_of rules) p M)) round
 
 -- the memory after the first replies is that after the second
 abbrev pub AgreeAfter : List RuleOf → Memory → List ReplyOf → List ReplyOf → Type 0
-AgreeAfter rules M round other = IsSameMemory (after_round rules M round) (after_round rules M other)
+AgreeAfter rules M round other =
+    IsSameMemory (after_round rules M round) (after_round rules M other)
 
 -- gives what a round that asks for these loads asks
 abbrev pub round_cells : List RuleOf → List Load → List Cell
@@ -117,6 +120,7 @@ pub record TwiceOf : Type 0 where
 
 -- these are steps from a memory, and both rounds ask for the cell
 pub record AsksTwice (rules : List RuleOf) (M : Memory) (t : TwiceOf) : Type 0 where
-  pub steps : AreSteps any_answer rules M (AskedLoads t.first t.replies ∷ (t.between ++ AskedLoads t.later t.others ∷ []))
+  pub steps : AreSteps any_answer rules M
+      (AskedLoads t.first t.replies ∷ (t.between ++ AskedLoads t.later t.others ∷ []))
   pub first : IsOneOf t.cell (round_cells rules t.first)
   pub later : IsOneOf t.cell (round_cells rules t.later)

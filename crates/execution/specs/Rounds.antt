@@ -47,7 +47,8 @@ key_by_key item loader keys answer = answer ≡ given (map (item loader) keys)
 -- *Batches*, for loaders numbered from n on
 abbrev pub orders_from : ℕ → List RuleOf → List Load → List OrderOf
 orders_from n [] ls = []
-orders_from n (rule ∷ rules) ls = map (order_of n) (batches rule.limit (keys_for n ls)) ++ orders_from (suc n) rules ls
+orders_from n (rule ∷ rules) ls =
+    map (order_of n) (batches rule.limit (keys_for n ls)) ++ orders_from (suc n) rules ls
 
 -- *Batches*: for each loader in order of number its keys, cut in order into pieces of the limit's length
 abbrev pub round_orders : List RuleOf → List Load → List OrderOf
@@ -55,7 +56,8 @@ round_orders rules ls = orders_from 0 rules ls
 
 -- A reply has the order's loader and keys, and the outcomes of an answer that the source may give: item i for key i, or,
 -- where the batch failed as a whole or the list has another length, the batch fault for each key.
-pub record IsReply (may : ℕ → List KeyOf → AnswerOf → Type 0) (order : OrderOf) (reply : ReplyOf) : Type 0 where
+pub record IsReply (may : ℕ → List KeyOf → AnswerOf → Type 0) (order : OrderOf)
+    (reply : ReplyOf) : Type 0 where
   pub loader : reply.loader ≡ order.loader
   pub keys : reply.keys ≡ order.keys
   pub answer : AnswerOf
@@ -108,7 +110,9 @@ IsSpared modes p end N N' loader key =
 abbrev pub IsSparing : List KeyMode → Program → Memory → Memory → List Memory → Type 0
 IsSparing modes p end N [] = front modes p N ≡ []
 IsSparing modes p end N (N' ∷ Ns) =
-    ((loader : ℕ) (key : KeyOf) → (N' loader key ≡ N loader key) ⊎ IsSpared modes p end N N' loader key) × IsSparing modes p end N' Ns
+    ((loader : ℕ) (key : KeyOf)
+    → (N' loader key ≡ N loader key) ⊎ IsSpared modes p end N N' loader key)
+    × IsSparing modes p end N' Ns
 
 -- no limit is 0, which no loader has
 abbrev pub AreLimited : List RuleOf → Type 0
@@ -151,4 +155,5 @@ one_unless_empty (l ∷ ls) = 1
 -- among the rounds from a memory, those in which the program's own front isn't empty
 abbrev pub own_rounds : List RuleOf → Program → Memory → List (List ReplyOf) → ℕ
 own_rounds rules p M [] = 0
-own_rounds rules p M (round ∷ rounds) = one_unless_empty (front (modes_of rules) p M) + own_rounds rules p (after_round rules M round) rounds
+own_rounds rules p M (round ∷ rounds) = one_unless_empty (front (modes_of rules) p M)
+    + own_rounds rules p (after_round rules M round) rounds

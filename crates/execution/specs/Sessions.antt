@@ -109,9 +109,11 @@ IsAskedAgainRightly modes cell replies between = (list_any (clears cell) between
 abbrev pub asked_cells : List RuleOf → Program → Memory → List (List ReplyOf) → List Cell
 asked_cells rules p M [] = []
 asked_cells rules p M (round ∷ rounds) =
-    order_cells (modes_of rules) (round_orders rules (front (modes_of rules) p M)) ++ asked_cells rules p (after_round rules M round) rounds
+    order_cells (modes_of rules) (round_orders rules (front (modes_of rules) p M))
+    ++ asked_cells rules p (after_round rules M round) rounds
 
 -- the pair is in a reply of one of the rounds
 abbrev pub IsAnsweredIn : List KeyMode → PairOf → List (List ReplyOf) → Type 0
 IsAnsweredIn modes pair rounds =
-    (round : List ReplyOf) × IsOneOf round rounds × (reply : ReplyOf) × IsOneOf reply round × IsOneOf pair (reply_pairs (mode_at modes reply.loader) reply.loader reply.keys reply.outcomes)
+    (round : List ReplyOf) × IsOneOf round rounds × (reply : ReplyOf) × IsOneOf reply round
+    × IsOneOf pair (reply_pairs (mode_at modes reply.loader) reply.loader reply.keys reply.outcomes)

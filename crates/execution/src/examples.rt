@@ -12,10 +12,13 @@ ghost use Rattle.execution.specs.Examples.{two_loaders, five_loads, four_loads, 
 /// Nulls and errors. A null at a non-null type makes the nearest nullable parent null, up to `data`; errors of siblings
 /// stand beside it, once each, in depth-first order.
 pub fn completed_by_hand()
-    ensures field { exec user_without_name unanswered ≡ Some user_is_null }
-    ensures whole { exec users_and_one_without_name unanswered ≡ Some data_is_null }
+    ensures field { exec user_without_name unanswered
+        ≡ Some user_is_null }
+    ensures whole { exec users_and_one_without_name
+        unanswered ≡ Some data_is_null }
     ensures item { exec nullable_users unanswered ≡ Some item_is_null }
-    ensures siblings { exec siblings_under_a_null unanswered ≡ Some each_has_its_error }
+    ensures siblings { exec siblings_under_a_null unanswered
+        ≡ Some each_has_its_error }
 {}
 
 /// Loads are read depth first, past a position that is open; a fault of a load is an error of its position.
@@ -26,14 +29,17 @@ pub fn read_by_hand()
     ensures more { needs three_loads first_answered ≡ load_of 0 (codes "1") ∷ load_of 0
         (codes "2") ∷ load_of 1 (codes "3") ∷ load_of 0 (codes "1") ∷ [] }
     ensures chain { chain three_loads first_answered ≡ 2 }
-    ensures longer { chain through_four_loaders fault_answered ≡ 4 }
-    ensures faults { exec three_loads fault_answered ≡ Some three_faults }
+    ensures longer { chain through_four_loaders
+        fault_answered ≡ 4 }
+    ensures faults { exec three_loads fault_answered
+        ≡ Some three_faults }
 {}
 
 /// A front has of equal cache keys the first; a round asks each loader's keys in order, in pieces of its limit; and a list
 /// of another length than the keys gives each key the batch fault that says so.
 pub fn rounds_by_hand()
-    ensures first { firsts (modes_of two_loaders) five_loads ≡ four_loads }
+    ensures first { firsts (modes_of two_loaders) five_loads
+        ≡ four_loads }
     ensures orders { round_orders two_loaders (firsts (modes_of two_loaders) five_loads)
         ≡ three_orders }
     ensures folded { after_round two_loaders nothing_known

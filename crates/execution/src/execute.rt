@@ -51,8 +51,10 @@ pub trait Execute<'p, E> {
         memory: &Memory,
         wants: &mut Wants,
     ) -> Result<Poll<String>, AllocError>
-        requires can { CanExecute (loaders self.now) memory.now wants.old }
-        requires fits { fits self.now progress.old memory.now }
+        requires can { CanExecute
+            (loaders self.now) memory.now wants.old }
+        requires fits { fits self.now
+            progress.old memory.now }
         ensures executed { IfOk result
             (IsExecuted (text_of self.now) wants.old wants.new (program self.now) memory.now) }
         ensures fits { OnOk result (FitsFrom (fits self.now progress.new) memory.now) }

@@ -18,10 +18,12 @@ ghost use Rattle.execution.specs.Executed.{exec, nulls};
 /// *Completion* (sections 6.4.3 and 6.4.4 of the GraphQL specification of October 2021): what `exec` computes bottom up is
 /// the one answer that the sentence on paths and the list of all positions allow.
 pub fn completion()
-    ensures paths { (t : Tree) → (nulls t ≡ true) ↔ IsNullAt t }
+    ensures paths { (t : Tree)
+        → (nulls t ≡ true) ↔ IsNullAt t }
     ensures answer { (p : Program) (R : Reader) (answered : AnsweredOf)
         → (exec p R ≡ Some answered) ↔ IsCompletion (tree p R) answered }
-    ensures one { (t : Tree) (a b : AnsweredOf) → IsCompletion t a → IsCompletion t b → a ≡ b }
+    ensures one { (t : Tree) (a b : AnsweredOf)
+        → IsCompletion t a → IsCompletion t b → a ≡ b }
 {}
 
 /// *Monotone execution*: execution is defined exactly where nothing that it needs is missing, and is the same over a
@@ -47,7 +49,8 @@ pub fn suspended_programs()
         → Fits suspended p (read modes M) → front modes suspended M ≡ front modes p M }
     ensures left { (suspended p : Program) (R : Reader)
         → Fits suspended p R → Fits (rest suspended R) p R }
-    ensures holds { (p : Program) (R : Reader) → tree (rest p R) unanswered ≡ tree p R }
+    ensures holds { (p : Program) (R : Reader)
+        → tree (rest p R) unanswered ≡ tree p R }
 {}
 
 /// Wants are the front. Adding the needed and missing loads, in the order in which an evaluation meets them, adds only the
@@ -75,7 +78,8 @@ pub fn stored_is_primed()
 /// *Rounds within the chain*: whatever the sources answer, a lawful log has at most as many rounds as the load chain over
 /// its last memory has loads.
 pub fn rounds_within_the_chain()
-    ensures { (log : LogOf) → IsBoundedLog log → length log.rounds ≤ longest_chain log }
+    ensures { (log : LogOf) → IsBoundedLog log
+        → length log.rounds ≤ longest_chain log }
 {}
 
 /// *No sparing run is shorter*: whatever the sources answer, a run that asks in each step for any part of what is needed and
@@ -95,8 +99,8 @@ pub fn shared_rounds_are_few()
         → IsPartOf p whole → front modes whole end ≡ [] → front modes p end ≡ [] }
     ensures chain { (log part : LogOf) → IsBoundedLog log
         → IsOfPart log part → count_of_own part ≤ longest_chain part }
-    ensures sparing { (log part : LogOf) (steps : List Memory) → IsBoundedLog log → IsOfPart log part
-        → IsSparingRun part steps → count_of_own part ≤ length steps }
+    ensures sparing { (log part : LogOf) (steps : List Memory) → IsBoundedLog log
+        → IsOfPart log part → IsSparingRun part steps → count_of_own part ≤ length steps }
     ensures greatest { (log : _) → IsSharedLog log → 0 < length log.rounds
         → (part : LogOf) × IsOfPart log part × (count_of_own part ≡ length log.rounds) }
 {}
@@ -109,8 +113,8 @@ pub fn one_lawful_log()
         → AreBothLawful item log others last → log.rounds ≡ others }
     ensures memory { (item : _) (log : LogOf) (others : List (List ReplyOf)) (last : Memory)
         → AreBothLawful item log others last → IsSameMemory log.end last }
-    ensures direct { (item : _) (log : LogOf) → FitsItems item log → IsLawfulLog (key_by_key item) log
-        → executed log ≡ exec log.program (direct item) }
+    ensures direct { (item : _) (log : LogOf) → FitsItems item log
+        → IsLawfulLog (key_by_key item) log → executed log ≡ exec log.program (direct item) }
 {}
 
 /// Within one log no loader is asked twice for one cache key, whatever the sources answer, and each pair of the last memory
@@ -118,9 +122,10 @@ pub fn one_lawful_log()
 pub fn asked_once_and_answered()
     ensures once { (log : LogOf) → AreLimited log.rules
         → HasRounds any_answer log → AreApart (log_cells log) }
-    ensures answered { (log : LogOf) (pair : PairOf) → HasRounds any_answer log → HasPair log.end pair
-        → HasPair log.start pair ⊎ IsAnsweredBy log pair }
-    ensures kept { (log : LogOf) → HasRounds any_answer log → Extends log.start log.end }
+    ensures answered { (log : LogOf) (pair : PairOf) → HasRounds any_answer log
+        → HasPair log.end pair → HasPair log.start pair ⊎ IsAnsweredBy log pair }
+    ensures kept { (log : LogOf) → HasRounds any_answer log
+        → Extends log.start log.end }
 {}
 
 /// *No key twice*, over any steps of a session. The rounds of an answer, and that of a list of keys, ask for loads that the
@@ -132,8 +137,8 @@ pub fn no_key_twice()
         → AreMissing modes M (front modes p M) }
     ensures keys { (modes : List KeyMode) (loader : ℕ) (keys : List KeyOf) (M : Memory)
         → AreMissing modes M (front_of_keys modes loader keys M) }
-    ensures together { (rules : _) (M : _) (loads : List Load) → AreLimited rules → AreMissing (modes_of rules) M loads
-        → AreApart (round_cells rules loads) }
+    ensures together { (rules : _) (M : _) (loads : List Load) → AreLimited rules
+        → AreMissing (modes_of rules) M loads → AreApart (round_cells rules loads) }
     ensures again { (rules : _) (M : _) (t : TwiceOf) → AreLimited rules → AsksTwice rules M t
         → IsAskedAgainRightly (modes_of rules) t.cell t.replies t.between }
 {}

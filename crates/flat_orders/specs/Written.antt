@@ -53,7 +53,8 @@ AreOfSize lists counts shapes ends bytes = (length counts ≡ length lists)
     × (length ends ≡ length (all_texts lists)) × (length bytes ≡ size_of (all_texts lists))
 
 -- these buffers are the lists, written
-pub record AreWritten (lists : List (List KeyOf)) (counts shapes : List ℕ) (texts : List (List ℕ)) : Type 0 where
+pub record AreWritten (lists : List (List KeyOf)) (counts shapes : List ℕ)
+    (texts : List (List ℕ)) : Type 0 where
   pub counts_are : counts ≡ map length lists
   pub shapes_are : shapes ≡ map shape_of (keys_in lists)
   pub texts_are : texts ≡ all_texts lists

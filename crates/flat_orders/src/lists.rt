@@ -47,7 +47,8 @@ impl Model for KeyLists {
 fn write_key(shapes: &mut Vec<u32>, texts: &mut TextBuffer, key: &Key) -> Result<(), AllocError>
     ensures shape { OnOk result
         (shapes.new.items ≡ shapes.old.items ++ shape_of (key_of key.now) ∷ []) }
-    ensures texts { OnOk result (texts.new ≡ texts.old ++ texts_in (key_of key.now)) }
+    ensures texts { OnOk result (texts.new
+        ≡ texts.old ++ texts_in (key_of key.now)) }
 {
     match key {
         Key::All => shapes.push(0)?,
@@ -68,7 +69,8 @@ fn write_key(shapes: &mut Vec<u32>, texts: &mut TextBuffer, key: &Key) -> Result
 fn write_keys(shapes: &mut Vec<u32>, texts: &mut TextBuffer, keys: &[Key]) -> Result<(), AllocError>
     ensures shapes { OnOk result
         (shapes.new.items ≡ shapes.old.items ++ map shape_of (map key_of keys.now)) }
-    ensures texts { OnOk result (texts.new ≡ texts.old ++ flat_map texts_in (map key_of keys.now)) }
+    ensures texts { OnOk result (texts.new ≡ texts.old
+        ++ flat_map texts_in (map key_of keys.now)) }
 {
     for key in keys {
         write_key(shapes, texts, key)?;
@@ -96,7 +98,8 @@ impl KeyLists {
     ///
     /// When out of memory, or where there would be more keys or bytes than 32 bits count.
     pub fn with(self, keys: &[Key]) -> Result<KeyLists, AllocError>
-        ensures { IfOk result (λ lists. lists ≡ self ++ map key_of keys.now ∷ []) }
+        ensures { IfOk result (λ lists.
+            lists ≡ self ++ map key_of keys.now ∷ []) }
     {
         let KeyLists {
             mut counts,
@@ -118,9 +121,12 @@ impl KeyLists {
     /// Returns how many elements the buffers have to hold that [`copy_to`](KeyLists::copy_to) fills.
     pub fn sizes(&self) -> KeySizes
         ensures lists { result.lists ≡ length self.now }
-        ensures keys { result.keys ≡ length (keys_in self.now) }
-        ensures texts { result.texts ≡ length (all_texts self.now) }
-        ensures bytes { result.bytes ≡ size_of (all_texts self.now) }
+        ensures keys { result.keys
+            ≡ length (keys_in self.now) }
+        ensures texts { result.texts
+            ≡ length (all_texts self.now) }
+        ensures bytes { result.bytes
+            ≡ size_of (all_texts self.now) }
     {
         KeySizes {
             lists: self.counts.len(),
@@ -132,7 +138,8 @@ impl KeyLists {
 
     /// Returns how many keys the list of this number has, if there is one.
     pub fn count(&self, number: usize) -> Option<usize>
-        ensures { result ≡ option_map (λ keys. length keys) (slice_get self.now number) }
+        ensures { result ≡ option_map (λ keys. length keys)
+            (slice_get self.now number) }
     {
         if number < self.counts.len() {
             Some(self.counts[number] as usize)

@@ -75,16 +75,20 @@ impl FlatOrders {
     /// order.
     pub fn sizes(&self) -> KeySizes
         ensures orders { result.lists ≡ length self.now }
-        ensures keys { result.keys ≡ length (keys_in (map keys_of self.now)) }
-        ensures texts { result.texts ≡ length (all_texts (map keys_of self.now)) }
-        ensures bytes { result.bytes ≡ size_of (all_texts (map keys_of self.now)) }
+        ensures keys { result.keys
+            ≡ length (keys_in (map keys_of self.now)) }
+        ensures texts { result.texts
+            ≡ length (all_texts (map keys_of self.now)) }
+        ensures bytes { result.bytes
+            ≡ size_of (all_texts (map keys_of self.now)) }
     {
         self.keys.sizes()
     }
 
     /// Returns how many keys the order of this number has, if there is one.
     pub fn count(&self, number: usize) -> Option<usize>
-        ensures { result ≡ option_map (λ o. length (keys_of o)) (slice_get self.now number) }
+        ensures { result ≡ option_map (λ o. length
+            (keys_of o)) (slice_get self.now number) }
     {
         self.keys.count(number)
     }

@@ -59,7 +59,8 @@ impl TextBuffer {
 
     /// Adds a text at the end. When out of memory, or where the texts would have 4 GiB together, it is as it was.
     pub fn push(&mut self, text: &str) -> Result<(), AllocError>
-        ensures ok { OnOk result (self.new ≡ self.old ++ text.now ∷ []) }
+        ensures ok { OnOk result
+            (self.new ≡ self.old ++ text.now ∷ []) }
         ensures err { OnErr result (self.new ≡ self.old) }
     {
         self.text.reserve(text.len())?;
@@ -79,8 +80,10 @@ impl TextBuffer {
     pub fn copy_to(&self, ends: &mut [u32], bytes: &mut [u8]) -> Result<(), WrongSize>
         ensures sizes { IsOk result
             ↔ (length ends.old ≡ length self.now) × (length bytes.old ≡ size_of self.now) }
-        ensures copied { OnOk result (cut bytes.new 0 ends.new ≡ self.now) }
-        ensures kept { OnErr result ((ends.new ≡ ends.old) × (bytes.new ≡ bytes.old)) }
+        ensures copied { OnOk result
+            (cut bytes.new 0 ends.new ≡ self.now) }
+        ensures kept { OnErr result ((ends.new ≡ ends.old)
+            × (bytes.new ≡ bytes.old)) }
     {
         if ends.len() != self.ends.len() || bytes.len() != self.text.len() {
             return Err(WrongSize);

@@ -51,13 +51,15 @@ faults_taken count = if count == key_mark then 1 else (if count == batch_mark th
 abbrev pub outcome_said : ℕ → List RowOf → List (List ℕ) → OutcomeOf
 outcome_said count all faults =
     if count == key_mark then known (key_fault (get_or faults 0 []))
-    else (if count == batch_mark then batch_fault (get_or faults 0 []) else known (rows (take count all)))
+    else (if count == batch_mark then batch_fault (get_or faults 0 [])
+    else known (rows (take count all)))
 
 -- an outcome for each number of rows, from what those before it left
 unfoldable pub outcomes_of : List ℕ → List RowOf → List (List ℕ) → List OutcomeOf
 outcomes_of [] all faults = []
 outcomes_of (count ∷ counts) all faults =
-    outcome_said count all faults ∷ outcomes_of counts (drop (rows_taken count) all) (drop (faults_taken count) faults)
+    outcome_said count all faults
+    ∷ outcomes_of counts (drop (rows_taken count) all) (drop (faults_taken count) faults)
 
 -- the outcomes that these numbers and texts say: how many rows each key has, how many columns each row has, the texts of the rows, and
 -- the faults; the first row comes after one of no columns

@@ -101,7 +101,8 @@ AreOfSize outcomes counts widths ends bytes = (length counts ≡ length outcomes
     × (length ends ≡ length (row_texts outcomes)) × (length bytes ≡ size_of (row_texts outcomes))
 
 -- these buffers are the outcomes, written
-pub record AreWritten (outcomes : List OutcomeOf) (counts widths : List ℕ) (texts faults : List (List ℕ)) : Type 0 where
+pub record AreWritten (outcomes : List OutcomeOf) (counts widths : List ℕ)
+    (texts faults : List (List ℕ)) : Type 0 where
   pub few : All (λ o. IsFew (rows_in o)) outcomes
   pub counts_are : counts ≡ map count_of outcomes
   pub widths_are : widths ≡ widths_of [] (all_rows outcomes)

@@ -52,13 +52,14 @@ fn write_outcome<'a>(
     before: Option<&'a Row>,
     outcome: &'a Outcome,
 ) -> Result<Option<&'a Row>, AllocError>
-    ensures few { OnOk result (IsFew (rows_in (outcome_of outcome.now))) }
+    ensures few { OnOk result
+        (IsFew (rows_in (outcome_of outcome.now))) }
     ensures count { let count = count_of (outcome_of outcome.now) in
         OnOk result (buffers.new.counts.items ≡ buffers.old.counts.items ++ count ∷ []) }
-    ensures widths { let numbers = widths_of (row_before before.entry) (rows_in (outcome_of outcome.now)) in
-        OnOk result (buffers.new.widths.items ≡ buffers.old.widths.items ++ numbers) }
-    ensures texts { let texts = texts_of (row_before before.entry) (rows_in (outcome_of outcome.now)) in
-        OnOk result (buffers.new.texts ≡ buffers.old.texts ++ texts) }
+    ensures widths { OnOk result (buffers.new.widths.items ≡ buffers.old.widths.items
+        ++ widths_of (row_before before.entry) (rows_in (outcome_of outcome.now))) }
+    ensures texts { OnOk result (buffers.new.texts ≡ buffers.old.texts
+        ++ texts_of (row_before before.entry) (rows_in (outcome_of outcome.now))) }
     ensures faults { let faults = faults_in (outcome_of outcome.now) in
         OnOk result (buffers.new.faults ≡ buffers.old.faults ++ faults) }
     ensures last { let rows = rows_in (outcome_of outcome.now) in
@@ -110,7 +111,8 @@ impl FlatOutcomes {
     /// When out of memory, or where a key has 4,294,967,294 rows or more, a row 4,294,967,295 columns or more, or the texts of the rows or
     /// those of the faults 4 GiB together.
     pub fn of(alloc: Global, outcomes: &[Outcome]) -> Result<FlatOutcomes, AllocError>
-        ensures { IfOk result (λ flat. flat ≡ map outcome_of outcomes.now) }
+        ensures { IfOk result
+            (λ flat. flat ≡ map outcome_of outcomes.now) }
     {
         let mut buffers = Buffers {
             counts: Vec::with_capacity(alloc, outcomes.len())?,
@@ -129,11 +131,16 @@ impl FlatOutcomes {
     /// [`copy_faults_to`](FlatOutcomes::copy_faults_to) fill.
     pub fn sizes(&self) -> OutcomeSizes
         ensures keys { result.keys ≡ length self.now }
-        ensures rows { result.rows ≡ length (all_rows self.now) }
-        ensures texts { result.texts ≡ length (row_texts self.now) }
-        ensures bytes { result.bytes ≡ size_of (row_texts self.now) }
-        ensures faults { result.faults ≡ length (all_faults self.now) }
-        ensures fault_bytes { result.fault_bytes ≡ size_of (all_faults self.now) }
+        ensures rows { result.rows
+            ≡ length (all_rows self.now) }
+        ensures texts { result.texts
+            ≡ length (row_texts self.now) }
+        ensures bytes { result.bytes
+            ≡ size_of (row_texts self.now) }
+        ensures faults { result.faults
+            ≡ length (all_faults self.now) }
+        ensures fault_bytes { result.fault_bytes
+            ≡ size_of (all_faults self.now) }
     {
         OutcomeSizes {
             keys: self.buffers.counts.len(),
@@ -160,9 +167,10 @@ impl FlatOutcomes {
         ends: &mut [u32],
         bytes: &mut [u8],
     ) -> Result<(), WrongSize>
-        ensures sizes { IsOk result ↔ AreOfSize self.now counts.old widths.old ends.old bytes.old }
-        ensures copied { let texts = cut bytes.new 0 ends.new in
-            OnOk result (outcomes_said counts.new widths.new texts (all_faults self.now) ≡ self.now) }
+        ensures sizes { IsOk result ↔ AreOfSize self.now
+            counts.old widths.old ends.old bytes.old }
+        ensures copied { let texts = cut bytes.new 0 ends.new in OnOk result
+            (outcomes_said counts.new widths.new texts (all_faults self.now) ≡ self.now) }
         ensures kept { OnErr result ((counts.new ≡ counts.old) × (widths.new ≡ widths.old)
             × (ends.new ≡ ends.old) × (bytes.new ≡ bytes.old)) }
     {
@@ -185,7 +193,8 @@ impl FlatOutcomes {
         ensures sizes { let faults = all_faults self.now in
             IsOk result ↔ (length ends.old ≡ length faults) × (length bytes.old ≡ size_of faults) }
         ensures copied { OnOk result (cut bytes.new 0 ends.new ≡ all_faults self.now) }
-        ensures kept { OnErr result ((ends.new ≡ ends.old) × (bytes.new ≡ bytes.old)) }
+        ensures kept { OnErr result ((ends.new ≡ ends.old)
+            × (bytes.new ≡ bytes.old)) }
     {
         self.buffers.faults.copy_to(ends, bytes)
     }

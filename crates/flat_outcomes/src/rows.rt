@@ -40,7 +40,8 @@ fn share_columns(one: &Row, other: &Row) -> bool
 
 // Tells whether a row has the columns of the one before, which has none where there is none.
 fn follows(before: Option<&Row>, row: &Row) -> bool
-    ensures { result ≡ have_same_names (row_before before.entry) row.now }
+    ensures { result ≡ have_same_names
+        (row_before before.entry) row.now }
 {
     match before {
         Some(before) => share_columns(before, row),
@@ -50,7 +51,8 @@ fn follows(before: Option<&Row>, row: &Row) -> bool
 
 // Writes the names of a row's columns at the end. When out of memory, nothing is known of what was written.
 fn write_names(texts: &mut TextBuffer, row: &Row) -> Result<(), AllocError>
-    ensures { OnOk result (texts.new ≡ texts.old ++ names_of row.now) }
+    ensures { OnOk result
+        (texts.new ≡ texts.old ++ names_of row.now) }
 {
     for column in 0..row.width() {
         texts.push(row.name(column))?;
@@ -60,7 +62,8 @@ fn write_names(texts: &mut TextBuffer, row: &Row) -> Result<(), AllocError>
 
 // Writes a row's fields at the end. When out of memory, nothing is known of what was written.
 fn write_fields(texts: &mut TextBuffer, row: &Row) -> Result<(), AllocError>
-    ensures { OnOk result (texts.new ≡ texts.old ++ fields_of row.now) }
+    ensures { OnOk result
+        (texts.new ≡ texts.old ++ fields_of row.now) }
 {
     for column in 0..row.width() {
         texts.push(row.field(column))?;

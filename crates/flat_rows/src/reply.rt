@@ -1,11 +1,10 @@
 //! The reply to one order.
 ghost use Rattle.std.specs.Prelude.{◌≡◌, ◌<◌, ◌≤◌, ◌+◌, ◌*◌, ◌^◌, ◌↔◌, IsTrue, IfOk, IfErr, IfSome, IfNone, OnOk, map, take, drop, length, []};
 ghost use Rattle.std.specs.Arc.{arc_value};
-ghost use Rattle.load_memory.specs.Cells.{pieces};
 ghost use Rattle.load_memory.specs.Outcomes.{item_of};
 ghost use Rattle.load_memory.specs.Rows.{draft_with_names, draft_with_row, paired};
 ghost use Rattle.flat_rows.specs.Faults.{CountFault, ReplyFault};
-ghost use Rattle.flat_rows.specs.Replies.{LacksColumn, faults_in, item_said, items_of, reply_items, rows_in, texts_wanted, total_faults, total_rows};
+ghost use Rattle.flat_rows.specs.Replies.{LacksColumn, faults_in, item_said, items_of, reply_items, rows_in, sheet_said, texts_wanted, total_faults, total_rows};
 
 use crate::fault::FlatFault;
 use crate::texts::FlatTexts;
@@ -41,8 +40,10 @@ struct Totals {
 fn totals_of(counts: &[u32]) -> Option<Totals>
     ensures some { IfSome result (λ t.
         (t.rows ≡ total_rows counts.now) × (t.faults ≡ total_faults counts.now)) }
-    ensures few { IfSome result (λ _. total_rows counts.now < 2 ^ 32) }
-    ensures none { IfNone result (2 ^ 32 ≤ total_rows counts.now) }
+    ensures few { IfSome result
+        (λ _. total_rows counts.now < 2 ^ 32) }
+    ensures none { IfNone result
+        (2 ^ 32 ≤ total_rows counts.now) }
 {
     let mut rows = 0u32;
     let mut faults = 0usize;
@@ -63,7 +64,8 @@ fn with_columns(
     texts: &FlatTexts<'_>,
 ) -> Result<SheetBuilder, AllocError>
     requires { columns ≤ length texts.now }
-    ensures { IfOk result (λ b. b ≡ draft_with_names (take columns texts.now)) }
+    ensures { IfOk result (λ b.
+        b ≡ draft_with_names (take columns texts.now)) }
 {
     let mut sheet = SheetBuilder::new(alloc);
     for i in 0..columns {
@@ -75,7 +77,8 @@ fn with_columns(
 // Adds a row of the texts from a place on.
 fn add_row(sheet: &mut SheetBuilder, texts: &FlatTexts<'_>, at: usize) -> Result<(), AllocError>
     requires none { sheet.old.begun ≡ [] }
-    requires within { at + length sheet.old.names ≤ length texts.now }
+    requires within { at + length sheet.old.names
+        ≤ length texts.now }
     requires room { length sheet.old.rows + 1 < 2 ^ 32 }
     ensures { OnOk result
         (sheet.new ≡ draft_with_row sheet.old (take (length sheet.old.names) (drop at texts.now))) }
@@ -96,7 +99,8 @@ fn sheet_of(
     texts: &FlatTexts<'_>,
 ) -> Result<Sheet, AllocError>
     requires { columns + rows * columns ≤ length texts.now }
-    ensures { IfOk result (λ s. s ≡ record { names = take columns texts.now; rows = pieces columns rows (drop columns texts.now) }) }
+    ensures { IfOk result
+        (λ s. s ≡ sheet_said columns rows texts.now) }
 {
     let _texts = texts.len();
     let mut sheet = with_columns(alloc, columns, texts)?;
@@ -110,15 +114,18 @@ fn sheet_of(
 
 // The sheet, to be shared by its rows.
 fn share_sheet(alloc: Global, sheet: Sheet) -> Result<Arc<Sheet>, AllocError>
-    ensures { IfOk result (λ shared. arc_value shared ≡ sheet) }
+    ensures { IfOk result
+        (λ shared. arc_value shared ≡ sheet) }
 {
     Ok(Arc::new(alloc, sheet)?)
 }
 
 // Returns `count` rows of a sheet, from the row `at` on.
 fn rows_at(alloc: Global, sheet: &Arc<Sheet>, at: u32, count: u32) -> Result<Vec<Row>, AllocError>
-    requires { at + count ≤ length (arc_value sheet.now).rows }
-    ensures { let s = arc_value sheet.now in IfOk result (λ r. r.items ≡ map (paired s.names) (take count (drop at s.rows))) }
+    requires { at + count
+        ≤ length (arc_value sheet.now).rows }
+    ensures { let s = arc_value sheet.now in
+        IfOk result (λ r. r.items ≡ map (paired s.names) (take count (drop at s.rows))) }
 {
     let _rows = sheet.len();
     let mut rows = Vec::with_capacity(alloc, count as usize)?;
@@ -130,7 +137,8 @@ fn rows_at(alloc: Global, sheet: &Arc<Sheet>, at: u32, count: u32) -> Result<Vec
 
 // Returns how many rows a key takes, and how many faults.
 fn rows_and_faults(count: u32) -> (u32, usize)
-    ensures { (result.0 ≡ rows_in count) × (result.1 ≡ faults_in count) }
+    ensures { (result.0 ≡ rows_in count)
+        × (result.1 ≡ faults_in count) }
 {
     if count == KEY_FAULT {
         (0, 1)
@@ -148,9 +156,12 @@ fn item(
     texts: &FlatTexts<'_>,
     fault: usize,
 ) -> Result<Item, AllocError>
-    requires rows { at + rows_in count ≤ length (arc_value sheet.now).rows }
-    requires faults { fault + faults_in count ≤ length texts.now }
-    ensures { let s = arc_value sheet.now in IfOk result (λ i. item_of i ≡ item_said s.names (drop at s.rows) (drop fault texts.now) count) }
+    requires rows { at + rows_in count
+        ≤ length (arc_value sheet.now).rows }
+    requires faults { fault + faults_in count
+        ≤ length texts.now }
+    ensures { let s = arc_value sheet.now in IfOk result
+        (λ i. item_of i ≡ item_said s.names (drop at s.rows) (drop fault texts.now) count) }
 {
     if count == KEY_FAULT {
         Ok(Item::KeyFault(String::from_str(alloc, texts.get(fault))?))
@@ -167,9 +178,12 @@ fn items(
     texts: &FlatTexts<'_>,
     faults: usize,
 ) -> Result<Vec<Item>, AllocError>
-    requires rows { total_rows counts.now ≡ length (arc_value sheet.now).rows }
-    requires faults { faults + total_faults counts.now ≤ length texts.now }
-    ensures { let s = arc_value sheet.now in IfOk result (λ r. map item_of r.items ≡ items_of s.names s.rows (drop faults texts.now) counts.now) }
+    requires rows { total_rows counts.now
+        ≡ length (arc_value sheet.now).rows }
+    requires faults { faults + total_faults counts.now
+        ≤ length texts.now }
+    ensures { let s = arc_value sheet.now in IfOk result
+        (λ r. map item_of r.items ≡ items_of s.names s.rows (drop faults texts.now) counts.now) }
 {
     let (_rows, _texts) = (sheet.len(), texts.len());
     let mut items = Vec::with_capacity(alloc, counts.len())?;
@@ -206,8 +220,10 @@ fn wanted(columns: usize, totals: &Totals) -> Option<usize>
 fn check_counts(columns: usize, counts: &[u32], texts: usize) -> Result<Totals, FlatFault>
     ensures rows { IfOk result (λ t.
         (t.rows ≡ total_rows counts.now) × (t.faults ≡ total_faults counts.now)) }
-    ensures texts { IfOk result (λ _. texts ≡ texts_wanted columns counts.now) }
-    ensures fault { IfErr result (CountFault columns counts.now texts) }
+    ensures texts { IfOk result
+        (λ _. texts ≡ texts_wanted columns counts.now) }
+    ensures fault { IfErr result
+        (CountFault columns counts.now texts) }
 {
     let Some(totals) = totals_of(counts) else {
         return Err(FlatFault::TooManyRows);
@@ -235,9 +251,10 @@ impl FlatReply<'_> {
     /// The first of these that is true: `NotUtf8`, `BadEnds`, `TooManyRows`, `NoColumn`, `TooFewTexts` and `TextsLeft`. `NoMemory` comes
     /// when out of memory, before any fault that would have been found later.
     pub fn items(&self, alloc: Global) -> Result<Vec<Item>, FlatFault>
-        ensures ok { let r = self.now in
-            IfOk result (λ items. map item_of items.items ≡ reply_items r.columns r.rows.now r.ends.now r.bytes.now) }
-        ensures fault { let r = self.now in IfErr result (ReplyFault r.columns r.rows.now r.ends.now r.bytes.now) }
+        ensures ok { let r = self.now in IfOk result (λ items. map item_of items.items
+            ≡ reply_items r.columns r.rows.now r.ends.now r.bytes.now) }
+        ensures fault { let r = self.now in
+            IfErr result (ReplyFault r.columns r.rows.now r.ends.now r.bytes.now) }
     {
         let texts = FlatTexts::new(self.bytes, self.ends)?;
         let totals = check_counts(self.columns, self.rows, texts.len())?;

@@ -65,9 +65,12 @@ impl<'h> FlatTexts<'h> {
     ///
     /// `NotUtf8` or `BadEnds`.
     pub fn new(bytes: &'h [u8], ends: &'h [u32]) -> Result<FlatTexts<'h>, FlatFault>
-        ensures ok { IfOk result (λ t. t ≡ cut bytes.now 0 ends.now) }
-        ensures whole { IfOk result (λ _. IsUtf8 bytes.now × IsCut bytes.now 0 ends.now) }
-        ensures fault { IfErr result (TextFault bytes.now ends.now) }
+        ensures ok { IfOk result
+            (λ t. t ≡ cut bytes.now 0 ends.now) }
+        ensures whole { IfOk result (λ _.
+            IsUtf8 bytes.now × IsCut bytes.now 0 ends.now) }
+        ensures fault { IfErr result
+            (TextFault bytes.now ends.now) }
     {
         match str::from_utf8(bytes) {
             Err(_) => Err(FlatFault::NotUtf8),

@@ -11,4 +11,5 @@ abbrev pub owns_held : (R : RattleType) → Ptr → Option R.Denot → Fml
 owns_held R null_ptr None = ftrue
 owns_held R null_ptr (Some x) = ffalse
 owns_held R (block_ptr b o) None = ffalse
-owns_held R (block_ptr b o) (Some x) = fex Global (λ a. box_owns (ghosts.dealloc_token a) R (block_ptr b o) x)
+owns_held R (block_ptr b o) (Some x) =
+    fex Global (λ a. box_owns (ghosts.dealloc_token a) R (block_ptr b o) x)

@@ -43,7 +43,8 @@ impl<T: Drop> Slot<T> {
 
     /// The box that the slot was made of, or `None` at null. `alloc` takes no bytes: C passes nothing for it.
     pub fn into_box(self, alloc: Global) -> Option<Box<T>>
-        ensures { option_map (λ b. b.value) result ≡ self.held }
+        ensures { option_map (λ b. b.value) result
+            ≡ self.held }
     {
         let Slot { at } = self;
         if at.is_null() {

@@ -11,10 +11,13 @@ Numbers = HashMap (String Global) ℕ (BuildHasherDefault FoldHasher)
 -- the place of this field of this type
 abbrev pub place_in : HashMap (String Global) Numbers (BuildHasherDefault FoldHasher)
     → List ℕ → List ℕ → Option ℕ
-place_in places ty name = option_and_then (λ (m : Numbers). get_by_text m name) (get_by_text places ty)
+place_in places ty name =
+    option_and_then (λ (m : Numbers). get_by_text m name) (get_by_text places ty)
 
 -- the field r of the type q stands at this place if it is this field of this type, else where it stood
 abbrev pub IsPlaced : String Global → String Global → ℕ
     → HashMap (String Global) Numbers (BuildHasherDefault FoldHasher)
     → HashMap (String Global) Numbers (BuildHasherDefault FoldHasher) → List ℕ → List ℕ → Type 0
-IsPlaced ty name place old new q r = place_in new q r ≡ (if bytes_eq q (string_bytes ty) && bytes_eq r (string_bytes name) then Some place else place_in old q r)
+IsPlaced ty name place old new q r =
+    place_in new q r ≡ (if bytes_eq q (string_bytes ty) && bytes_eq r (string_bytes name)
+    then Some place else place_in old q r)

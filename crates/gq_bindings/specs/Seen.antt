@@ -14,7 +14,11 @@ use Rattle.gq_bindings.specs.declared.binding.BoundField.{BoundField}
 use Rattle.gq_bindings.specs.Tree.{LoaderOf, StepOf, BindingOf, by_column, by_one, by_many, by_each, by_via, BoundFieldOf}
 
 abbrev pub by_of : By → ByOf
-by_of b = record { column = string_bytes b.column; second = option_map (λ t. string_bytes t) b.second; fold = b.fold }
+by_of b = record {
+  column = string_bytes b.column;
+  second = option_map (λ t. string_bytes t) b.second;
+  fold = b.fold;
+}
 
 abbrev pub part_of : KeyPart → PartOf
 part_of (part.Argument name) = argument_part (string_bytes name)
@@ -27,7 +31,8 @@ key_of source.All = from_all
 key_of (source.Pair one two) = from_pair (part_of one) (part_of two)
 
 abbrev pub loader_of : LoaderLine → LoaderOf
-loader_of l = record { name = string_bytes l.name; table = string_bytes l.table; by = option_map by_of l.by }
+loader_of l =
+    record { name = string_bytes l.name; table = string_bytes l.table; by = option_map by_of l.by }
 
 abbrev pub step_of : ViaLoader → StepOf
 step_of s = record { loader = s.loader; column = string_bytes s.column }
@@ -40,4 +45,8 @@ binding_of (binding.Each loader argument) = by_each loader (string_bytes argumen
 binding_of (binding.Via loader key steps) = by_via loader (key_of key) (map step_of steps.items)
 
 abbrev pub bound_of : BoundField → BoundFieldOf
-bound_of f = record { type_name = string_bytes f.type_name; field_name = string_bytes f.field_name; binding = binding_of f.binding }
+bound_of f = record {
+  type_name = string_bytes f.type_name;
+  field_name = string_bytes f.field_name;
+  binding = binding_of f.binding;
+}

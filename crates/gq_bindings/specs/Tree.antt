@@ -39,7 +39,8 @@ binds ty name f = bytes_eq ty f.type_name && bytes_eq name f.field_name
 
 -- the binding of this field of this type, if it has one
 abbrev pub binding_in : List BoundFieldOf → List ℕ → List ℕ → Option BindingOf
-binding_in fields ty name = option_map (λ (f : BoundFieldOf). f.binding) (find (binds ty name) fields)
+binding_in fields ty name =
+    option_map (λ (f : BoundFieldOf). f.binding) (find (binds ty name) fields)
 
 -- the first loader of this name, with its number, where the list begins at number n
 abbrev pub loader_from : ℕ → List LoaderOf → List ℕ → Option (ℕ × LoaderOf)

@@ -20,7 +20,8 @@ is_leaf_type defs (ListOf p t non_null) = false
 
 -- an object type, an interface or a union, non-null or not
 abbrev pub is_composite_type : List Definition → TypeTree → Bool
-is_composite_type defs (Named p n non_null) = option_map_or (λ k. not (is_leaf k)) (kind_in defs n) false
+is_composite_type defs (Named p n non_null) =
+    option_map_or (λ k. not (is_leaf k)) (kind_in defs n) false
 is_composite_type defs (ListOf p t non_null) = false
 
 abbrev pub is_composite_list : List Definition → TypeTree → Bool
@@ -29,7 +30,8 @@ is_composite_list defs (ListOf p t non_null) = is_composite_type defs t
 
 -- Int, ID or String, non-null or not
 abbrev pub is_key_type : TypeTree → Bool
-is_key_type (Named p n non_null) = bytes_eq n (codes "Int") || (bytes_eq n (codes "ID") || bytes_eq n (codes "String"))
+is_key_type (Named p n non_null) =
+    bytes_eq n (codes "Int") || (bytes_eq n (codes "ID") || bytes_eq n (codes "String"))
 is_key_type (ListOf p t non_null) = false
 
 abbrev pub is_key_list : TypeTree → Bool
@@ -38,4 +40,5 @@ is_key_list (ListOf p t non_null) = is_key_type t
 
 -- the field has an argument of this name, and of such a type
 abbrev pub takes : (TypeTree → Bool) → Field → List ℕ → Bool
-takes suits field name = option_map_or (λ (a : Argument). suits a.of_type) (argument_in field.arguments name) false
+takes suits field name =
+    option_map_or (λ (a : Argument). suits a.of_type) (argument_in field.arguments name) false

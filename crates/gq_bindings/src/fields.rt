@@ -34,7 +34,8 @@ fn note(
 
 /// The place of a field's binding.
 fn place_of(places: &FieldIndices, type_name: &str, field_name: &str) -> Option<usize>
-    ensures { result ≡ place_in places.now type_name.now field_name.now }
+    ensures { result ≡ place_in places.now
+        type_name.now field_name.now }
 {
     places.get(type_name)?.get(field_name).copied()
 }
@@ -85,7 +86,8 @@ impl BoundFields {
     pub fn push(&mut self, field: BoundField) -> Result<(), AllocError>
         requires { binding_in self.old (bound_of field).type_name (bound_of field).field_name
             ≡ None }
-        ensures ok { OnOk result (self.new ≡ self.old ++ bound_of field ∷ []) }
+        ensures ok { OnOk result
+            (self.new ≡ self.old ++ bound_of field ∷ []) }
     {
         let place = self.entries.len();
         self.entries.reserve(1)?;

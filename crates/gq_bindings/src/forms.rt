@@ -58,7 +58,8 @@ fn whole_loader(loaders: &Loaders, name: &str) -> Option<usize>
 }
 
 fn owned_part(alloc: Global, part: PartWords<'_>) -> Result<KeyPart, AllocError>
-    ensures { IfOk result (λ owned. part_of owned ≡ part_seen part.entry) }
+    ensures { IfOk result
+        (λ owned. part_of owned ≡ part_seen part.entry) }
 {
     match part {
         PartWords::Argument(name) => Ok(KeyPart::Argument(String::from_str(alloc, name)?)),
@@ -67,7 +68,8 @@ fn owned_part(alloc: Global, part: PartWords<'_>) -> Result<KeyPart, AllocError>
 }
 
 fn owned_key(alloc: Global, key: KeyWords<'_>) -> Result<KeyOrigin, AllocError>
-    ensures { IfOk result (λ owned. key_of owned ≡ key_seen key.entry) }
+    ensures { IfOk result
+        (λ owned. key_of owned ≡ key_seen key.entry) }
 {
     match key {
         KeyWords::Argument(name) => Ok(KeyOrigin::Argument(String::from_str(alloc, name)?)),
@@ -189,7 +191,8 @@ impl Target<'_> {
 
     /// `column COLUMN`, for a leaf.
     fn column(&self, alloc: Global, column: &str) -> Result<Option<Binding>, AllocError>
-        ensures { IfOk result (Gives self.now (to_column column.now)) }
+        ensures { IfOk result
+            (Gives self.now (to_column column.now)) }
     {
         if !self.of_root && is_leaf_type(self.schema, &self.field.of_type) {
             Ok(Some(Binding::Column(String::from_str(alloc, column)?)))
@@ -283,7 +286,8 @@ impl Target<'_> {
 
     /// Returns what a form gives for the field; nothing where it does not fit.
     fn binding(&self, alloc: Global, form: Form<'_>) -> Result<Option<Binding>, AllocError>
-        ensures { IfOk result (Gives self.now (form_seen form.entry)) }
+        ensures { IfOk result
+            (Gives self.now (form_seen form.entry)) }
     {
         match form {
             Form::Column(name) => self.column(alloc, name),
@@ -305,8 +309,8 @@ pub fn field_binding(
     field_name: &str,
     form: Form<'_>,
 ) -> Result<Option<Binding>, AllocError>
-    ensures { IfOk result (λ b. option_map binding_of b
-        ≡ field_binding (tree_of schema.now) loaders.now type_name.now field_name.now (form_seen form.entry)) }
+    ensures { IfOk result (λ b. option_map binding_of b ≡ field_binding
+        (tree_of schema.now) loaders.now type_name.now field_name.now (form_seen form.entry)) }
 {
     if !is_object_type(schema, type_name) {
         return Ok(None);

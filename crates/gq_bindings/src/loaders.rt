@@ -84,8 +84,10 @@ impl Loaders {
 
     /// Adds a loader after the others. None of them has its name.
     pub fn push(&mut self, line: LoaderLine) -> Result<(), AllocError>
-        requires { loader_in self.old (loader_of line).name ≡ None }
-        ensures ok { OnOk result (self.new ≡ self.old ++ loader_of line ∷ []) }
+        requires { loader_in self.old (loader_of line).name
+            ≡ None }
+        ensures ok { OnOk result
+            (self.new ≡ self.old ++ loader_of line ∷ []) }
     {
         let number = self.lines.len();
         self.lines.reserve(1)?;

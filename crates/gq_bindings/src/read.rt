@@ -6,6 +6,7 @@ ghost use Rattle.bindings_syntax.specs.Seen.{statement_seen, numbered_seen, form
 ghost use Rattle.bindings_syntax.specs.Statements.{field_line};
 ghost use Rattle.schema_syntax.specs.Tree.{field_of, fields_of};
 ghost use Rattle.gq_schema.specs.Types.{tree_of};
+ghost use Rattle.gq_bindings.specs.Reading.{bound_field};
 ghost use Rattle.gq_bindings.specs.Tree.{binding_in};
 ghost use Rattle.gq_bindings.specs.Seen.{by_of, loader_of, binding_of, bound_of};
 
@@ -47,7 +48,8 @@ fn owned_text(alloc: Global, text: Option<&str>) -> Result<Option<String>, Alloc
 }
 
 fn owned_by(alloc: Global, by: Option<ByWords<'_>>) -> Result<Option<By>, AllocError>
-    ensures { IfOk result (λ owned. option_map by_of owned ≡ option_map by_seen by.entry) }
+    ensures { IfOk result (λ owned. option_map by_of owned
+        ≡ option_map by_seen by.entry) }
 {
     match by {
         Some(by) => Ok(Some(By {
@@ -80,7 +82,8 @@ fn owned_field(
     field_name: &str,
     binding: Binding,
 ) -> Result<BoundField, AllocError>
-    ensures { IfOk result (λ field. bound_of field ≡ record { type_name = type_name.now; field_name = field_name.now; binding = binding_of binding }) }
+    ensures { IfOk result (λ field. bound_of field
+        ≡ bound_field type_name.now field_name.now (binding_of binding)) }
 {
     let type_name = String::from_str(alloc, type_name)?;
     let field_name = String::from_str(alloc, field_name)?;
@@ -143,7 +146,8 @@ impl Bindings {
 
     /// The loaders in the order of their lines. A binding names them by their places here.
     pub fn loaders(&self) -> &[LoaderLine]
-        ensures { map loader_of result.now ≡ self.now.loaders }
+        ensures { map loader_of result.now
+            ≡ self.now.loaders }
     {
         self.loaders.as_slice()
     }
@@ -205,7 +209,8 @@ impl Bindings {
         table: &str,
         by: Option<ByWords<'_>>,
     ) -> Result<bool, AllocError>
-        ensures { IfOk result (AreNewIf (after_loader self.old (record { name = name.now; table = table.now; by = option_map by_seen by.entry })) self.new) }
+        ensures { IfOk result (AreNewIf (after_loader self.old (record
+            { name = name.now; table = table.now; by = option_map by_seen by.entry })) self.new) }
     {
         if self.loaders.find(name).is_some() {
             return Ok(false);

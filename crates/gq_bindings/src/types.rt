@@ -14,21 +14,24 @@ use schema_syntax::{ArgumentDefinition, FieldDefinition};
 
 /// Tells whether it is an object type.
 pub fn is_object_type(schema: &Schema, name: &str) -> bool
-    ensures { result ≡ is_object_type (tree_of schema.now) name.now }
+    ensures { result ≡ is_object_type
+        (tree_of schema.now) name.now }
 {
     matches!(schema.kind_of(name), Some(TypeKind::Object))
 }
 
 /// Tells whether queries begin at the type.
 pub fn is_root_type(schema: &Schema, name: &str) -> bool
-    ensures { result ≡ is_root_type (tree_of schema.now) name.now }
+    ensures { result ≡ is_root_type
+        (tree_of schema.now) name.now }
 {
     name == schema.root()
 }
 
 /// Tells whether the type is a scalar or an enum, and no list.
 pub fn is_leaf_type(schema: &Schema, of_type: &TypeRef) -> bool
-    ensures { result ≡ is_leaf_type (tree_of schema.now) (type_of of_type.now) }
+    ensures { result ≡ is_leaf_type
+        (tree_of schema.now) (type_of of_type.now) }
 {
     match of_type {
         TypeRef::Named { name, .. } => match schema.kind_of(name) {
@@ -41,7 +44,8 @@ pub fn is_leaf_type(schema: &Schema, of_type: &TypeRef) -> bool
 
 /// Tells whether the type is an object type, an interface or a union, and no list.
 pub fn is_composite_type(schema: &Schema, of_type: &TypeRef) -> bool
-    ensures { result ≡ is_composite_type (tree_of schema.now) (type_of of_type.now) }
+    ensures { result ≡ is_composite_type
+        (tree_of schema.now) (type_of of_type.now) }
 {
     match of_type {
         TypeRef::Named { name, .. } => match schema.kind_of(name) {
@@ -54,7 +58,8 @@ pub fn is_composite_type(schema: &Schema, of_type: &TypeRef) -> bool
 
 /// Tells whether the type is a list of composites.
 pub fn is_composite_list(schema: &Schema, of_type: &TypeRef) -> bool
-    ensures { result ≡ is_composite_list (tree_of schema.now) (type_of of_type.now) }
+    ensures { result ≡ is_composite_list
+        (tree_of schema.now) (type_of of_type.now) }
 {
     match of_type {
         TypeRef::Named { .. } => false,
@@ -97,7 +102,8 @@ fn argument<'a>(field: &'a FieldDefinition, name: &str) -> Option<&'a ArgumentDe
 
 /// Tells whether the field has an argument of this name that is an Int, an ID or a String.
 pub fn takes_key(field: &FieldDefinition, name: &str) -> bool
-    ensures { result ≡ takes is_key_type (field_of field.now) name.now }
+    ensures { result ≡ takes is_key_type
+        (field_of field.now) name.now }
 {
     match argument(field, name) {
         Some(argument) => is_key_type(&argument.of_type),
@@ -107,7 +113,8 @@ pub fn takes_key(field: &FieldDefinition, name: &str) -> bool
 
 /// Tells whether the field has an argument of this name that is a list of these.
 pub fn takes_keys(field: &FieldDefinition, name: &str) -> bool
-    ensures { result ≡ takes is_key_list (field_of field.now) name.now }
+    ensures { result ≡ takes is_key_list
+        (field_of field.now) name.now }
 {
     match argument(field, name) {
         Some(argument) => is_key_list(&argument.of_type),

@@ -24,10 +24,12 @@ pub record IsPlan (p : PlanOf) : Type 0 where
   pub same : p.fragments ≡ document.fragments
   pub name : Option (List ℕ)
   pub given : Data
-  pub prepares : prepared p.definitions document.operations name given ≡ Ok (record { operation = p.operation; variables = p.variables })
+  pub prepares : prepared p.definitions document.operations name given
+      ≡ Ok (record { operation = p.operation; variables = p.variables })
 
 -- Some document is valid over the definitions and has these fragments, and a name chooses this of its operations.
-pub record IsChosen (defs : List Definition) (o : Operation) (fragments : List Fragment) : Type 0 where
+pub record IsChosen (defs : List Definition) (o : Operation)
+    (fragments : List Fragment) : Type 0 where
   pub document : Document
   pub valid : IsValid defs document
   pub same : fragments ≡ document.fragments
@@ -43,7 +45,8 @@ IsChosenAt os name place = (d : Arc rust-operation.Operation Global)
 -- values
 abbrev pub preparation : List rust-definition.Definition → List rust-operation.Operation
     → Option (Bor (List ℕ)) → Value → Result PreparedOf FaultOf
-preparation defs os name given = prepared (tree_of defs) (operations_of os) (asked_name name) (view given)
+preparation defs os name given =
+    prepared (tree_of defs) (operations_of os) (asked_name name) (view given)
 
 -- gives the same of a document that was found valid
 abbrev pub preparation_in : CheckedParts → Option (Bor (List ℕ)) → Value → Result PreparedOf FaultOf
@@ -52,7 +55,8 @@ preparation_in checked = preparation checked.definitions checked.document.operat
 -- gives the same of an operation that was chosen
 abbrev pub preparation_of : List rust-definition.Definition
     → rust-operation.Operation → Value → Result PreparedOf FaultOf
-preparation_of defs operation given = prepared_operation (tree_of defs) (view given) (Ok (operation_of operation))
+preparation_of defs operation given =
+    prepared_operation (tree_of defs) (view given) (Ok (operation_of operation))
 
 -- the operation of a plan, and its variables that have a value
 abbrev pub prepared_in : PlanParts → PreparedOf

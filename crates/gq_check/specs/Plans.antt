@@ -69,7 +69,8 @@ abbrev pub document_with : List rust-operation.Operation → List rust-fragment.
 document_with os fs = record { operations = map operation_of os; fragments = fragments_of fs }
 
 abbrev pub kept_document : KeptParts → Document
-kept_document k = record { operations = map operation_of k.operations; fragments = fragments_of k.fragments }
+kept_document k =
+    record { operations = map operation_of k.operations; fragments = fragments_of k.fragments }
 
 abbrev pub plan_of : PlanParts → PlanOf
 plan_of p = record {

@@ -56,7 +56,8 @@ with_variables o (Err (values.bad_variable name)) = Err (bad_variable name)
 abbrev pub prepared_operation : List Definition → Data
     → Result Operation FaultOf → Result PreparedOf FaultOf
 prepared_operation defs given (Err e) = Err e
-prepared_operation defs given (Ok o) = with_variables o (values.coerced_variables defs o.variables given)
+prepared_operation defs given (Ok o) =
+    with_variables o (values.coerced_variables defs o.variables given)
 
 -- the operation that is asked for, with the values that this gives for its variables, or the first fault
 abbrev pub prepared : List Definition → List Operation

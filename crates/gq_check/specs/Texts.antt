@@ -64,7 +64,8 @@ title_of rule.AllVariableUsagesAreAllowed = codes "All Variable Usages Are Allow
 
 -- the message of a fault of validation
 abbrev pub check_message : CheckFault → List ℕ
-check_message (check.Rule r name p) = section_of r ++ codes " " ++ title_of r ++ codes ": " ++ string_bytes name
+check_message (check.Rule r name p) =
+    section_of r ++ codes " " ++ title_of r ++ codes ": " ++ string_bytes name
 check_message check.TooComplex = codes "too complex"
 check_message (check.TooDeep p) = codes "too many levels"
 check_message (check.NotServed name p) = codes "not served: " ++ string_bytes name

@@ -91,7 +91,8 @@ fragments_fault p =
 abbrev pub spreads_fault : PartsOf → Option FaultOf
 spreads_fault p =
     or_else (report rule.FragmentSpreadTargetDefined (fragment_spread_target_defined p))
-    (or_else (report rule.FragmentSpreadsMustNotFormCycles (fragment_spreads_must_not_form_cycles p))
+    (or_else
+    (report rule.FragmentSpreadsMustNotFormCycles (fragment_spreads_must_not_form_cycles p))
     (report rule.FragmentSpreadIsPossible (fragment_spread_is_possible p)))
 
 -- section 5.6

@@ -45,7 +45,8 @@ impl Model for CheckedDocument {
 impl CheckedDocument {
     /// A document that keeps every rule.
     pub(crate) fn of(schema: Arc<Schema>, document: Document) -> CheckedDocument
-        requires { IsValid (tree_of (arc_value schema)) (document_of document) }
+        requires { IsValid (tree_of (arc_value schema))
+            (document_of document) }
         ensures { result ≡ record { definitions = arc_value schema; document = document } }
     {
         CheckedDocument { schema, document }
@@ -53,7 +54,8 @@ impl CheckedDocument {
 
     /// The schema.
     pub fn schema(&self) -> &Arc<Schema>
-        ensures { arc_value result.now ≡ self.now.definitions }
+        ensures { arc_value result.now
+            ≡ self.now.definitions }
     {
         &self.schema
     }
@@ -68,9 +70,11 @@ impl CheckedDocument {
 
     /// The schema and the document, to be kept.
     pub(crate) fn into_parts(self) -> (Arc<Schema>, Document)
-        ensures schema { arc_value result.0 ≡ self.definitions }
+        ensures schema { arc_value result.0
+            ≡ self.definitions }
         ensures document { result.1 ≡ self.document }
-        ensures valid { IsValid (tree_of self.definitions) (document_of result.1) }
+        ensures valid { IsValid (tree_of self.definitions)
+            (document_of result.1) }
     {
         (self.schema, self.document)
     }

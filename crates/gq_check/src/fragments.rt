@@ -56,7 +56,8 @@ fn fragment_places(alloc: Global, fragments: &[Fragment]) -> Result<NameIndices,
 impl Fragments {
     /// These fragments.
     pub fn of(alloc: Global, items: Vec<Fragment>) -> Result<Fragments, AllocError>
-        ensures { IfOk result (λ fragments. fragments ≡ items.items) }
+        ensures { IfOk result
+            (λ fragments. fragments ≡ items.items) }
     {
         let places = fragment_places(alloc, &items)?;
         Ok(Fragments { items, places })

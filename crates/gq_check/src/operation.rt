@@ -13,7 +13,8 @@ use std::sync::Arc;
 
 // Tells whether an operation has this name.
 fn is_operation(name: &str, operation: &Operation) -> bool
-    ensures { result ≡ is_operation name.now (operation_of operation.now) }
+    ensures { result ≡ is_operation name.now
+        (operation_of operation.now) }
 {
     match &operation.name {
         Some(own) => name == own.as_str(),
@@ -27,8 +28,10 @@ fn operation_named(
     operations: &[Arc<Operation>],
     name: &str,
 ) -> Result<usize, PrepareFault>
-    ensures inside { IfOk result (λ place. place < length operations.now) }
-    ensures ok { IfOk result (IsChosenAt operations.now (Some name.now)) }
+    ensures inside { IfOk result
+        (λ place. place < length operations.now) }
+    ensures ok { IfOk result
+        (IsChosenAt operations.now (Some name.now)) }
     ensures err { IfErr result
         (IsPrepareFault (chosen_operation (operations_in operations.now) (Some name.now))) }
 {
@@ -42,8 +45,10 @@ fn operation_named(
 
 // The place of the only operation.
 fn only_operation(operations: &[Arc<Operation>]) -> Result<usize, PrepareFault>
-    ensures inside { IfOk result (λ place. place < length operations.now) }
-    ensures ok { IfOk result (IsChosenAt operations.now None) }
+    ensures inside { IfOk result
+        (λ place. place < length operations.now) }
+    ensures ok { IfOk result
+        (IsChosenAt operations.now None) }
     ensures err { IfErr result
         (IsPrepareFault (chosen_operation (operations_in operations.now) None)) }
 {
@@ -59,7 +64,8 @@ pub fn chosen_operation(
     operations: &[Arc<Operation>],
     name: Option<&str>,
 ) -> Result<usize, PrepareFault>
-    ensures inside { IfOk result (λ place. place < length operations.now) }
+    ensures inside { IfOk result
+        (λ place. place < length operations.now) }
     ensures ok { IfOk result (IsChosenAt operations.now (asked_name name.entry)) }
     ensures err { IfErr result
         (IsPrepareFault (chosen_operation (operations_in operations.now) (asked_name name.entry))) }

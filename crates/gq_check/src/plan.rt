@@ -60,7 +60,8 @@ impl Plan {
         variables: Variables,
     ) -> Plan
         requires { IsPlan (plan_of (plan_parts schema bindings operation fragments variables)) }
-        ensures { result ≡ plan_parts schema bindings operation fragments variables }
+        ensures { result ≡ plan_parts schema
+            bindings operation fragments variables }
     {
         Plan {
             schema,
@@ -119,7 +120,8 @@ impl Plan {
 
     /// Returns how many loaders a session of this plan needs: those of the bindings.
     pub fn loaders(&self) -> usize
-        ensures { result ≡ length self.now.bindings.loaders }
+        ensures { result ≡ length
+            self.now.bindings.loaders }
     {
         self.bindings.loaders().len()
     }

@@ -46,9 +46,12 @@ fn with_values(
 ) -> Result<Plan, PrepareFault>
     requires { IsChosen (tree_of (arc_value schema))
         (operation_of (arc_value operation)) (fragments_of (arc_value fragments)) }
-    ensures schema { IfOk result (λ plan. plan.definitions ≡ arc_value schema) }
-    ensures bindings { IfOk result (λ plan. plan.bindings ≡ arc_value bindings) }
-    ensures fragments { IfOk result (λ plan. plan.fragments ≡ arc_value fragments) }
+    ensures schema { IfOk result
+        (λ plan. plan.definitions ≡ arc_value schema) }
+    ensures bindings { IfOk result
+        (λ plan. plan.bindings ≡ arc_value bindings) }
+    ensures fragments { IfOk result
+        (λ plan. plan.fragments ≡ arc_value fragments) }
     ensures ok { IfOk result (λ plan. preparation_of (arc_value schema)
         (arc_value operation) variables.now ≡ Ok (prepared_in plan)) }
     ensures err { IfErr result
@@ -80,9 +83,12 @@ pub fn prepare(
     operation_name: Option<&str>,
     variables: &Value,
 ) -> Result<Plan, PrepareFault>
-    ensures schema { IfOk result (λ plan. plan.definitions ≡ checked.definitions) }
-    ensures bindings { IfOk result (λ plan. plan.bindings ≡ arc_value bindings.now) }
-    ensures fragments { IfOk result (λ plan. plan.fragments ≡ checked.document.fragments.items) }
+    ensures schema { IfOk result
+        (λ plan. plan.definitions ≡ checked.definitions) }
+    ensures bindings { IfOk result
+        (λ plan. plan.bindings ≡ arc_value bindings.now) }
+    ensures fragments { IfOk result (λ plan.
+        plan.fragments ≡ checked.document.fragments.items) }
     ensures ok { IfOk result (λ plan.
         preparation_in checked operation_name.entry variables.now ≡ Ok (prepared_in plan)) }
     ensures err { IfErr result
@@ -104,9 +110,12 @@ pub fn prepare_again(
     operation_name: Option<&str>,
     variables: &Value,
 ) -> Result<Plan, PrepareFault>
-    ensures schema { IfOk result (λ plan. plan.definitions ≡ kept.now.definitions) }
-    ensures bindings { IfOk result (λ plan. plan.bindings ≡ arc_value bindings.now) }
-    ensures fragments { IfOk result (λ plan. plan.fragments ≡ kept.now.fragments) }
+    ensures schema { IfOk result
+        (λ plan. plan.definitions ≡ kept.now.definitions) }
+    ensures bindings { IfOk result
+        (λ plan. plan.bindings ≡ arc_value bindings.now) }
+    ensures fragments { IfOk result
+        (λ plan. plan.fragments ≡ kept.now.fragments) }
     ensures ok { IfOk result (λ plan. preparation kept.now.definitions
         kept.now.operations operation_name.entry variables.now ≡ Ok (prepared_in plan)) }
     ensures err { IfErr result (IsPrepareFault

@@ -55,7 +55,8 @@ fn share_operations(
     alloc: Global,
     operations: Vec<Operation>,
 ) -> Result<Vec<Arc<Operation>>, AllocError>
-    ensures { IfOk result (λ shared. map arc_value shared.items ≡ operations.items) }
+    ensures { IfOk result (λ shared.
+        map arc_value shared.items ≡ operations.items) }
 {
     let mut shared = Vec::with_capacity(alloc, operations.len())?;
     for operation in operations {
@@ -71,7 +72,8 @@ impl PreparedDocument {
     ///
     /// Only when out of memory. The document is not given back.
     pub fn of(alloc: Global, checked: CheckedDocument) -> Result<PreparedDocument, AllocError>
-        ensures definitions { IfOk result (λ kept. kept.definitions ≡ checked.definitions) }
+        ensures definitions { IfOk result (λ kept.
+            kept.definitions ≡ checked.definitions) }
         ensures operations { IfOk result (λ kept.
             kept.operations ≡ checked.document.operations.items) }
         ensures fragments { IfOk result (λ kept.
@@ -93,14 +95,16 @@ impl PreparedDocument {
 
     /// The schema.
     pub fn schema(&self) -> &Arc<Schema>
-        ensures { arc_value result.now ≡ self.now.definitions }
+        ensures { arc_value result.now
+            ≡ self.now.definitions }
     {
         &self.schema
     }
 
     /// The operations of the document, in the order of the text.
     pub fn operations(&self) -> &[Arc<Operation>]
-        ensures same { map arc_value result.now ≡ self.now.operations }
+        ensures same { map arc_value result.now
+            ≡ self.now.operations }
         // The document keeps every rule.
         ensures valid { IsValid (tree_of self.now.definitions) (kept_document self.now) }
     {
@@ -109,7 +113,8 @@ impl PreparedDocument {
 
     /// The fragments of the document.
     pub(crate) fn fragments(&self) -> &Arc<Fragments>
-        ensures { arc_value result.now ≡ self.now.fragments }
+        ensures { arc_value result.now
+            ≡ self.now.fragments }
     {
         &self.fragments
     }

@@ -20,7 +20,8 @@ pub enum Report<'d> {
 
 // The name as it is printed.
 fn broken_name_text(alloc: Global, name: BrokenName<'_>) -> Result<String, AllocError>
-    ensures { IfOk result (λ text. string_bytes text ≡ name_of name.entry) }
+    ensures { IfOk result
+        (λ text. string_bytes text ≡ name_of name.entry) }
 {
     match name {
         BrokenName::Plain(name) => String::from_str(alloc, name),
@@ -33,7 +34,8 @@ impl Report<'_> {
 
     /// The fault, with its own name.
     pub fn to_fault(self, alloc: Global) -> Result<CheckFault, AllocError>
-        ensures { IfOk result (λ fault. fault_of fault ≡ Some (report_of self.entry)) }
+        ensures { IfOk result (λ fault.
+            fault_of fault ≡ Some (report_of self.entry)) }
     {
         match self {
             Report::Breaks(rule, broken) => {

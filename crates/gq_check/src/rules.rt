@@ -40,7 +40,8 @@ fn report<'d>(rule: Rule, broken: Option<Violation<'d>>) -> Option<Report<'d>>
 }
 
 fn served_fault<'d>(parts: &Parts<'d>) -> Option<Report<'d>>
-    ensures { option_map report_of result ≡ served_fault (parts_in parts.now) }
+    ensures { option_map report_of result
+        ≡ served_fault (parts_in parts.now) }
 {
     match not_served(parts) {
         Some(broken) => Some(Report::NotServed(broken)),
@@ -62,7 +63,8 @@ fn operations_fault<'d>(alloc: Global, parts: &Parts<'d>) -> Result<Option<Repor
 }
 
 fn fields_fault<'d>(parts: &Parts<'d>) -> Option<Report<'d>>
-    ensures { option_map report_of result ≡ fields_fault (parts_in parts.now) }
+    ensures { option_map report_of result
+        ≡ fields_fault (parts_in parts.now) }
 {
     if let Some(broken) = field_selections(parts) {
         return Some(Report::Breaks(Rule::FieldSelections, broken));
@@ -168,7 +170,8 @@ fn rules_fault<'d>(
     graph: &Graph,
 ) -> Result<Option<Report<'d>>, AllocError>
     requires { graph.now ≡ graph_of (parts_in parts.now) }
-    ensures { IfOk result (λ fault. option_map report_of fault ≡ rules_fault (parts_in parts.now)) }
+    ensures { IfOk result (λ fault. option_map report_of
+        fault ≡ rules_fault (parts_in parts.now)) }
 {
     if let Some(fault) = served_fault(parts) {
         return Ok(Some(fault));
@@ -223,7 +226,8 @@ fn first_fault<'d>(
     graph: &Graph,
 ) -> Result<Option<Report<'d>>, AllocError>
     requires { graph.now ≡ graph_of (parts_in parts.now) }
-    ensures { IfOk result (λ fault. option_map report_of fault ≡ first_fault (parts_in parts.now)) }
+    ensures { IfOk result (λ fault. option_map report_of
+        fault ≡ first_fault (parts_in parts.now)) }
 {
     match rules_fault(alloc, parts, graph)? {
         Some(fault) => Ok(Some(fault)),
@@ -239,8 +243,10 @@ fn merging_fault<'d>(
 ) -> Result<Option<Report<'d>>, AllocError>
     requires listed { parts_in parts.now
         ≡ parts_of (parts_in parts.now).definitions (parts_in parts.now).document }
-    requires graph { graph.now ≡ graph_of (parts_in parts.now) }
-    requires unreported { first_fault (parts_in parts.now) ≡ None }
+    requires graph { graph.now
+        ≡ graph_of (parts_in parts.now) }
+    requires unreported { first_fault (parts_in parts.now)
+        ≡ None }
     ensures { IfOk result (λ fault.
         IsMergingFault (parts_in parts.now) (option_map report_of fault)) }
 {
@@ -256,8 +262,10 @@ pub fn verdict<'d>(
 ) -> Result<Option<Report<'d>>, AllocError>
     requires listed { parts_in parts.now
         ≡ parts_of (parts_in parts.now).definitions (parts_in parts.now).document }
-    requires graph { graph.now ≡ graph_of (parts_in parts.now) }
-    ensures { IfOk result (λ fault. IsVerdictOf (parts_in parts.now) (option_map report_of fault)) }
+    requires graph { graph.now
+        ≡ graph_of (parts_in parts.now) }
+    ensures { IfOk result (λ fault. IsVerdictOf
+        (parts_in parts.now) (option_map report_of fault)) }
 {
     match first_fault(alloc, parts, graph)? {
         Some(fault) => Ok(Some(fault)),

@@ -44,8 +44,10 @@ pub fn check(
     schema: &Arc<Schema>,
     document: Document,
 ) -> Result<CheckedDocument, CheckFault>
-    ensures schema { IfOk result (λ checked. checked.definitions ≡ arc_value schema.now) }
-    ensures document { IfOk result (λ checked. checked.document ≡ document) }
+    ensures schema { IfOk result (λ checked.
+        checked.definitions ≡ arc_value schema.now) }
+    ensures document { IfOk result
+        (λ checked. checked.document ≡ document) }
     ensures ok { IfOk result (λ checked.
         IsValid (tree_of (arc_value schema.now)) (document_of checked.document)) }
     ensures err { IfErr result

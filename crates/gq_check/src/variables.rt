@@ -52,7 +52,8 @@ fn variable_places(alloc: Global, variables: &[Variable]) -> Result<NameIndices,
 impl Variables {
     /// These variables.
     pub fn of(alloc: Global, items: Vec<Variable>) -> Result<Variables, AllocError>
-        ensures { IfOk result (λ variables. variables ≡ items.items) }
+        ensures { IfOk result
+            (λ variables. variables ≡ items.items) }
     {
         let places = variable_places(alloc, &items)?;
         Ok(Variables { items, places })

@@ -6,4 +6,5 @@ use Rattle.gq_lexer.specs.Characters.{line_feed, carriage_return}
 -- gives how many bytes end a line, where the text ends or one of them comes first
 abbrev pub line_end_len : List ℕ → ℕ
 line_end_len [] = 0
-line_end_len (b ∷ bs) = if b == carriage_return && starts_with nat_eq bs (line_feed ∷ []) then 2 else 1
+line_end_len (b ∷ bs) =
+    if b == carriage_return && starts_with nat_eq bs (line_feed ∷ []) then 2 else 1

@@ -14,15 +14,18 @@ is_plain b = not (b == 92)
 -- gives how the character of an escape is found, and the escape's length without its backslash
 abbrev pub low_value : ℕ → Option ℕ → Option EscapeValue
 low_value high None = None
-low_value high (Some low) = if is_low_surrogate low then Some (record { code = pair_char high low; len = 11 }) else None
+low_value high (Some low) =
+    if is_low_surrogate low then Some (record { code = pair_char high low; len = 11 }) else None
 
 abbrev pub unit_value : Option ℕ → List ℕ → Option EscapeValue
 unit_value None digits = None
-unit_value (Some u) digits = if is_high_surrogate u then low_value u (code_unit (drop 6 digits)) else Some (record { code = u; len = 5 })
+unit_value (Some u) digits = if is_high_surrogate u then low_value u (code_unit (drop 6 digits))
+    else Some (record { code = u; len = 5 })
 
 abbrev pub escape_value : List ℕ → Option EscapeValue
 escape_value [] = None
-escape_value (c ∷ cs) = if is_escaped c then Some (record { code = escaped_char c; len = 1 }) else unit_value (code_unit cs) cs
+escape_value (c ∷ cs) = if is_escaped c then Some (record { code = escaped_char c; len = 1 })
+    else unit_value (code_unit cs) cs
 
 -- the character that an escape stands for
 abbrev pub char_of : Element → ℕ
@@ -40,4 +43,5 @@ on_escape (Some e) go = encode_utf8 e.code ++ go e.len
 unfoldable pub unescaped : ℕ → List ℕ → List ℕ
 unescaped skip [] = []
 unescaped (suc skip) (b ∷ bs) = unescaped skip bs
-unescaped zero (b ∷ bs) = if is_plain b then b ∷ unescaped 0 bs else on_escape (escape_value bs) (λ n. unescaped n bs)
+unescaped zero (b ∷ bs) =
+    if is_plain b then b ∷ unescaped 0 bs else on_escape (escape_value bs) (λ n. unescaped n bs)

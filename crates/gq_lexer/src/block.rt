@@ -12,7 +12,8 @@ use std::alloc::{AllocError, Global};
 
 /// The value of a block string between whose quotes this stands.
 pub fn block_value(alloc: Global, body: &str) -> Result<String, AllocError>
-    ensures { IfOk result (λ value. string_bytes value ≡ block_value (raw_of body.now)) }
+    ensures { IfOk result (λ value. string_bytes value
+        ≡ block_value (raw_of body.now)) }
 {
     let raw = raw_of(alloc, body)?;
     let mut kept = lines_of(alloc, raw.as_str())?;
@@ -23,7 +24,8 @@ pub fn block_value(alloc: Global, body: &str) -> Result<String, AllocError>
 
 /// Returns what stands between the quotes, where a backslash before three quotes is left out.
 fn raw_of(alloc: Global, body: &str) -> Result<String, AllocError>
-    ensures { IfOk result (λ raw. string_bytes raw ≡ raw_of body.now) }
+    ensures { IfOk result
+        (λ raw. string_bytes raw ≡ raw_of body.now) }
 {
     let mut raw = String::new(alloc);
     let mut rest = body;
@@ -42,7 +44,8 @@ fn raw_of(alloc: Global, body: &str) -> Result<String, AllocError>
 
 /// Returns how many bytes the first line has, without what ends it.
 fn line_len(bytes: &[u8]) -> usize
-    ensures value { result ≡ prefix_len ends_no_line bytes.now }
+    ensures value { result ≡ prefix_len
+        ends_no_line bytes.now }
     ensures within { result ≤ length bytes.now }
 {
     bytes
@@ -117,7 +120,8 @@ fn indent_of(line: &str) -> Option<usize>
 
 /// The least indent of the lines that have one.
 fn common_indent(lines: &[&str]) -> Option<usize>
-    ensures { result ≡ common_indent (map (λ line. line.now) lines.now) }
+    ensures { result ≡ common_indent
+        (map (λ line. line.now) lines.now) }
 {
     lines.iter().filter_map(|line| indent_of(line)).min()
 }
@@ -131,7 +135,8 @@ fn strip_indent<'a>(line: &'a str, indent: usize) -> &'a str
 
 /// Takes the common indent of all lines but the first away from them.
 fn unindent(lines: &mut [&str])
-    ensures { map (λ line. line.now) lines.new ≡ unindented (map (λ line. line.now) lines.old) }
+    ensures { map (λ line. line.now) lines.new
+        ≡ unindented (map (λ line. line.now) lines.old) }
 {
     let [_, others @ ..] = lines else {
         return;
@@ -145,7 +150,8 @@ fn unindent(lines: &mut [&str])
 
 /// Returns how many lines at the front have only tabs and spaces.
 fn blank_front(lines: &[&str]) -> usize
-    ensures value { result ≡ prefix_len (λ line. is_blank_line line.now) lines.now }
+    ensures value { result ≡ prefix_len
+        (λ line. is_blank_line line.now) lines.now }
     ensures within { result ≤ length lines.now }
 {
     lines
@@ -156,7 +162,8 @@ fn blank_front(lines: &[&str]) -> usize
 
 /// Returns how many lines at the end have only tabs and spaces.
 fn blank_back(lines: &[&str]) -> usize
-    ensures value { result ≡ prefix_len (λ line. is_blank_line line.now) (reverse lines.now) }
+    ensures value { result ≡ prefix_len (λ line.
+        is_blank_line line.now) (reverse lines.now) }
     ensures within { result ≤ length lines.now }
 {
     lines
@@ -168,7 +175,8 @@ fn blank_back(lines: &[&str]) -> usize
 
 /// The lines but those at the front and at the end that have only tabs and spaces.
 fn trim_blank_lines<'a, 'b>(lines: &'b [&'a str]) -> &'b [&'a str]
-    ensures { map (λ line. line.now) result.now ≡ trimmed (map (λ line. line.now) lines.now) }
+    ensures { map (λ line. line.now) result.now
+        ≡ trimmed (map (λ line. line.now) lines.now) }
 {
     let rest = &lines[blank_front(lines)..];
     &rest[..rest.len() - blank_back(rest)]

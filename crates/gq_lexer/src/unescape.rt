@@ -52,7 +52,8 @@ struct EscapeValue {
 
 /// Returns what the escape says whose `u` these digits follow.
 fn unit_value(digits: &[u8]) -> Option<EscapeValue>
-    ensures { result ≡ unit_value (code_unit digits.now) digits.now }
+    ensures { result ≡ unit_value
+        (code_unit digits.now) digits.now }
 {
     let unit = code_unit(digits)?;
     if !is_high_surrogate(unit) {
@@ -86,7 +87,8 @@ fn escape_value(bytes: &[u8]) -> Option<EscapeValue>
 /// Returns what stands between the quotes of a string, with each escape replaced by its character.
 pub fn replace_escapes(alloc: Global, body: &str) -> Result<String, AllocError>
     requires { IsSpelled body.now }
-    ensures { IfOk result (λ s. HasValue body.now (string_bytes s)) }
+    ensures { IfOk result
+        (λ s. HasValue body.now (string_bytes s)) }
 {
     let mut value = String::new(alloc);
     let mut rest = body;

@@ -113,7 +113,8 @@ move ABracket (Punct BracketRight) = Takes []
 move ABracket _ = Refuses
 move MaybeBang (Punct Bang) = Takes []
 move MaybeBang _ = Skips
-move (MaybeArguments c) (Punct ParenLeft) = Takes (AName ∷ AColon ∷ AValue c ∷ one (MoreArguments c))
+move (MaybeArguments c) (Punct ParenLeft) =
+    Takes (AName ∷ AColon ∷ AValue c ∷ one (MoreArguments c))
 move (MaybeArguments c) _ = Skips
 move (MoreArguments c) (Name k n) = Takes (AColon ∷ AValue c ∷ one (MoreArguments c))
 move (MoreArguments c) (Punct ParenRight) = Takes []
@@ -131,18 +132,22 @@ move MaybeSet (Punct BraceLeft) = Takes (one FirstSelection)
 move MaybeSet _ = Skips
 move ASet (Punct BraceLeft) = Takes (one FirstSelection)
 move ASet _ = Refuses
-move FirstSelection (Name k n) = Takes (AfterName ∷ MaybeArguments NotConst ∷ MaybeDirectives NotConst ∷ MaybeSet ∷ one MoreSelections)
+move FirstSelection (Name k n) = Takes
+    (AfterName ∷ MaybeArguments NotConst ∷ MaybeDirectives NotConst ∷ MaybeSet ∷ one MoreSelections)
 move FirstSelection (Punct Spread) = Takes (AfterDots ∷ one MoreSelections)
 move FirstSelection _ = Refuses
-move MoreSelections (Name k n) = Takes (AfterName ∷ MaybeArguments NotConst ∷ MaybeDirectives NotConst ∷ MaybeSet ∷ one MoreSelections)
+move MoreSelections (Name k n) = Takes
+    (AfterName ∷ MaybeArguments NotConst ∷ MaybeDirectives NotConst ∷ MaybeSet ∷ one MoreSelections)
 move MoreSelections (Punct Spread) = Takes (AfterDots ∷ one MoreSelections)
 move MoreSelections (Punct BraceRight) = Takes []
 move MoreSelections _ = Refuses
 move MaybeDefault (Punct Equals) = Takes (one (AValue Const))
 move MaybeDefault _ = Skips
-move FirstVariable (Punct Dollar) = Takes (AName ∷ AColon ∷ AType ∷ MaybeDefault ∷ MaybeDirectives Const ∷ one MoreVariables)
+move FirstVariable (Punct Dollar) =
+    Takes (AName ∷ AColon ∷ AType ∷ MaybeDefault ∷ MaybeDirectives Const ∷ one MoreVariables)
 move FirstVariable _ = Refuses
-move MoreVariables (Punct Dollar) = Takes (AName ∷ AColon ∷ AType ∷ MaybeDefault ∷ MaybeDirectives Const ∷ one MoreVariables)
+move MoreVariables (Punct Dollar) =
+    Takes (AName ∷ AColon ∷ AType ∷ MaybeDefault ∷ MaybeDirectives Const ∷ one MoreVariables)
 move MoreVariables (Punct ParenRight) = Takes []
 move MoreVariables _ = Refuses
 move MaybeVariables (Punct ParenLeft) = Takes (one FirstVariable)
@@ -179,7 +184,8 @@ entered Closing room next = Goes (suc room) next
 entered Neither room next = Goes room next
 
 abbrev pub step : ℕ → List Symbol → Word → Step
-step room stack w = elim (shift stack w) [ None ↦ Stops | Some next ↦ entered (bracket w) room next ]
+step room stack w =
+    elim (shift stack w) [ None ↦ Stops | Some next ↦ entered (bracket w) room next ]
 
 -- says how a reading ends: where something is unexpected, or nowhere at the end, or where a bracket is too deep
 pub data Outcome : Type 0 where
@@ -202,4 +208,5 @@ at_end (_ ∷ stack) = Stopped None
 
 abbrev pub read : ℕ → List Symbol → List Token → Outcome
 read room stack [] = at_end stack
-read room stack (at p w ∷ tokens) = elim (step room stack w) [ Goes r next ↦ read r next tokens | Stops ↦ Stopped (Some p) | Sinks ↦ Sunk p ]
+read room stack (at p w ∷ tokens) = elim (step room stack w)
+    [ Goes r next ↦ read r next tokens | Stops ↦ Stopped (Some p) | Sinks ↦ Sunk p ]

@@ -48,14 +48,17 @@ Fails NoMemory outcome = Unit {0}
 abbrev pub Reads : {T : Type 0} → (T → List Token → List Token → Type 0) → (room : ℕ)
     → (symbols : List Symbol) → (room_after : ℕ) → (symbols_after : List Symbol)
     → List Token → List Token → Result T rust.Fault → Type 0
-Reads IsTree room symbols room_after symbols_after before after (Ok tree) = IsTree tree before after × ((stack : List Symbol) → read room (symbols ++ stack) before ≡ read room_after (symbols_after ++ stack) after)
+Reads IsTree room symbols room_after symbols_after before after (Ok tree) =
+    IsTree tree before after × ((stack : List Symbol)
+    → read room (symbols ++ stack) before ≡ read room_after (symbols_after ++ stack) after)
 Reads IsTree room symbols room_after symbols_after before after (Err fault) = (stack : List Symbol)
     → Fails fault (read room (symbols ++ stack) before)
 
 -- A tree was read that one symbol expects, and the room for brackets is what it was.
 abbrev pub ReadsOne : {T : Type 0} → (T → List Token → List Token → Type 0)
     → Symbol → (room : ℕ) → List Token → List Token → Result T rust.Fault → Type 0
-ReadsOne IsTree symbol room before after result = Reads IsTree room (one symbol) room [] before after result
+ReadsOne IsTree symbol room before after result =
+    Reads IsTree room (one symbol) room [] before after result
 
 -- the word is not next
 abbrev pub IsNotNext : Word → List Token → Type 0
@@ -94,7 +97,8 @@ IsNoName (at p _ ∷ rest) = Unit {0}
 
 -- the name was taken, if one was next
 abbrev pub TakesName : List Token → List Token → Option (LocatedText (Bor (List ℕ))) → Type 0
-TakesName old new result = MatchOption result ((new ≡ old) × IsNoName old) (λ n. old ≡ at n.place (Name (keyword_of n.value.now) n.value.now) ∷ new)
+TakesName old new result = MatchOption result ((new ≡ old) × IsNoName old)
+    (λ n. old ≡ at n.place (Name (keyword_of n.value.now) n.value.now) ∷ new)
 
 -- the word begins no operation
 abbrev pub IsNoKind : Keyword → Type 0
@@ -112,7 +116,8 @@ IsDefinition (definition.Fragment f) before after = IsFragment (fragment_of f) b
 
 -- the value that a name says
 abbrev pub IsNamedValue : Place → List ℕ → rust-literal.Literal → Type 0
-IsNamedValue p n v = (constness : Constness) (after : List Token) → IsValue constness (literal_of v) (at p (Name (keyword_of n) n) ∷ after) after
+IsNamedValue p n v = (constness : Constness) (after : List Token)
+    → IsValue constness (literal_of v) (at p (Name (keyword_of n) n) ∷ after) after
 
 abbrev pub IsTypeAfterName : Place → Keyword → List ℕ
     → rust-type.TypeRef → List Token → List Token → Type 0
@@ -124,34 +129,42 @@ IsTypeAfterBracket p t before after = IsType (type_of t) (at p (Punct BracketLef
 -- the alias and the name of a field, whose first name was read
 abbrev pub AreNamesAfterFirst : Place → Keyword → String Global
     → FieldName → List Token → List Token → Type 0
-AreNamesAfterFirst p k first names before after = IsFieldName p (text_if names.alias) (string_bytes names.name) (at p (Name k (string_bytes first)) ∷ before) after
+AreNamesAfterFirst p k first names before after = IsFieldName p (text_if names.alias)
+    (string_bytes names.name) (at p (Name k (string_bytes first)) ∷ before) after
 
 abbrev pub IsFieldAfterName : Place → Keyword → String Global
     → rust-field.Field → List Token → List Token → Type 0
-IsFieldAfterName p k first f before after = IsSelection (field_of f) (at p (Name k (string_bytes first)) ∷ before) after
+IsFieldAfterName p k first f before after =
+    IsSelection (field_of f) (at p (Name k (string_bytes first)) ∷ before) after
 
 abbrev pub IsSelectionAfterDots : Place
     → rust-selection.Selection → List Token → List Token → Type 0
-IsSelectionAfterDots p s before after = IsSelection (selection_of s) (at p (Punct Spread) ∷ before) after
+IsSelectionAfterDots p s before after =
+    IsSelection (selection_of s) (at p (Punct Spread) ∷ before) after
 
 abbrev pub IsInlineAfterCondition : Place → Option rust-condition.TypeCondition
     → rust-inline.Inline → List Token → List Token → Type 0
-IsInlineAfterCondition p condition i before after = (mid : List Token) → IsCondition (condition_if condition) mid before → IsSelection (inline_of i) (at p (Punct Spread) ∷ mid) after
+IsInlineAfterCondition p condition i before after =
+    (mid : List Token) → IsCondition (condition_if condition) mid before
+    → IsSelection (inline_of i) (at p (Punct Spread) ∷ mid) after
 
 abbrev pub IsSetAfterBrace : Place → rust-set.SelectionSet → List Token → List Token → Type 0
 IsSetAfterBrace p s before after = IsSelectionSet (set_of s) (at p (Punct BraceLeft) ∷ before) after
 
 abbrev pub IsOperationAfterKind : Place → OperationKind
     → rust-operation.Operation → List Token → List Token → Type 0
-IsOperationAfterKind p kind o before after = (k : Keyword) (w : List ℕ) → IsKind kind k → IsOperation (operation_of o) (at p (Name k w) ∷ before) after
+IsOperationAfterKind p kind o before after = (k : Keyword) (w : List ℕ) → IsKind kind k
+    → IsOperation (operation_of o) (at p (Name k w) ∷ before) after
 
 -- an operation without a kind
 abbrev pub IsOperationAfterBrace : Place
     → rust-operation.Operation → List Token → List Token → Type 0
-IsOperationAfterBrace p o before after = IsOperation (operation_of o) (at p (Punct BraceLeft) ∷ before) after
+IsOperationAfterBrace p o before after =
+    IsOperation (operation_of o) (at p (Punct BraceLeft) ∷ before) after
 
 abbrev pub IsFragmentAfterWord : Place → rust-fragment.Fragment → List Token → List Token → Type 0
-IsFragmentAfterWord p f before after = (w : List ℕ) → IsFragment (fragment_of f) (at p (Name keyword.Fragment w) ∷ before) after
+IsFragmentAfterWord p f before after =
+    (w : List ℕ) → IsFragment (fragment_of f) (at p (Name keyword.Fragment w) ∷ before) after
 
 -- ---- single tokens
 
@@ -165,7 +178,8 @@ IsPunct w before after = (p : Place) × (before ≡ at p w ∷ after)
 
 -- a name that a fragment may have was taken, and the word `on`
 abbrev pub IsFragmentNameTaken : List ℕ → List Token → List Token → Type 0
-IsFragmentNameTaken n before after = (p : Place) × (k : Keyword) × IsFragmentName k × (before ≡ at p (Name k n) ∷ after)
+IsFragmentNameTaken n before after =
+    (p : Place) × (k : Keyword) × IsFragmentName k × (before ≡ at p (Name k n) ∷ after)
 
 abbrev pub IsOnTaken : List Token → List Token → Type 0
 IsOnTaken before after = (p : Place) × (w : List ℕ) × (before ≡ at p (Name On w) ∷ after)
@@ -176,8 +190,10 @@ IsName p n before after = (k : Keyword) × (before ≡ at p (Name k n) ∷ after
 
 -- A list was read up to here, where a list begins that ends it: whatever AreRest finds here makes up what AreWhole finds
 -- from the beginning, and the rest is what is expected.
-pub record IsFront {T W : Type 0} (AreRest : T → List Token → List Token → Type 0) (AreWhole : W → List Token → List Token → Type 0) (join : T → W)
-    (room : ℕ) (symbols : List Symbol) (room_now : ℕ) (symbols_now : List Symbol) (before now : List Token) : Type 0 where
+pub record IsFront {T W : Type 0} (AreRest : T → List Token → List Token → Type 0)
+    (AreWhole : W → List Token → List Token → Type 0) (join : T → W)
+    (room : ℕ) (symbols : List Symbol) (room_now : ℕ) (symbols_now : List Symbol)
+    (before now : List Token) : Type 0 where
   pub joins : (others : T) (after : List Token)
       → AreRest others now after → AreWhole (join others) before after
   pub reads : (stack : List Symbol)
@@ -185,7 +201,8 @@ pub record IsFront {T W : Type 0} (AreRest : T → List Token → List Token →
   pub shrinks : length now ≤ length before
 
 -- A document was read up to here.
-pub record IsDocumentFront (room : ℕ) (operations : List Operation) (fragments : List Fragment) (before now : List Token) : Type 0 where
+pub record IsDocumentFront (room : ℕ) (operations : List Operation) (fragments : List Fragment)
+    (before now : List Token) : Type 0 where
   pub joins : (os : List Operation) (fs : List Fragment) → AreDefinitions os fs now
       → AreDefinitions (operations ++ os) (fragments ++ fs) before
   pub reads : read room (one ADefinition) before ≡ read room (one ADefinition) now

@@ -178,7 +178,11 @@ abbrev pub type_of : rust-type.TypeRef → TypeTree
 type_of = fold-TypeRef TypeTree type_step
 
 abbrev pub directive_of : rust-directive.Directive → Directive
-directive_of d = record { place = d.place; name = string_bytes d.name; arguments = arguments_of d.arguments.items }
+directive_of d = record {
+  place = d.place;
+  name = string_bytes d.name;
+  arguments = arguments_of d.arguments.items;
+}
 
 abbrev pub directives_of : List rust-directive.Directive → List Directive
 directives_of ds = map directive_of ds
@@ -209,28 +213,35 @@ set_step s = set_at s.place (selections_of s.selections.items)
 abbrev pub selection_step : open-selection.Selection-F Selection Selection Selection SelectionSet
     → Selection
 selection_step (open-selection.Field f) = f
-selection_step (open-selection.Spread s) = Spread s.place (string_bytes s.name) (directives_of s.directives.items)
+selection_step (open-selection.Spread s) =
+    Spread s.place (string_bytes s.name) (directives_of s.directives.items)
 selection_step (open-selection.Inline i) = i
 
 abbrev pub field_step : open-selection.Field-F Selection Selection Selection SelectionSet
     → Selection
-field_step f = Field f.place (text_if f.alias) (string_bytes f.name) (arguments_of f.arguments.items) (directives_of f.directives.items) (below_if f.selection_set)
+field_step f = Field f.place (text_if f.alias) (string_bytes f.name)
+    (arguments_of f.arguments.items) (directives_of f.directives.items) (below_if f.selection_set)
 
 abbrev pub inline_step : open-selection.Inline-F Selection Selection Selection SelectionSet
     → Selection
-inline_step i = Inline i.place (condition_if i.condition) (directives_of i.directives.items) i.selection_set
+inline_step i =
+    Inline i.place (condition_if i.condition) (directives_of i.directives.items) i.selection_set
 
 abbrev pub set_of : rust-set.SelectionSet → SelectionSet
-set_of = fold-SelectionSet Selection Selection Selection SelectionSet selection_step field_step inline_step set_step
+set_of = fold-SelectionSet Selection Selection Selection SelectionSet selection_step
+    field_step inline_step set_step
 
 abbrev pub selection_of : rust-selection.Selection → Selection
-selection_of = fold-Selection Selection Selection Selection SelectionSet selection_step field_step inline_step set_step
+selection_of = fold-Selection Selection Selection Selection SelectionSet selection_step
+    field_step inline_step set_step
 
 abbrev pub field_of : rust-field.Field → Selection
-field_of = fold-Field Selection Selection Selection SelectionSet selection_step field_step inline_step set_step
+field_of = fold-Field Selection Selection Selection SelectionSet selection_step
+    field_step inline_step set_step
 
 abbrev pub inline_of : rust-inline.Inline → Selection
-inline_of = fold-Inline Selection Selection Selection SelectionSet selection_step field_step inline_step set_step
+inline_of = fold-Inline Selection Selection Selection SelectionSet selection_step
+    field_step inline_step set_step
 
 abbrev pub below_of : Option rust-set.SelectionSet → Below
 below_of None = nothing_below
@@ -275,4 +286,7 @@ fragment_of f = record {
 }
 
 abbrev pub document_of : rust-document.Document → Document
-document_of d = record { operations = map operation_of d.operations.items; fragments = map fragment_of d.fragments.items }
+document_of d = record {
+  operations = map operation_of d.operations.items;
+  fragments = map fragment_of d.fragments.items;
+}

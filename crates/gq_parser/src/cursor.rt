@@ -59,7 +59,8 @@ impl<'a> Parser<'a> {
 
     /// The fault of a token that may not be next.
     pub(crate) fn fault_here(&self) -> Fault
-        ensures { result ≡ Fault.Unexpected (place_of_next self.now) }
+        ensures { result ≡ Fault.Unexpected
+            (place_of_next self.now) }
     {
         Fault::Unexpected(self.rest.first().map(|token| token.place()))
     }
@@ -80,7 +81,8 @@ impl<'a> Parser<'a> {
 
     /// The place of the next token, which is taken if it is this one.
     pub(crate) fn take(&mut self, punct: Punct) -> Option<Place>
-        ensures { Takes (words.Punct punct) self.old self.new result }
+        ensures { Takes (words.Punct punct)
+            self.old self.new result }
     {
         match self.rest.split_first() {
             Some((token, rest)) if token.kind == TokenKind::Punct(punct) => {
@@ -93,7 +95,8 @@ impl<'a> Parser<'a> {
 
     /// Tells whether the next token is this one, which is then taken.
     pub(crate) fn eat(&mut self, punct: Punct) -> bool
-        ensures { Eats (words.Punct punct) self.old self.new result }
+        ensures { Eats (words.Punct punct)
+            self.old self.new result }
     {
         self.take(punct).is_some()
     }
@@ -136,7 +139,8 @@ impl<'a> Parser<'a> {
     pub(crate) fn name(&mut self) -> Result<LocatedText<String>, Fault>
         ensures reads { (room : _) → ReadsOne (λ n.
             IsName n.place (string_bytes n.value)) AName room self.old self.new result }
-        ensures shrinks { OnOk result (length self.new < length self.old) }
+        ensures shrinks { OnOk result
+            (length self.new < length self.old) }
     {
         let LocatedText { place, value } = self.next()?;
         let Lexeme::Name(name) = value else {
@@ -150,7 +154,8 @@ impl<'a> Parser<'a> {
     pub(crate) fn fragment_name(&mut self) -> Result<String, Fault>
         ensures reads { (room : _) → ReadsOne (λ n. IsFragmentNameTaken (string_bytes n))
             AFragmentName room self.old self.new result }
-        ensures shrinks { OnOk result (length self.new < length self.old) }
+        ensures shrinks { OnOk result
+            (length self.new < length self.old) }
     {
         let LocatedText { place, value } = self.next()?;
         match value {
@@ -163,8 +168,10 @@ impl<'a> Parser<'a> {
 
     /// The word `on`.
     pub(crate) fn on(&mut self) -> Result<(), Fault>
-        ensures reads { (room : _) → ReadsOne (λ _. IsOnTaken) AnOn room self.old self.new result }
-        ensures shrinks { OnOk result (length self.new < length self.old) }
+        ensures reads { (room : _) → ReadsOne (λ _.
+            IsOnTaken) AnOn room self.old self.new result }
+        ensures shrinks { OnOk result
+            (length self.new < length self.old) }
     {
         let LocatedText { place, value } = self.next()?;
         match value {
@@ -176,7 +183,8 @@ impl<'a> Parser<'a> {
     pub(crate) fn colon(&mut self) -> Result<(), Fault>
         ensures reads { (room : _) → ReadsOne (λ _.
             IsPunct (words.Punct Punct.Colon)) AColon room self.old self.new result }
-        ensures shrinks { OnOk result (length self.new < length self.old) }
+        ensures shrinks { OnOk result
+            (length self.new < length self.old) }
     {
         let LocatedText { place, value } = self.next()?;
         match value {
@@ -189,7 +197,8 @@ impl<'a> Parser<'a> {
     pub(crate) fn dollar(&mut self) -> Result<Place, Fault>
         ensures reads { (room : _) → Reads IsDollarTaken room (one FirstVariable)
             room (a_variable_then ++ one MoreVariables) self.old self.new result }
-        ensures shrinks { OnOk result (length self.new < length self.old) }
+        ensures shrinks { OnOk result
+            (length self.new < length self.old) }
     {
         let LocatedText { place, value } = self.next()?;
         match value {
@@ -202,7 +211,8 @@ impl<'a> Parser<'a> {
     pub(crate) fn bracket(&mut self) -> Result<(), Fault>
         ensures reads { (room : _) → Reads (λ _. IsPunct (words.Punct Punct.BracketRight))
             room (one ABracket) (suc room) [] self.old self.new result }
-        ensures shrinks { OnOk result (length self.new < length self.old) }
+        ensures shrinks { OnOk result
+            (length self.new < length self.old) }
     {
         let LocatedText { place, value } = self.next()?;
         match value {
@@ -215,7 +225,8 @@ impl<'a> Parser<'a> {
     pub(crate) fn name_if(&mut self) -> Result<Option<String>, Fault>
         ensures reads { (room : _)
             → ReadsOne (λ n. IsOptionalName (text_if n)) MaybeName room self.old self.new result }
-        ensures shrinks { OnOk result (length self.new ≤ length self.old) }
+        ensures shrinks { OnOk result
+            (length self.new ≤ length self.old) }
     {
         let Some(name) = self.take_name() else {
             return Ok(None);

@@ -22,7 +22,8 @@ pub(crate) enum Definition {
 
 /// The kind of operation that a word begins, if it begins one.
 fn kind_of(keyword: Keyword) -> Option<OperationKind>
-    ensures { MatchOption result (IsNoKind keyword) (λ kind. IsKind kind keyword) }
+    ensures { MatchOption result (IsNoKind keyword)
+        (λ kind. IsKind kind keyword) }
 {
     match keyword {
         Keyword::Query => Some(OperationKind::Query),
@@ -37,7 +38,8 @@ impl Parser<'_> {
     fn default_value(&mut self, room: u32) -> Result<Option<Literal>, Fault>
         ensures reads { ReadsOne (λ d. IsDefault (default_of d))
             MaybeDefault room self.old self.new result }
-        ensures shrinks { OnOk result (length self.new ≤ length self.old) }
+        ensures shrinks { OnOk result
+            (length self.new ≤ length self.old) }
     {
         if !self.eat(Punct::Equals) {
             return Ok(None);
@@ -48,7 +50,8 @@ impl Parser<'_> {
     fn variable(&mut self, room: u32) -> Result<VariableDefinition, Fault>
         ensures reads { Reads (λ v. IsVariable (variable_of v)) room
             (one FirstVariable) room (one MoreVariables) self.old self.new result }
-        ensures shrinks { OnOk result (length self.new < length self.old) }
+        ensures shrinks { OnOk result
+            (length self.new < length self.old) }
     {
         let place = self.dollar()?;
         let name = self.name()?.value;
@@ -69,7 +72,8 @@ impl Parser<'_> {
     fn variables(&mut self, room: u32) -> Result<Vec<VariableDefinition>, Fault>
         ensures reads { ReadsOne (λ vs. AreOptionalVariables (variables_of vs.items))
             MaybeVariables room self.old self.new result }
-        ensures shrinks { OnOk result (length self.new ≤ length self.old) }
+        ensures shrinks { OnOk result
+            (length self.new ≤ length self.old) }
     {
         let mut variables = Vec::new(self.alloc);
         let Some(place) = self.take(Punct::ParenLeft) else {
@@ -94,7 +98,8 @@ impl Parser<'_> {
     ) -> Result<Operation, Fault>
         ensures reads { Reads (IsOperationAfterKind place kind) room
             an_operation_then room [] self.old self.new result }
-        ensures shrinks { OnOk result (length self.new ≤ length self.old) }
+        ensures shrinks { OnOk result
+            (length self.new ≤ length self.old) }
     {
         let name = self.name_if()?;
         let variables = self.variables(room)?;
@@ -114,7 +119,8 @@ impl Parser<'_> {
     fn fragment(&mut self, place: Place, room: u32) -> Result<Fragment, Fault>
         ensures reads { Reads (IsFragmentAfterWord place) room
             a_fragment_then room [] self.old self.new result }
-        ensures shrinks { OnOk result (length self.new ≤ length self.old) }
+        ensures shrinks { OnOk result
+            (length self.new ≤ length self.old) }
     {
         let name = self.fragment_name()?;
         self.on()?;
@@ -134,7 +140,8 @@ impl Parser<'_> {
     fn shorthand(&mut self, place: Place, room: u32) -> Result<Operation, Fault>
         ensures reads { Reads (IsOperationAfterBrace place) room
             (one FirstSelection) (suc room) [] self.old self.new result }
-        ensures shrinks { OnOk result (length self.new ≤ length self.old) }
+        ensures shrinks { OnOk result
+            (length self.new ≤ length self.old) }
     {
         let selection_set = self.selections(place, room)?;
         Ok(Operation {
@@ -148,8 +155,10 @@ impl Parser<'_> {
     }
 
     pub(crate) fn definition(&mut self, room: u32) -> Result<Definition, Fault>
-        ensures reads { ReadsOne IsDefinition ADefinition room self.old self.new result }
-        ensures shrinks { OnOk result (length self.new < length self.old) }
+        ensures reads { ReadsOne IsDefinition
+            ADefinition room self.old self.new result }
+        ensures shrinks { OnOk result
+            (length self.new < length self.old) }
     {
         if let Some(LocatedText { place, value: word }) = self.take_name() {
             let keyword = keyword_of(word);

@@ -73,10 +73,12 @@ fn parse_fault_of(fault: Fault, text: &str) -> ParseFault
 /// while 128 are open. [`ParseFault::NoMemory`] comes as soon as memory runs out, before any fault further on.
 pub fn parse(alloc: Global, text: &str) -> Result<Document, ParseFault>
     // The document is what the grammar says, and no bracket in it is opened while 128 are open.
-    ensures found { IfOk result (λ d. IsDocumentOf text.now (document_of d)) }
+    ensures found { IfOk result
+        (λ d. IsDocumentOf text.now (document_of d)) }
 
     // Such a document is found, and there is no other.
-    ensures only { (d : trees.Document) → IsDocumentOf text.now d → Finds d result }
+    ensures only { (d : trees.Document)
+        → IsDocumentOf text.now d → Finds d result }
 
     // Otherwise the first fault is reported, with its place.
     ensures fault { IfErr result (IsParseFault text.now) }

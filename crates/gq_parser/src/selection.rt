@@ -26,7 +26,8 @@ impl Parser<'_> {
     fn field_name(&mut self, first: String) -> Result<FieldName, Fault>
         ensures reads { (room : _) (place : _) (k : keywords.Keyword)
             → ReadsOne (AreNamesAfterFirst place k first) AfterName room self.old self.new result }
-        ensures shrinks { OnOk result (length self.new ≤ length self.old) }
+        ensures shrinks { OnOk result
+            (length self.new ≤ length self.old) }
     {
         if !self.eat(Punct::Colon) {
             return Ok(FieldName {
@@ -45,7 +46,8 @@ impl Parser<'_> {
     fn selection(&mut self, room: u32) -> Result<Selection, Fault>
         ensures reads { Reads (λ s. IsSelection (selection_of s)) room
             (one FirstSelection) room (one MoreSelections) self.old self.new result }
-        ensures shrinks { OnOk result (length self.new < length self.old) }
+        ensures shrinks { OnOk result
+            (length self.new < length self.old) }
     {
         if let Some(LocatedText { place, value }) = self.take_name() {
             let first = String::from_str(self.alloc, value)?;
@@ -62,7 +64,8 @@ impl Parser<'_> {
     fn field(&mut self, place: Place, first: String, room: u32) -> Result<Field, Fault>
         ensures reads { (k : keywords.Keyword) → Reads (IsFieldAfterName place k first)
             room a_field_then room [] self.old self.new result }
-        ensures shrinks { OnOk result (length self.new ≤ length self.old) }
+        ensures shrinks { OnOk result
+            (length self.new ≤ length self.old) }
     {
         let FieldName { alias, name } = self.field_name(first)?;
         let arguments = self.arguments(Constness::NotConst, room)?;
@@ -83,7 +86,8 @@ impl Parser<'_> {
     fn dots(&mut self, place: Place, room: u32) -> Result<Selection, Fault>
         ensures reads { ReadsOne (IsSelectionAfterDots place)
             AfterDots room self.old self.new result }
-        ensures shrinks { OnOk result (length self.new ≤ length self.old) }
+        ensures shrinks { OnOk result
+            (length self.new ≤ length self.old) }
     {
         let Some(name) = self.take_name() else {
             return Ok(Selection::Inline(self.inline(place, None, room)?));
@@ -105,7 +109,8 @@ impl Parser<'_> {
     pub(crate) fn condition(&mut self) -> Result<TypeCondition, Fault>
         ensures reads { (room : _) → ReadsOne (λ c.
             IsName c.place (string_bytes c.name)) AName room self.old self.new result }
-        ensures shrinks { OnOk result (length self.new < length self.old) }
+        ensures shrinks { OnOk result
+            (length self.new < length self.old) }
     {
         let LocatedText { place, value: name } = self.name()?;
         Ok(TypeCondition { place, name })
@@ -121,7 +126,8 @@ impl Parser<'_> {
     ) -> Result<Inline, Fault>
         ensures reads { Reads (IsInlineAfterCondition place condition)
             room an_inline_then room [] self.old self.new result }
-        ensures shrinks { OnOk result (length self.new ≤ length self.old) }
+        ensures shrinks { OnOk result
+            (length self.new ≤ length self.old) }
     {
         let directives = self.directives(Constness::NotConst, room)?;
         let selection_set = self.set(room)?;
@@ -138,7 +144,8 @@ impl Parser<'_> {
     fn maybe_set(&mut self, room: u32) -> Result<Option<SelectionSet>, Fault>
         ensures reads { ReadsOne (λ s. IsOptionalSet (below_of s))
             MaybeSet room self.old self.new result }
-        ensures shrinks { OnOk result (length self.new ≤ length self.old) }
+        ensures shrinks { OnOk result
+            (length self.new ≤ length self.old) }
     {
         let Some(place) = self.take(Punct::BraceLeft) else {
             return Ok(None);
@@ -154,7 +161,8 @@ impl Parser<'_> {
     pub(crate) fn set(&mut self, room: u32) -> Result<SelectionSet, Fault>
         ensures reads { ReadsOne (λ s. IsSelectionSet (set_of s))
             ASet room self.old self.new result }
-        ensures shrinks { OnOk result (length self.new < length self.old) }
+        ensures shrinks { OnOk result
+            (length self.new < length self.old) }
     {
         let Some(place) = self.take(Punct::BraceLeft) else {
             return Err(self.fault_here());
@@ -170,7 +178,8 @@ impl Parser<'_> {
     pub(crate) fn selections(&mut self, place: Place, room: u32) -> Result<SelectionSet, Fault>
         ensures reads { Reads (IsSetAfterBrace place) room
             (one FirstSelection) (suc room) [] self.old self.new result }
-        ensures shrinks { OnOk result (length self.new < length self.old) }
+        ensures shrinks { OnOk result
+            (length self.new < length self.old) }
     {
         let mut selections = Vec::with_capacity(self.alloc, 1)?;
         selections.push(self.selection(room)?)?;

@@ -26,7 +26,8 @@ pub enum Constness {
 
 /// Returns what a name says where a value is wanted.
 fn named_value(alloc: Global, place: Place, name: &str) -> Result<Literal, Fault>
-    ensures value { IfOk result (IsNamedValue place name.now) }
+    ensures value { IfOk result
+        (IsNamedValue place name.now) }
     ensures fault { IfErr result (λ f. f ≡ Fault.NoMemory) }
 {
     match keyword_of(name) {
@@ -54,7 +55,8 @@ impl Parser<'_> {
     pub(crate) fn value(&mut self, constness: Constness, room: u32) -> Result<Literal, Fault>
         ensures reads { ReadsOne (λ v. IsValue constness (literal_of v))
             (AValue constness) room self.old self.new result }
-        ensures shrinks { OnOk result (length self.new < length self.old) }
+        ensures shrinks { OnOk result
+            (length self.new < length self.old) }
     {
         let LocatedText { place, value } = self.next()?;
         match value {
@@ -116,7 +118,8 @@ impl Parser<'_> {
     fn values(&mut self, constness: Constness, room: u32) -> Result<Vec<Literal>, Fault>
         ensures reads { Reads (λ vs. AreValues constness (map_literals vs.items))
             room (one (MoreValues constness)) (suc room) [] self.old self.new result }
-        ensures shrinks { OnOk result (length self.new < length self.old) }
+        ensures shrinks { OnOk result
+            (length self.new < length self.old) }
     {
         let mut values = Vec::new(self.alloc);
         while !self.eat(Punct::BracketRight) {
@@ -130,7 +133,8 @@ impl Parser<'_> {
     fn members(&mut self, constness: Constness, room: u32) -> Result<Vec<Argument>, Fault>
         ensures reads { Reads (λ ms. AreMembers constness (map_members ms.items)) room
             (one (MoreMembers constness)) (suc room) [] self.old self.new result }
-        ensures shrinks { OnOk result (length self.new < length self.old) }
+        ensures shrinks { OnOk result
+            (length self.new < length self.old) }
     {
         let mut members = Vec::new(self.alloc);
         while !self.eat(Punct::BraceRight) {
@@ -144,7 +148,8 @@ impl Parser<'_> {
     fn argument(&mut self, constness: Constness, room: u32) -> Result<Argument, Fault>
         ensures reads { Reads (λ a. IsArgument constness (argument_of a))
             room (an_argument constness) room [] self.old self.new result }
-        ensures shrinks { OnOk result (length self.new < length self.old) }
+        ensures shrinks { OnOk result
+            (length self.new < length self.old) }
     {
         let LocatedText { place, value: name } = self.name()?;
         self.colon()?;
@@ -160,7 +165,8 @@ impl Parser<'_> {
     ) -> Result<Vec<Argument>, Fault>
         ensures reads { ReadsOne (λ args. AreOptionalArguments constness (arguments_of args.items))
             (MaybeArguments constness) room self.old self.new result }
-        ensures shrinks { OnOk result (length self.new ≤ length self.old) }
+        ensures shrinks { OnOk result
+            (length self.new ≤ length self.old) }
     {
         let mut arguments = Vec::new(self.alloc);
         let Some(place) = self.take(Punct::ParenLeft) else {
@@ -184,7 +190,8 @@ impl Parser<'_> {
     ) -> Result<Vec<Directive>, Fault>
         ensures reads { ReadsOne (λ ds. AreDirectives constness (directives_of ds.items))
             (MaybeDirectives constness) room self.old self.new result }
-        ensures shrinks { OnOk result (length self.new ≤ length self.old) }
+        ensures shrinks { OnOk result
+            (length self.new ≤ length self.old) }
     {
         let mut directives = Vec::new(self.alloc);
         while let Some(place) = self.take(Punct::At) {
@@ -202,8 +209,10 @@ impl Parser<'_> {
     /// A type.
     #[cycle(type_ref)]
     pub(crate) fn type_ref(&mut self, room: u32) -> Result<TypeRef, Fault>
-        ensures reads { ReadsOne (λ t. IsType (type_of t)) AType room self.old self.new result }
-        ensures shrinks { OnOk result (length self.new < length self.old) }
+        ensures reads { ReadsOne (λ t. IsType (type_of t))
+            AType room self.old self.new result }
+        ensures shrinks { OnOk result
+            (length self.new < length self.old) }
     {
         if let Some(LocatedText { place, value: name }) = self.take_name() {
             return self.named_type(place, name);
@@ -221,7 +230,8 @@ impl Parser<'_> {
     fn named_type(&mut self, place: Place, name: &str) -> Result<TypeRef, Fault>
         ensures reads { (room : _) (k : keywords.Keyword)
             → ReadsOne (IsTypeAfterName place k name.now) MaybeBang room self.old self.new result }
-        ensures shrinks { OnOk result (length self.new ≤ length self.old) }
+        ensures shrinks { OnOk result
+            (length self.new ≤ length self.old) }
     {
         let name = String::from_str(self.alloc, name)?;
         let non_null = self.eat(Punct::Bang);
@@ -237,7 +247,8 @@ impl Parser<'_> {
     fn list_type(&mut self, place: Place, room: u32) -> Result<TypeRef, Fault>
         ensures reads { Reads (IsTypeAfterBracket place) room
             (AType ∷ ABracket ∷ one MaybeBang) (suc room) [] self.old self.new result }
-        ensures shrinks { OnOk result (length self.new ≤ length self.old) }
+        ensures shrinks { OnOk result
+            (length self.new ≤ length self.old) }
     {
         let item = self.type_ref(room)?;
         self.bracket()?;

@@ -23,7 +23,8 @@ is_in_range text =
 
 -- the number that the text of an Int writes, within signed 32 bits
 abbrev pub int_of : List ℕ → Option ℤ
-int_of text = if is_numeral (without_leading_sign text) && is_in_range text then Some (signed_digits_value 10 text) else None
+int_of text = if is_numeral (without_leading_sign text) && is_in_range text
+    then Some (signed_digits_value 10 text) else None
 
 abbrev pub int_input : Option ℤ → Option Input
 int_input (Some z) = Some (Int z)
@@ -38,7 +39,8 @@ from_int name text =
 
 -- gives what a string gives
 abbrev pub from_text : List ℕ → List ℕ → Option Input
-from_text name text = if bytes_eq name (codes "ID") || bytes_eq name (codes "String") then Some (Text text) else None
+from_text name text =
+    if bytes_eq name (codes "ID") || bytes_eq name (codes "String") then Some (Text text) else None
 
 abbrev pub from_boolean : List ℕ → Bool → Option Input
 from_boolean name b = if bytes_eq name (codes "Boolean") then Some (Boolean b) else None
@@ -85,7 +87,8 @@ list_value variable item non_null v = one_item (item v)
 
 abbrev pub value_with : Option Input → List Definition → TypeTree → Value → Option Input
 value_with variable defs (Named p n non_null) v = named_value variable defs n non_null v
-value_with variable defs (ListOf p t non_null) v = list_value variable (value_with variable defs t) non_null v
+value_with variable defs (ListOf p t non_null) v =
+    list_value variable (value_with variable defs t) non_null v
 
 -- gives what a literal without variables gives, where it is right
 abbrev pub coerced : List Definition → TypeTree → Value → Option Input

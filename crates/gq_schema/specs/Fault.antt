@@ -15,7 +15,8 @@ use Rattle.gq_schema.specs.Defaults.{first_bad_default}
 
 -- There is neither a `schema` nor a type `Query`.
 abbrev pub missing_root : List Definition → Option SchemaFault
-missing_root defs = if is_some (declared_root defs) || is_some (type_in defs query) then None else Some NoQueryRoot
+missing_root defs =
+    if is_some (declared_root defs) || is_some (type_in defs query) then None else Some NoQueryRoot
 
 -- gives what is left to be reported once no name is reserved and none is defined twice
 abbrev pub fault_of_types : List Definition → Option SchemaFault
@@ -28,4 +29,5 @@ fault_of_types defs =
 -- The fault that is reported of these definitions: the first of the rules in this order that is broken, at the first place in
 -- the text where it is.
 abbrev pub fault_of : List Definition → Option SchemaFault
-fault_of defs = or_else (option_map ReservedName (first_reserved defs)) (or_else (option_map Duplicate (first_repeated defs)) (fault_of_types defs))
+fault_of defs = or_else (option_map ReservedName (first_reserved defs))
+    (or_else (option_map Duplicate (first_repeated defs)) (fault_of_types defs))

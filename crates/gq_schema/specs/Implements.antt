@@ -14,7 +14,8 @@ argument_in arguments name = find (is_argument name) arguments
 
 -- one of these is the wanted argument, of the same type
 abbrev pub has_argument : List Argument → Argument → Bool
-has_argument own wanted = option_map_or (λ (a : Argument). is_same_type a.of_type wanted.of_type) (argument_in own wanted.name.text) false
+has_argument own wanted = option_map_or (λ (a : Argument). is_same_type a.of_type wanted.of_type)
+    (argument_in own wanted.name.text) false
 
 abbrev pub is_required : Argument → Bool
 is_required a = is_non_null a.of_type && not (is_some a.default)
@@ -25,11 +26,14 @@ may_stand wanted a = is_some (argument_in wanted a.name.text) || not (is_require
 
 -- the field serves as the wanted one
 abbrev pub serves : List Definition → Field → Field → Bool
-serves defs wanted f = is_covariant defs f.of_type wanted.of_type && (list_all (has_argument f.arguments) wanted.arguments && list_all (may_stand wanted.arguments) f.arguments)
+serves defs wanted f = is_covariant defs f.of_type wanted.of_type
+    && (list_all (has_argument f.arguments) wanted.arguments
+    && list_all (may_stand wanted.arguments) f.arguments)
 
 -- the type has a field that serves as the wanted one
 abbrev pub has_field : List Definition → List ℕ → Field → Bool
-has_field defs ty wanted = option_map_or (serves defs wanted) (field_in defs ty wanted.name.text) false
+has_field defs ty wanted =
+    option_map_or (serves defs wanted) (field_in defs ty wanted.name.text) false
 
 -- the type has each field of the interface
 abbrev pub implements : List Definition → List ℕ → List ℕ → Bool

@@ -36,7 +36,8 @@ is_among q names = list_any (bytes_eq q) (map text_of names)
 -- the unions that have the member o
 abbrev pub unions_at : {S : Type 0}
     → HashMap (Bor (List ℕ)) (Vec (Bor rust.Name)) S → List ℕ → List (List ℕ)
-unions_at unions o = map text_of (option_map_or (λ v. v.items) (get_by (λ k. bytes_eq o k.now) unions) [])
+unions_at unions o =
+    map text_of (option_map_or (λ v. v.items) (get_by (λ k. bytes_eq o k.now) unions) [])
 
 -- the map says that the union q has the member o
 abbrev pub has_union : {S : Type 0}
@@ -49,13 +50,15 @@ with_union_if b union unions = if b then unions ++ string_bytes union.text ∷ [
 
 -- the union is q and has the member o
 abbrev pub is_union_with : rust-union.UnionDefinition → List ℕ → List ℕ → Bool
-is_union_with union o q = bytes_eq q (string_bytes union.name.text) && list_any (is_called o) (names_of union.members.items)
+is_union_with union o q = bytes_eq q (string_bytes union.name.text)
+    && list_any (is_called o) (names_of union.members.items)
 
 -- the type q can be this object: it is the object itself, or an interface or a union of it
 abbrev pub includes : {S : Type 0} → HashMap (Bor (List ℕ)) (Vec (Bor rust.Name)) S
     → List ℕ → rust-object.ObjectDefinition → Bool
 includes unions q object =
-    bytes_eq q (string_bytes object.name.text) || (list_any (is_called q) (names_of object.interfaces.items) || has_union unions (string_bytes object.name.text) q)
+    bytes_eq q (string_bytes object.name.text) || (list_any (is_called q)
+    (names_of object.interfaces.items) || has_union unions (string_bytes object.name.text) q)
 
 -- the map has the unions of each member that these definitions define
 abbrev pub AreUnions : {S : Type 0}

@@ -10,12 +10,14 @@ use Rattle.gq_schema.specs.Types.{is_called, is_argument, is_field, is_built_in,
 -- the first of these names that stands before itself, among the earlier ones too
 abbrev pub repeated_name : List Name → List Name → Option Place
 repeated_name earlier [] = None
-repeated_name earlier (n ∷ ns) = if list_any (is_called n.text) earlier then Some n.place else repeated_name (earlier ++ n ∷ []) ns
+repeated_name earlier (n ∷ ns) = if list_any (is_called n.text) earlier then Some n.place
+    else repeated_name (earlier ++ n ∷ []) ns
 
 -- gives the same of arguments
 abbrev pub repeated_argument : List Argument → List Argument → Option Place
 repeated_argument earlier [] = None
-repeated_argument earlier (a ∷ others) = if list_any (is_argument a.name.text) earlier then Some a.name.place else repeated_argument (earlier ++ a ∷ []) others
+repeated_argument earlier (a ∷ others) = if list_any (is_argument a.name.text) earlier
+    then Some a.name.place else repeated_argument (earlier ++ a ∷ []) others
 
 -- gives the same of fields, and of the arguments of each
 abbrev pub repeated_field : List Field → List Field → Option Place
@@ -30,7 +32,8 @@ is_root _ = false
 
 -- the name of a type, where it is built in or one of these defines it
 abbrev pub repeated_type : List Definition → Name → Option Place
-repeated_type earlier n = if is_built_in n.text || list_any (defines n.text) earlier then Some n.place else None
+repeated_type earlier n =
+    if is_built_in n.text || list_any (defines n.text) earlier then Some n.place else None
 
 -- the name of a definition, or its word `schema`, where these stood earlier
 abbrev pub repeated_self : List Definition → Definition → Option Place
@@ -51,7 +54,8 @@ repeated_within (Enum n vs) = repeated_name [] vs
 -- the first name that these definitions define again, behind the earlier ones
 abbrev pub repeated_from : List Definition → List Definition → Option Place
 repeated_from earlier [] = None
-repeated_from earlier (d ∷ ds) = or_else (repeated_self earlier d) (or_else (repeated_within d) (repeated_from (earlier ++ d ∷ []) ds))
+repeated_from earlier (d ∷ ds) = or_else (repeated_self earlier d)
+    (or_else (repeated_within d) (repeated_from (earlier ++ d ∷ []) ds))
 
 -- the first name of the text that is defined a second time
 abbrev pub first_repeated : List Definition → Option Place

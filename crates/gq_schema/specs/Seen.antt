@@ -11,4 +11,5 @@ has_text seen q = contains_by (λ k. bytes_eq q k.now) seen
 
 -- the place of the name of a type, if it is built in or stood earlier
 abbrev pub place_if_seen : {S : Type 0} → HashSet (Bor (List ℕ)) S → rust.Name → Option Place
-place_if_seen seen n = if is_built_in (string_bytes n.text) || has_text seen (string_bytes n.text) then Some n.place else None
+place_if_seen seen n = if is_built_in (string_bytes n.text) || has_text seen (string_bytes n.text)
+    then Some n.place else None

@@ -26,7 +26,8 @@ is_called q n = bytes_eq q n.text
 
 -- the scalars that each schema has (section 3.5)
 abbrev pub is_built_in : List ℕ → Bool
-is_built_in q = bytes_eq q (codes "Int") || (bytes_eq q (codes "String") || (bytes_eq q (codes "Boolean") || bytes_eq q (codes "ID")))
+is_built_in q = bytes_eq q (codes "Int")
+    || (bytes_eq q (codes "String") || (bytes_eq q (codes "Boolean") || bytes_eq q (codes "ID")))
 
 -- the type that a definition defines
 abbrev pub type_name : Definition → Option Name
@@ -53,7 +54,8 @@ kind_of (Enum n vs) = Some kind.Enum
 
 -- gives what the type q is, where there is such a type
 abbrev pub kind_in : List Definition → List ℕ → Option TypeKind
-kind_in defs q = if is_built_in q then Some kind.Scalar else option_and_then kind_of (type_in defs q)
+kind_in defs q =
+    if is_built_in q then Some kind.Scalar else option_and_then kind_of (type_in defs q)
 
 -- ---- fields, arguments and values
 
@@ -110,7 +112,8 @@ has_member q o _ = false
 
 -- The definition is of an object type that is the type q, implements it, or is a member of it.
 abbrev pub is_possible : List Definition → List ℕ → Definition → Bool
-is_possible defs q (Object n is fs) = bytes_eq q n.text || (list_any (is_called q) is || list_any (has_member q n.text) defs)
+is_possible defs q (Object n is fs) =
+    bytes_eq q n.text || (list_any (is_called q) is || list_any (has_member q n.text) defs)
 is_possible defs q _ = false
 
 -- these names, with one more after them, unless it is there
@@ -126,7 +129,8 @@ possible_names defs q = fold with_type [] (filter (is_possible defs q) defs)
 
 -- gives the same, where q is an object type, an interface or a union
 abbrev pub possible_in : List Definition → List ℕ → Option (List (List ℕ))
-possible_in defs q = option_and_then (λ k. if is_leaf k then None else Some (possible_names defs q)) (kind_in defs q)
+possible_in defs q =
+    option_and_then (λ k. if is_leaf k then None else Some (possible_names defs q)) (kind_in defs q)
 
 -- an object type of this name is a possible type of the type q
 abbrev pub can_be : List Definition → List ℕ → List ℕ → Bool
@@ -138,8 +142,10 @@ can_be defs q name = list_any (λ d. defines name d && is_possible defs q d) def
 -- union that has it; a list for a list with covariant items; a non-null type for a type, or a non-null type, of which
 -- the unwrapped one is covariant.
 abbrev pub is_covariant : List Definition → TypeTree → TypeTree → Bool
-is_covariant defs (Named p n non_null) (Named q m wanted) = (non_null || not wanted) && (bytes_eq n m || can_be defs m n)
-is_covariant defs (ListOf p t non_null) (ListOf q u wanted) = (non_null || not wanted) && is_covariant defs t u
+is_covariant defs (Named p n non_null) (Named q m wanted) =
+    (non_null || not wanted) && (bytes_eq n m || can_be defs m n)
+is_covariant defs (ListOf p t non_null) (ListOf q u wanted) =
+    (non_null || not wanted) && is_covariant defs t u
 is_covariant defs _ _ = false
 
 abbrev pub is_same_flag : Bool → Bool → Bool
@@ -148,7 +154,8 @@ is_same_flag false b = not b
 
 abbrev pub is_same_type : TypeTree → TypeTree → Bool
 is_same_type (Named p n non_null) (Named q m wanted) = is_same_flag non_null wanted && bytes_eq n m
-is_same_type (ListOf p t non_null) (ListOf q u wanted) = is_same_flag non_null wanted && is_same_type t u
+is_same_type (ListOf p t non_null) (ListOf q u wanted) =
+    is_same_flag non_null wanted && is_same_type t u
 is_same_type _ _ = false
 
 -- the name at the core of a type, with its place

@@ -35,7 +35,8 @@ abbrev pub broken_argument : List Definition → TypeUseDemand → Argument → 
 broken_argument defs rule a = broken_use defs rule ArgumentType (core_of a.of_type)
 
 abbrev pub broken_field : List Definition → TypeUseDemand → Field → Option Place
-broken_field defs rule f = or_else (first_in (broken_argument defs rule) f.arguments) (broken_use defs rule FieldType (core_of f.of_type))
+broken_field defs rule f = or_else (first_in (broken_argument defs rule) f.arguments)
+    (broken_use defs rule FieldType (core_of f.of_type))
 
 -- Without `schema` the definition of `Query` is the root, at its own name.
 abbrev pub is_own_root : List Definition → Name → Bool
@@ -46,9 +47,12 @@ broken_root defs rule n = if is_own_root defs n then broken_use defs rule Root n
 
 abbrev pub broken_in : List Definition → TypeUseDemand → Definition → Option Place
 broken_in defs rule (Schema p n) = broken_use defs rule Root n
-broken_in defs rule (Object n is fs) = or_else (broken_root defs rule n) (or_else (first_in (broken_use defs rule Implemented) is) (first_in (broken_field defs rule) fs))
-broken_in defs rule (Interface n fs) = or_else (broken_root defs rule n) (first_in (broken_field defs rule) fs)
-broken_in defs rule (Union n ms) = or_else (broken_root defs rule n) (first_in (broken_use defs rule Member) ms)
+broken_in defs rule (Object n is fs) = or_else (broken_root defs rule n) (or_else
+    (first_in (broken_use defs rule Implemented) is) (first_in (broken_field defs rule) fs))
+broken_in defs rule (Interface n fs) =
+    or_else (broken_root defs rule n) (first_in (broken_field defs rule) fs)
+broken_in defs rule (Union n ms) =
+    or_else (broken_root defs rule n) (first_in (broken_use defs rule Member) ms)
 broken_in defs rule (Enum n vs) = broken_root defs rule n
 
 -- the first use in the text that breaks the rule

@@ -27,7 +27,8 @@ fn missing_root(schema: &Schema) -> Option<SchemaFault>
 
 // The first fault in types, interfaces and defaults, in the order of the rules.
 fn fault_of_types(alloc: Global, schema: &Schema) -> Result<Option<SchemaFault>, AllocError>
-    ensures { IfOk result (λ fault. fault ≡ fault_of_types (tree_of schema.now)) }
+    ensures { IfOk result (λ fault.
+        fault ≡ fault_of_types (tree_of schema.now)) }
 {
     if let Some(place) = first_broken(schema, TypeUseDemand::IsDefined) {
         return Ok(Some(SchemaFault::UnknownType(place)));
@@ -46,8 +47,10 @@ fn fault_of_types(alloc: Global, schema: &Schema) -> Result<Option<SchemaFault>,
 
 /// The schema of these definitions, where they keep the rules (section 3).
 pub fn check(alloc: Global, document: SchemaDocument) -> Result<Schema, SchemaFault>
-    ensures definitions { IfOk result (λ schema. schema ≡ document.definitions.items) }
-    ensures sound { IfOk result (λ _. fault_of (tree_of document.definitions.items) ≡ None) }
+    ensures definitions { IfOk result
+        (λ schema. schema ≡ document.definitions.items) }
+    ensures sound { IfOk result (λ _. fault_of
+        (tree_of document.definitions.items) ≡ None) }
     ensures fault { IfErr result (λ e.
         e ≢ SchemaFault.NoMemory → fault_of (tree_of document.definitions.items) ≡ Some e) }
 {

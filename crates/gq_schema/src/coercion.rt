@@ -29,7 +29,8 @@ pub fn place_of(literal: &Literal) -> Place
 }
 
 fn accepts_int(name: &str, text: &str) -> bool
-    ensures { result ≡ is_some (from_int name.now text.now) }
+    ensures { result ≡ is_some
+        (from_int name.now text.now) }
 {
     if name == "Int" {
         int_of(text).is_some()
@@ -63,7 +64,8 @@ fn accepts_named(schema: &Schema, ty: &TypeRef, name: &str, literal: &Literal) -
 /// right where the type may be null.
 #[cycle(accepts)]
 pub fn accepts(schema: &Schema, ty: &TypeRef, literal: &Literal) -> bool
-    ensures { result ≡ accepts (tree_of schema.now) (type_of ty.now) (literal_of literal.now) }
+    ensures { result ≡ accepts (tree_of schema.now)
+        (type_of ty.now) (literal_of literal.now) }
 {
     match ty {
         TypeRef::Named { name, .. } => accepts_named(schema, ty, name.as_str(), literal),
@@ -148,7 +150,8 @@ fn coerce_named(
 
 /// A list of one item, where there is one.
 pub fn list_of_one(alloc: Global, item: Option<Input>) -> Result<Option<Input>, AllocError>
-    ensures { Coerces (one_item (option_map input_of item)) result }
+    ensures { Coerces (one_item (option_map input_of item))
+        result }
 {
     match item {
         Some(item) => {

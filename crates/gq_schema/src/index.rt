@@ -26,7 +26,8 @@ pub fn note(places: &mut NameIndices, name: &Name, place: usize) -> Result<(), A
 }
 
 fn field_places(alloc: Global, fields: &[FieldDefinition]) -> Result<NameIndices, AllocError>
-    ensures { IfOk result (ArePlaces is_field (fields_of fields.now)) }
+    ensures { IfOk result
+        (ArePlaces is_field (fields_of fields.now)) }
 {
     let mut places: NameIndices = HashMap::new(alloc);
     for (i, field) in fields.iter().enumerate() {
@@ -36,7 +37,8 @@ fn field_places(alloc: Global, fields: &[FieldDefinition]) -> Result<NameIndices
 }
 
 fn name_places(alloc: Global, names: &[Name]) -> Result<NameIndices, AllocError>
-    ensures { IfOk result (ArePlaces is_called (names_of names.now)) }
+    ensures { IfOk result
+        (ArePlaces is_called (names_of names.now)) }
 {
     let mut places: NameIndices = HashMap::new(alloc);
     for (i, name) in names.iter().enumerate() {
@@ -55,7 +57,8 @@ pub struct IndexedDefinition {
 
 impl IndexedDefinition {
     fn new(alloc: Global, definition: Definition) -> Result<IndexedDefinition, AllocError>
-        ensures { IfOk result (λ indexed. indexed.definition ≡ definition) }
+        ensures { IfOk result
+            (λ indexed. indexed.definition ≡ definition) }
     {
         let parts = match &definition {
             Definition::Object(object) => field_places(alloc, &object.fields)?,
@@ -103,7 +106,8 @@ impl IndexedDefinition {
 
     /// The place of the field or of the enum's value of this name.
     pub(crate) fn place_of(&self, name: &str) -> Option<usize>
-        ensures { result ≡ part_place (definition_of self.now.definition) name.now }
+        ensures { result ≡ part_place
+            (definition_of self.now.definition) name.now }
     {
         self.parts.get(name).copied()
     }

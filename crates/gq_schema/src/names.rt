@@ -16,7 +16,8 @@ pub fn is_built_in(name: &str) -> bool
 
 /// The name of the type that is defined.
 pub fn type_name(definition: &Definition) -> Option<&Name>
-    ensures { option_map name_of (option_copied result) ≡ type_name (definition_of definition.now) }
+    ensures { option_map name_of (option_copied result)
+        ≡ type_name (definition_of definition.now) }
 {
     match definition {
         Definition::Schema(_) => None,
@@ -29,7 +30,8 @@ pub fn type_name(definition: &Definition) -> Option<&Name>
 
 /// The fields of an object type or of an interface.
 pub fn own_fields(definition: &Definition) -> &[FieldDefinition]
-    ensures { fields_of result.now ≡ own_fields (definition_of definition.now) }
+    ensures { fields_of result.now
+        ≡ own_fields (definition_of definition.now) }
 {
     match definition {
         Definition::Object(object) => &object.fields,

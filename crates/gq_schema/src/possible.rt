@@ -92,8 +92,8 @@ fn note_union<'a>(
     member: &'a Name,
     union: &'a Name,
 ) -> Result<(), AllocError>
-    ensures { (o : List ℕ) → OnOk result (unions_at unions.new o
-        ≡ with_union_if (bytes_eq o (string_bytes member.now.text)) union.now (unions_at unions.old o)) }
+    ensures { (o : List ℕ) → OnOk result (unions_at unions.new o ≡ with_union_if
+        (bytes_eq o (string_bytes member.now.text)) union.now (unions_at unions.old o)) }
 {
     unions
         .entry(member.text.as_str())?
@@ -143,7 +143,8 @@ fn unions_in<'a>(
     alloc: Global,
     definitions: &'a [IndexedDefinition],
 ) -> Result<Unions<'a>, AllocError>
-    ensures { IfOk result (λ unions. AreUnions unions (tree_in definitions.now)) }
+    ensures { IfOk result (λ unions.
+        AreUnions unions (tree_in definitions.now)) }
 {
     let mut unions: Unions = HashMap::new(alloc);
     for indexed in definitions {

@@ -33,10 +33,12 @@ impl Schema {
     /// before any fault that would have been found later.
     pub fn read(alloc: Global, text: &str) -> Result<Schema, SchemaFault>
         // The result is a schema, with the definitions that the text says.
-        ensures found { IfOk result (λ schema. IsSchema text.now (tree_of schema)) }
+        ensures found { IfOk result
+            (λ schema. IsSchema text.now (tree_of schema)) }
 
         // A schema is read, and there is no other in the text.
-        ensures only { (defs : _) → IsSchema text.now defs → Reads defs result }
+        ensures only { (defs : _)
+            → IsSchema text.now defs → Reads defs result }
 
         // Otherwise the first fault is reported.
         ensures fault { IfErr result (IsFaultOf text.now) }

@@ -8,7 +8,8 @@ use gq_parser::TypeRef;
 
 /// Tells whether both are the same type.
 pub fn is_same_type(one: &TypeRef, other: &TypeRef) -> bool
-    ensures { result ≡ is_same_type (type_of one.now) (type_of other.now) }
+    ensures { result ≡ is_same_type
+        (type_of one.now) (type_of other.now) }
 {
     match (one, other) {
         (

@@ -50,7 +50,8 @@ impl Model for Schema {
 impl Schema {
     /// The schema of these definitions, which may break rules.
     pub(crate) fn of(alloc: Global, document: SchemaDocument) -> Result<Schema, AllocError>
-        ensures { IfOk result (λ schema. schema ≡ document.definitions.items) }
+        ensures { IfOk result (λ schema.
+            schema ≡ document.definitions.items) }
     {
         let definitions = index(alloc, document.definitions)?;
         let root = declared_root(&definitions)?;
@@ -73,7 +74,8 @@ impl Schema {
 
     /// Tells whether there is a `schema`.
     pub(crate) fn declares_root(&self) -> bool
-        ensures { result ≡ is_some (declared_root (tree_of self.now)) }
+        ensures { result ≡ is_some
+            (declared_root (tree_of self.now)) }
     {
         self.root.is_some()
     }
@@ -99,14 +101,16 @@ impl Schema {
 
     /// Tells whether the text defines a type of this name.
     pub(crate) fn defines(&self, name: &str) -> bool
-        ensures { result ≡ is_some (type_in (tree_of self.now) name.now) }
+        ensures { result ≡ is_some
+            (type_in (tree_of self.now) name.now) }
     {
         self.definition(name).is_some()
     }
 
     /// The kind of a type; `None` if there is no type of this name.
     pub fn kind_of(&self, name: &str) -> Option<TypeKind>
-        ensures { result ≡ kind_in (tree_of self.now) name.now }
+        ensures { result ≡ kind_in
+            (tree_of self.now) name.now }
     {
         if is_built_in(name) {
             return Some(TypeKind::Scalar);
@@ -116,7 +120,8 @@ impl Schema {
 
     /// The fields of an object type or of an interface, in order; none where there is no such type.
     pub fn fields(&self, ty: &str) -> &[FieldDef]
-        ensures { fields_of result.now ≡ fields_in (tree_of self.now) ty.now }
+        ensures { fields_of result.now
+            ≡ fields_in (tree_of self.now) ty.now }
     {
         match self.definition(ty) {
             Some(indexed) => own_fields(&indexed.definition),
@@ -134,7 +139,8 @@ impl Schema {
 
     /// Tells whether a type is an enum that has this value (section 3.9).
     pub fn has_value(&self, ty: &str, value: &str) -> bool
-        ensures { result ≡ has_value (tree_of self.now) ty.now value.now }
+        ensures { result ≡ has_value
+            (tree_of self.now) ty.now value.now }
     {
         match self.definition(ty) {
             Some(indexed) => indexed.has_value(value),
@@ -144,7 +150,8 @@ impl Schema {
 
     /// Tells whether an object type is a possible type of a type: it is that type, implements it, or is a member of it.
     pub fn can_be(&self, ty: &str, object: &str) -> bool
-        ensures { result ≡ can_be (tree_of self.now) ty.now object.now }
+        ensures { result ≡ can_be
+            (tree_of self.now) ty.now object.now }
     {
         match self.possible.get(ty) {
             Some(names) => names.contains(object),
@@ -172,7 +179,8 @@ impl Schema {
     /// it implements or a union that has it; a list with a list, if their items are; a non-null type with one that may
     /// be null.
     pub fn is_covariant(&self, own: &TypeRef, wanted: &TypeRef) -> bool
-        ensures { result ≡ is_covariant (tree_of self.now) (type_of own.now) (type_of wanted.now) }
+        ensures { result ≡ is_covariant (tree_of self.now)
+            (type_of own.now) (type_of wanted.now) }
     {
         match (own, wanted) {
             (
@@ -201,7 +209,8 @@ impl Schema {
 }
 
 fn kind_of(definition: &Definition) -> Option<TypeKind>
-    ensures { result ≡ kind_of (definition_of definition.now) }
+    ensures { result ≡ kind_of
+        (definition_of definition.now) }
 {
     match definition {
         Definition::Schema(_) => None,

@@ -39,7 +39,8 @@ impl TypeNames {
 
     /// Tells whether the name is among them.
     pub fn contains(&self, name: &str) -> bool
-        ensures { result ≡ list_any (bytes_eq name.now) self.now }
+        ensures { result ≡ list_any
+            (bytes_eq name.now) self.now }
     {
         self.present.contains(name)
     }
@@ -53,7 +54,8 @@ impl TypeNames {
 
     /// Adds a name after the others, unless it is among them.
     pub fn add(&mut self, name: &String) -> Result<(), AllocError>
-        ensures { OnOk result (self.new ≡ with_name self.old (string_bytes name.now)) }
+        ensures { OnOk result (self.new
+            ≡ with_name self.old (string_bytes name.now)) }
     {
         if self.present.contains(name.as_str()) {
             return Ok(());

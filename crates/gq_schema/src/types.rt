@@ -17,7 +17,8 @@ pub fn type_places(
     alloc: Global,
     definitions: &[IndexedDefinition],
 ) -> Result<NameIndices, AllocError>
-    ensures { IfOk result (ArePlaces defines (tree_in definitions.now)) }
+    ensures { IfOk result
+        (ArePlaces defines (tree_in definitions.now)) }
 {
     let mut places: NameIndices = HashMap::new(alloc);
     for (i, indexed) in definitions.iter().enumerate() {

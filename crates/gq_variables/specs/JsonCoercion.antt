@@ -34,7 +34,9 @@ from_number name (float x) = None
 
 -- gives what a string gives
 abbrev pub from_string : List Definition → List ℕ → List ℕ → Option Input
-from_string defs name s = if bytes_eq name (codes "ID") || (bytes_eq name (codes "String") || has_value defs name s) then Some (Text s) else None
+from_string defs name s =
+    if bytes_eq name (codes "ID") || (bytes_eq name (codes "String") || has_value defs name s)
+    then Some (Text s) else None
 
 -- gives what a value gives at the type of this name
 abbrev pub named_data : List Definition → List ℕ → Bool → Data → Option Input

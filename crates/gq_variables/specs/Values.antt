@@ -76,11 +76,14 @@ gives_values d = is_some (as_null d) || is_some (as_object d)
 -- the variables that have a value, where this is given for all, or why there are none
 abbrev pub coerced_variables : List Definition
     → List VariableDefinition → Data → Result (List VariableOf) FaultOf
-coerced_variables defs vs given = if gives_values given then values_of defs given vs else Err not_object
+coerced_variables defs vs given =
+    if gives_values given then values_of defs given vs else Err not_object
 
 -- gives the same of what was read
-abbrev pub read_variables : List rust-schema.Definition → List rust-document.VariableDefinition → rust-data.Value → Result (List VariableOf) FaultOf
-read_variables schema definitions given = coerced_variables (tree_of schema) (definitions_of definitions) (view given)
+abbrev pub read_variables : List rust-schema.Definition → List rust-document.VariableDefinition
+    → rust-data.Value → Result (List VariableOf) FaultOf
+read_variables schema definitions given =
+    coerced_variables (tree_of schema) (definitions_of definitions) (view given)
 
 -- the fault that is reported where values are wanted; of memory this says nothing
 abbrev pub IsVariableFault : Result (List VariableOf) FaultOf → VariableFault → Type 0

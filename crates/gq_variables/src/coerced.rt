@@ -32,7 +32,8 @@ impl CoercedVariable {
 
     // A value, where it is right.
     fn of(input: Option<Input>) -> CoercedVariable
-        ensures { value_seen result ≡ right_value (option_map input_of input) }
+        ensures { value_seen result
+            ≡ right_value (option_map input_of input) }
     {
         match input {
             Some(input) => CoercedVariable::Value(input),

@@ -17,7 +17,8 @@ use serde_json::{Number, Value};
 use std::alloc::{AllocError, Global};
 
 fn coerce_unsigned(alloc: Global, name: &str, n: u64) -> Result<Option<Input>, AllocError>
-    ensures { Coerces (from_integer name.now (pos n)) result }
+    ensures { Coerces (from_integer name.now (pos n))
+        result }
 {
     if name == "Int" {
         return Ok(i32::try_from(n).ok().map(Input::Int));

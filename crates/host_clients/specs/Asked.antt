@@ -21,7 +21,8 @@ pub data HostAsked : Type 0 where
 
 -- a request by these texts
 abbrev pub parts_asked : List ℕ → List ℕ → List ℕ → HostAsked
-parts_asked query operation_name variables = request (record { query = query; operation_name = operation_name; variables = variables })
+parts_asked query operation_name variables =
+    request (record { query = query; operation_name = operation_name; variables = variables })
 
 -- ---- a request by its parts
 
@@ -58,13 +59,15 @@ Asks (line bytes) asked = asked ≡ as_text bytes
 Asks (request parts) asked = ArePartsOf parts asked
 
 -- says what a host asks of a client is planned, as `server` says it
-pub record PlansHost {S : Type 0} (c : ClientOf S) (host : HostAsked) (planned : PlannedOf) : Type 0 where
+pub record PlansHost {S : Type 0} (c : ClientOf S) (host : HostAsked)
+    (planned : PlannedOf) : Type 0 where
   pub asked : AskedOf
   pub asks : Asks host asked
   pub plans : PlansAsked c asked planned
 
 -- says what a host asks of a client is answered in its session, as `server` says it
-pub record AnswersHost {S : Type 0} (may : S → List KeyOf → AnswerOf → Type 0) (c : ClientOf S) (host : HostAsked) (report : ReportOf) (later : SessionOf S) : Type 0 where
+pub record AnswersHost {S : Type 0} (may : S → List KeyOf → AnswerOf → Type 0) (c : ClientOf S)
+    (host : HostAsked) (report : ReportOf) (later : SessionOf S) : Type 0 where
   pub asked : AskedOf
   pub asks : Asks host asked
   pub answers : AnswersAsked may c asked report later

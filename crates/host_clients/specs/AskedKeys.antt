@@ -11,7 +11,8 @@ flat_keys k = record { loader = k.loader; keys = keys_in k.shapes.now k.ends.now
 
 -- gives the same of what a client keeps
 abbrev pub keys_asked : AskedKeys → KeysOf
-keys_asked k = record { loader = k.loader; keys = keys_in k.shapes.items k.ends.items k.bytes.items }
+keys_asked k =
+    record { loader = k.loader; keys = keys_in k.shapes.items k.ends.items k.bytes.items }
 
 -- it is a fault of the keys, or memory ran out: of the client it says nothing
 abbrev pub IsKeyFault : Fault → Type 0

@@ -54,7 +54,8 @@ orders_in Moved = []
 
 -- a client that isn't busy has no loader of this number
 abbrev pub LacksLoader : HostClient → ℕ → Type 0
-LacksLoader client loader = (is_busy client ≡ false) × MatchOption (client_in client) ⊥ (λ (c : ClientOf HandedIn). length c.session.loaders ≤ loader)
+LacksLoader client loader = (is_busy client ≡ false) × MatchOption (client_in client) ⊥
+    (λ (c : ClientOf HandedIn). length c.session.loaders ≤ loader)
 
 -- it is planned for the client, and nothing is asked yet
 pub record IsBegunWith (asked : HostAsked) (u : UnderWayOf) : Type 0 where
@@ -150,14 +151,16 @@ LoadsOnWith l new result = ⊥
 -- ---- replies
 
 -- an order of the round that is out takes an answer, and the others stay as they are
-pub record Takes (number : ℕ) (answer : Result (Vec Item) FetchFault) (u v : UnderWayOf) : Type 0 where
+pub record Takes (number : ℕ) (answer : Result (Vec Item) FetchFault)
+    (u v : UnderWayOf) : Type 0 where
   pub asked_is : v.asked ≡ u.asked
   pub planned_is : v.hand.planned ≡ u.hand.planned
   pub client_is : v.hand.client ≡ u.hand.client
   pub goes_on : GoesOn any_tell u.hand v.hand
   pub takes : TakesAnswer (pending_in u.hand.far) number answer (pending_in v.hand.far)
 
-pub record TakesForLoad (number : ℕ) (answer : Result (Vec Item) FetchFault) (l m : LoadByHandOf HandedIn) : Type 0 where
+pub record TakesForLoad (number : ℕ) (answer : Result (Vec Item) FetchFault)
+    (l m : LoadByHandOf HandedIn) : Type 0 where
   pub same_keys : IsSameLoad (load_in l) (load_in m)
   pub client_is : m.client ≡ l.client
   pub goes_on : LoadGoesOn any_tell (load_in l) (load_in m)
@@ -200,4 +203,5 @@ Cancels old new result = (new ≡ old) × (result ≡ Err fault.Idle)
 
 -- the order of this number in the round that is out has `count` keys
 abbrev pub HasCount : ℕ → ℕ → HostClient → Type 0
-HasCount number count client = option_map (λ o. length (keys_of o)) (slice_get (orders_in client) number) ≡ Some count
+HasCount number count client =
+    option_map (λ o. length (keys_of o)) (slice_get (orders_in client) number) ≡ Some count

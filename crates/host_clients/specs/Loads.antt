@@ -36,7 +36,8 @@ abbrev pub asked_by : LoadByHandOf HandedIn → KeysOf
 asked_by hand = record { loader = hand.loader; keys = hand.keys }
 
 -- says what holds between calls
-pub record HoldsLoading (hand : LoadByHandOf HandedIn) (asked : KeysOf) (orders : List OrderOf) : Type 0 where
+pub record HoldsLoading (hand : LoadByHandOf HandedIn) (asked : KeysOf)
+    (orders : List OrderOf) : Type 0 where
   pub is_of : IsLoadOf hand
   pub asked_is : asked ≡ asked_by hand
   pub orders_are : orders ≡ load_orders hand
@@ -49,7 +50,8 @@ pub record LoadedOf : Type 0 where
 
 -- The outcomes are those of the keys, one for each, as `load_many` gives them: in the session of some client of this server, from one state
 -- to a later one, in which the keys that weren't known were asked for in one round.
-pub record AreOutcomesOf (server : ServerOf) (asked : KeysOf) (outcomes : List OutcomeOf) : Type 0 where
+pub record AreOutcomesOf (server : ServerOf) (asked : KeysOf)
+    (outcomes : List OutcomeOf) : Type 0 where
   pub begun : ClientOf HandedIn
   pub later : ClientOf HandedIn
   pub of_server : begun.server ≡ server

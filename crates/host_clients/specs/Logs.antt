@@ -22,11 +22,13 @@ abbrev pub log_in : ClientOf HandedIn → ℕ → Option (List AskedOf)
 log_in c loader = option_map (λ (l : LoaderOf HandedIn). l.log) (slice_get c.session.loaders loader)
 
 -- for each batch its round, whether its replies were stored, and its keys
-pub record AreBatches (log : List AskedOf) (rounds stored : List ℕ) (keys : List (List KeyOf)) : Type 0 where
+pub record AreBatches (log : List AskedOf) (rounds stored : List ℕ)
+    (keys : List (List KeyOf)) : Type 0 where
   pub rounds_are : rounds ≡ map round_in log
   pub stored_are : stored ≡ map stored_in log
   pub keys_are : keys ≡ map keys_in log
 
 -- of the log of a client's loader this holds
 abbrev pub LogHolds : (List AskedOf → Type 0) → HostClient → ℕ → Type 0
-LogHolds holds client loader = MatchOption (client_in client) ⊥ (λ c. MatchOption (log_in c loader) ⊥ holds)
+LogHolds holds client loader =
+    MatchOption (client_in client) ⊥ (λ c. MatchOption (log_in c loader) ⊥ holds)

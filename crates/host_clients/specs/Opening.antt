@@ -15,7 +15,8 @@ use Rattle.host_clients.specs.declared.opening.OpenFault.TheVariants.{NotUtf8, R
 use Rattle.host_clients.specs.declared.opening.FaultPlace.{FaultPlace}
 
 abbrev pub fault_at : ℕ → Place → FaultPlace
-fault_at number at = record { number = number; line = at.line; column = at.column; in_bindings = false }
+fault_at number at =
+    record { number = number; line = at.line; column = at.column; in_bindings = false }
 
 abbrev pub fault_without : ℕ → FaultPlace
 fault_without number = record { number = number; line = 0; column = 0; in_bindings = false }
@@ -29,7 +30,8 @@ place_of (schema.BadImplements at) = fault_at 4 at
 place_of schema.NoQueryRoot = fault_without 5
 place_of (schema.ReservedName at) = fault_at 6 at
 place_of (schema.NotServed at) = fault_at 7 at
-place_of (schema.BadBinding line) = record { number = 8; line = line; column = 0; in_bindings = true }
+place_of (schema.BadBinding line) =
+    record { number = 8; line = line; column = 0; in_bindings = true }
 place_of schema.NoMemory = fault_without 9
 place_of (schema.BadKind at) = fault_at 10 at
 place_of (schema.BadDefault at) = fault_at 11 at

@@ -10,7 +10,11 @@ use Rattle.host_clients.specs.declared.asked.RequestTexts.{RequestTexts}
 use Rattle.host_clients.specs.declared.asked.FlatRequest.{FlatRequest}
 
 abbrev pub parts_in : RequestTexts → PartsOf
-parts_in t = record { query = t.query.items; operation_name = t.operation_name.items; variables = t.variables.items }
+parts_in t = record {
+  query = t.query.items;
+  operation_name = t.operation_name.items;
+  variables = t.variables.items;
+}
 
 abbrev pub asked_in : AskedTexts → HostAsked
 asked_in (texts.Line bytes) = line bytes.items
@@ -23,4 +27,8 @@ IsRequestWith t found r = AreVariables t.variables.items found
 
 -- gives the same of texts that the host keeps
 abbrev pub flat_parts : FlatRequest → PartsOf
-flat_parts r = record { query = r.query.now; operation_name = r.operation_name.now; variables = r.variables.now }
+flat_parts r = record {
+  query = r.query.now;
+  operation_name = r.operation_name.now;
+  variables = r.variables.now;
+}

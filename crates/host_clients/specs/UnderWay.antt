@@ -29,7 +29,8 @@ abbrev pub orders_out : ByHandOf HandedIn → List OrderOf
 orders_out hand = map order_in (pending_in hand.far)
 
 -- says what holds between calls
-pub record HoldsUnderWay (hand : ByHandOf HandedIn) (asked : HostAsked) (orders : List OrderOf) : Type 0 where
+pub record HoldsUnderWay (hand : ByHandOf HandedIn) (asked : HostAsked)
+    (orders : List OrderOf) : Type 0 where
   pub is_of : IsOf hand asked
   pub orders_are : orders ≡ orders_out hand
 
@@ -45,7 +46,8 @@ report_in a = record { text = a.text; rounds = a.rounds }
 
 -- The text answers what was asked, by the definitions of serving: in the session of some client of this server, from one state to a later
 -- one, in which the loaders were asked exactly the batches of a lawful log.
-pub record IsAnswerOf (server : ServerOf) (asked : HostAsked) (text : List ℕ) (rounds : ℕ) : Type 0 where
+pub record IsAnswerOf (server : ServerOf) (asked : HostAsked) (text : List ℕ)
+    (rounds : ℕ) : Type 0 where
   pub begun : ClientOf HandedIn
   pub later : SessionOf HandedIn
   pub of_server : begun.server ≡ server

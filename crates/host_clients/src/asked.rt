@@ -60,8 +60,8 @@ fn read_value(alloc: Global, text: &[u8]) -> Result<Option<Value>, AllocError>
 
 // The variables that a text is, which are none where it is empty. `None` is no JSON text.
 fn read_variables(alloc: Global, text: &[u8]) -> Result<Option<Option<Value>>, AllocError>
-    ensures { IfOk result (λ r. MatchOption r ((found : Option Data) → AreVariables text.now found → ⊥)
-        (λ found. AreVariables text.now (option_map view found))) }
+    ensures { IfOk result (λ r. MatchOption r ((found : Option Data) → AreVariables text.now found
+        → ⊥) (λ found. AreVariables text.now (option_map view found))) }
 {
     if text.is_empty() {
         return Ok(Some(None));
@@ -77,7 +77,8 @@ impl RequestTexts {
     fn request<'t>(&'t self, variables: Option<&'t Value>) -> Option<Request<'t>>
         ensures some { IfSome result
             (IsRequestWith self.now (option_map (λ v. view v.now) variables.entry)) }
-        ensures none { IfNone result (IsOfNoRequest (parts_in self.now)) }
+        ensures none { IfNone result
+            (IsOfNoRequest (parts_in self.now)) }
     {
         let query = str::from_utf8(&self.query).ok()?;
         let name = str::from_utf8(&self.operation_name).ok()?;
@@ -113,14 +114,16 @@ impl RequestTexts {
 impl AskedTexts {
     /// This line.
     pub fn of_line(alloc: Global, line: &[u8]) -> Result<AskedTexts, AllocError>
-        ensures { IfOk result (λ own. asked_in own ≡ line_asked line.now) }
+        ensures { IfOk result
+            (λ own. asked_in own ≡ line_asked line.now) }
     {
         Ok(AskedTexts::Line(line.to_vec(alloc)?))
     }
 
     /// The request of these parts.
     pub fn of_request(alloc: Global, parts: &FlatRequest<'_>) -> Result<AskedTexts, AllocError>
-        ensures { IfOk result (λ own. asked_in own ≡ request_asked (flat_parts parts.now)) }
+        ensures { IfOk result (λ own. asked_in own
+            ≡ request_asked (flat_parts parts.now)) }
     {
         Ok(AskedTexts::Request(RequestTexts {
             query: parts.query.to_vec(alloc)?,
@@ -135,7 +138,8 @@ impl AskedTexts {
         alloc: Global,
         client: &mut ClientSession<HandedIn>,
     ) -> Result<PlannedRequest, AllocError>
-        ensures planned { IfOk result (PlansHost client.old (asked_in self.now)) }
+        ensures planned { IfOk result
+            (PlansHost client.old (asked_in self.now)) }
         ensures fits { IfOk result (λ planned.
             planned.loaders ≤ length client.new.session.loaders) }
         ensures same { client.new ≡ client.old }

@@ -34,7 +34,8 @@ pub(crate) struct AskedKeys {
 impl AskedKeys {
     /// These keys.
     pub fn of(alloc: Global, keys: &FlatKeys<'_>) -> Result<AskedKeys, AllocError>
-        ensures { IfOk result (λ own. keys_asked own ≡ flat_keys keys.now) }
+        ensures { IfOk result
+            (λ own. keys_asked own ≡ flat_keys keys.now) }
     {
         Ok(AskedKeys {
             loader: keys.loader,
@@ -48,8 +49,10 @@ impl AskedKeys {
 // The key of `count` texts from `at` on.
 fn key_at(alloc: Global, texts: &FlatTexts<'_>, at: usize, count: u32) -> Result<Key, Fault>
     requires { at ≤ length texts.now }
-    ensures key { IfOk result (λ key. key_of key ≡ key_said (take count (drop at texts.now))) }
-    ensures within { IfOk result (λ _. at + count ≤ length texts.now) }
+    ensures key { IfOk result (λ key. key_of key
+        ≡ key_said (take count (drop at texts.now))) }
+    ensures within { IfOk result
+        (λ _. at + count ≤ length texts.now) }
     ensures fault { IfErr result IsKeyFault }
 {
     if count > 2 {
@@ -73,7 +76,8 @@ impl FlatKeys<'_> {
     /// [`NotUtf8`](Fault::NotUtf8), [`BadEnds`](Fault::BadEnds); then of the first key that has it, [`BadKey`](Fault::BadKey) or
     /// [`TooFewTexts`](Fault::TooFewTexts); then [`TextsLeft`](Fault::TextsLeft). [`NoMemory`](Fault::NoMemory).
     pub fn read(&self, alloc: Global) -> Result<Vec<Key>, Fault>
-        ensures keys { IfOk result (λ read. map key_of read.items ≡ (flat_keys self.now).keys) }
+        ensures keys { IfOk result (λ read. map key_of
+            read.items ≡ (flat_keys self.now).keys) }
         ensures fault { IfErr result IsKeyFault }
     {
         let texts = FlatTexts::new(self.bytes, self.ends)?;

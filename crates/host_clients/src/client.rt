@@ -56,7 +56,8 @@ impl HostClient {
     /// The client, without its answer or outcomes; or the same, where it is busy.
     pub(crate) fn into_idle(self) -> Result<ClientSession<HandedIn>, HostClient>
         ensures idle { IfOk result (λ c. (client_in self ≡ Some c) × (is_busy self ≡ false)) }
-        ensures busy { IfErr result (λ same. (same ≡ self) × (is_busy self ≡ true)) }
+        ensures busy { IfErr result (λ same.
+            (same ≡ self) × (is_busy self ≡ true)) }
     {
         match self {
             HostClient::Idle(client) => Ok(client),
@@ -72,7 +73,8 @@ impl HostClient {
     pub(crate) fn idle(&self) -> Option<&ClientSession<HandedIn>>
         ensures idle { IfSome result (λ client.
             (client_in self.now ≡ Some client.now) × (is_busy self.now ≡ false)) }
-        ensures busy { IfNone result (is_busy self.now ≡ true) }
+        ensures busy { IfNone result
+            (is_busy self.now ≡ true) }
     {
         match self {
             HostClient::Idle(client) => Some(client),
@@ -101,10 +103,14 @@ impl HostClient {
 
     // Begins the answer to what was asked, as the calls below do it.
     fn begin(&mut self, alloc: Global, asked: AskedTexts) -> Result<(), Fault>
-        ensures begun { OnOk result (IsBegun self.old (asked_in asked) self.new) }
-        ensures kept { OnErr result (client_in self.new ≡ client_in self.old) }
-        ensures busy { IsErrOf result Fault.Busy ↔ (is_busy self.old ≡ true) }
-        ensures unchanged { is_busy self.old ≡ true → self.new ≡ self.old }
+        ensures begun { OnOk result
+            (IsBegun self.old (asked_in asked) self.new) }
+        ensures kept { OnErr result
+            (client_in self.new ≡ client_in self.old) }
+        ensures busy { IsErrOf result Fault.Busy
+            ↔ (is_busy self.old ≡ true) }
+        ensures unchanged { is_busy self.old ≡ true
+            → self.new ≡ self.old }
     {
         match mem::replace(self, HostClient::Moved).into_idle() {
             Err(busy) => {
@@ -127,9 +133,12 @@ impl HostClient {
     /// [`Busy`](Fault::Busy) while a request is being answered or keys are loaded; [`NoMemory`](Fault::NoMemory). The client is as it was.
     pub fn begin_line(&mut self, alloc: Global, line: &[u8]) -> Result<(), Fault>
         ensures begun { OnOk result (IsBegun self.old (line_asked line.now) self.new) }
-        ensures kept { OnErr result (client_in self.new ≡ client_in self.old) }
-        ensures busy { IsErrOf result Fault.Busy ↔ (is_busy self.old ≡ true) }
-        ensures unchanged { is_busy self.old ≡ true → self.new ≡ self.old }
+        ensures kept { OnErr result
+            (client_in self.new ≡ client_in self.old) }
+        ensures busy { IsErrOf result Fault.Busy
+            ↔ (is_busy self.old ≡ true) }
+        ensures unchanged { is_busy self.old ≡ true
+            → self.new ≡ self.old }
     {
         if self.is_busy() {
             return Err(Fault::Busy);
@@ -147,9 +156,12 @@ impl HostClient {
     pub fn begin_request(&mut self, alloc: Global, parts: &FlatRequest<'_>) -> Result<(), Fault>
         ensures begun { OnOk result
             (IsBegun self.old (request_asked (flat_parts parts.now)) self.new) }
-        ensures kept { OnErr result (client_in self.new ≡ client_in self.old) }
-        ensures busy { IsErrOf result Fault.Busy ↔ (is_busy self.old ≡ true) }
-        ensures unchanged { is_busy self.old ≡ true → self.new ≡ self.old }
+        ensures kept { OnErr result
+            (client_in self.new ≡ client_in self.old) }
+        ensures busy { IsErrOf result Fault.Busy
+            ↔ (is_busy self.old ≡ true) }
+        ensures unchanged { is_busy self.old ≡ true
+            → self.new ≡ self.old }
     {
         if self.is_busy() {
             return Err(Fault::Busy);
@@ -169,8 +181,10 @@ impl HostClient {
     pub fn begin_load(&mut self, alloc: Global, keys: &FlatKeys<'_>) -> Result<(), Fault>
         ensures begun { OnOk result (IsBegunLoad (flat_keys keys.now) self.old self.new) }
         ensures kept { OnErr result (self.new ≡ self.old) }
-        ensures busy { IsErrOf result Fault.Busy ↔ (is_busy self.old ≡ true) }
-        ensures no_loader { IsErrOf result Fault.NoLoader ↔ LacksLoader self.old keys.now.loader }
+        ensures busy { IsErrOf result Fault.Busy
+            ↔ (is_busy self.old ≡ true) }
+        ensures no_loader { IsErrOf result Fault.NoLoader
+            ↔ LacksLoader self.old keys.now.loader }
     {
         let Some(client) = self.idle() else {
             return Err(Fault::Busy);
@@ -249,7 +263,8 @@ impl HostClient {
         answer: Result<Vec<Item>, FetchFault>,
     ) -> Result<(), Fault>
         ensures taken { OnOk result (TakesAnswerTo number answer self.old self.new) }
-        ensures kept { IfErr result (λ fault. fault ≢ Fault.NoMemory → self.new ≡ self.old) }
+        ensures kept { IfErr result (λ fault.
+            fault ≢ Fault.NoMemory → self.new ≡ self.old) }
     {
         match self {
             HostClient::Asked(under_way) => Ok(under_way.take(alloc, number, answer)?),
@@ -272,7 +287,8 @@ impl HostClient {
     ) -> Result<(), Fault>
         ensures taken { OnOk result (TakesReply number (items_in reply.now) self.old self.new) }
         ensures counted { OnOk result (HasCount number (length reply.now.rows.now) self.old) }
-        ensures kept { IfErr result (λ fault. fault ≢ Fault.NoMemory → self.new ≡ self.old) }
+        ensures kept { IfErr result (λ fault.
+            fault ≢ Fault.NoMemory → self.new ≡ self.old) }
     {
         match self.count(number) {
             None => return Err(Fault::NoOrder),
@@ -291,7 +307,8 @@ impl HostClient {
     /// [`NoMemory`](Fault::NoMemory) as that of [`take_rows`](HostClient::take_rows).
     pub fn take_failed(&mut self, alloc: Global, number: usize, text: &[u8]) -> Result<(), Fault>
         ensures taken { OnOk result (TakesFailure number text.now self.old self.new) }
-        ensures kept { IfErr result (λ fault. fault ≢ Fault.NoMemory → self.new ≡ self.old) }
+        ensures kept { IfErr result (λ fault.
+            fault ≢ Fault.NoMemory → self.new ≡ self.old) }
     {
         if !self.is_busy() {
             return Err(Fault::NoOrder);

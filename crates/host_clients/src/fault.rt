@@ -83,8 +83,10 @@ impl Fault {
 
     /// The fault of a code, if there is one.
     pub fn of_code(code: i32) -> Option<Fault>
-        ensures some { IfSome result (λ fault. code_of fault ≡ code) }
-        ensures none { IfNone result ((fault : FaultOf) → code_of fault ≡ code → ⊥) }
+        ensures some { IfSome result
+            (λ fault. code_of fault ≡ code) }
+        ensures none { IfNone result
+            ((fault : FaultOf) → code_of fault ≡ code → ⊥) }
     {
         match code {
             -1 => Some(Fault::NoMemory),

@@ -22,7 +22,8 @@ use std::mem;
 ///
 /// [`NotUtf8`](Fault::NotUtf8), [`BadEnds`](Fault::BadEnds), [`BadKey`](Fault::BadKey), [`NoMemory`](Fault::NoMemory).
 pub fn read_key(alloc: Global, ends: &[u32], bytes: &[u8]) -> Result<Key, Fault>
-    ensures { IfOk result (λ key. key_of key ≡ key_in ends.now bytes.now) }
+    ensures { IfOk result
+        (λ key. key_of key ≡ key_in ends.now bytes.now) }
 {
     let texts = FlatTexts::new(bytes, ends)?;
     match texts.len() {
@@ -35,7 +36,8 @@ pub fn read_key(alloc: Global, ends: &[u32], bytes: &[u8]) -> Result<Key, Fault>
 
 // The item, where it is the only one.
 fn the_one(items: Vec<Item>) -> Option<Item>
-    ensures { IfSome result (λ item. items.items ≡ item ∷ []) }
+    ensures { IfSome result
+        (λ item. items.items ≡ item ∷ []) }
 {
     let mut items = items;
     let item = items.pop()?;
@@ -55,8 +57,10 @@ impl HostClient {
             OnClient (Primes loader (key_of key.now) (item_of item) added) self.old self.new) }
         ensures kept { IfErr result (λ fault.
             fault ≢ Fault.NoMemory → client_in self.new ≡ client_in self.old) }
-        ensures busy { is_busy self.old ≡ true → self.new ≡ self.old }
-        ensures no_loader { IsErrOf result Fault.NoLoader → LacksLoader self.old loader }
+        ensures busy { is_busy self.old ≡ true
+            → self.new ≡ self.old }
+        ensures no_loader { IsErrOf result Fault.NoLoader
+            → LacksLoader self.old loader }
     {
         match mem::replace(self, HostClient::Moved).into_idle() {
             Err(busy) => {
@@ -86,11 +90,12 @@ impl HostClient {
         key_bytes: &[u8],
         reply: &FlatReply<'_>,
     ) -> Result<bool, Fault>
-        ensures primed { let key = key_in key_ends.now key_bytes.now in
-            IfOk result (λ b. OnClient (PrimesSaid loader key (items_in reply.now) b) self.old self.new) }
+        ensures primed { let key = key_in key_ends.now key_bytes.now in IfOk result
+            (λ b. OnClient (PrimesSaid loader key (items_in reply.now) b) self.old self.new) }
         ensures kept { IfErr result (λ fault.
             fault ≢ Fault.NoMemory → client_in self.new ≡ client_in self.old) }
-        ensures busy { is_busy self.old ≡ true → self.new ≡ self.old }
+        ensures busy { is_busy self.old ≡ true
+            → self.new ≡ self.old }
     {
         let key = read_key(alloc, key_ends, key_bytes)?;
         match the_one(reply.items(alloc)?) {
@@ -115,7 +120,8 @@ impl HostClient {
             OnClient (Clears loader (key_in key_ends.now key_bytes.now) there) self.old self.new) }
         ensures kept { IfErr result (λ fault.
             fault ≢ Fault.NoMemory → client_in self.new ≡ client_in self.old) }
-        ensures busy { is_busy self.old ≡ true → self.new ≡ self.old }
+        ensures busy { is_busy self.old ≡ true
+            → self.new ≡ self.old }
     {
         let key = read_key(alloc, key_ends, key_bytes)?;
         self.clear(loader, &key)
@@ -131,8 +137,10 @@ impl HostClient {
             OnClient (Clears loader (key_of key.now) there) self.old self.new) }
         ensures kept { IfErr result (λ fault.
             fault ≢ Fault.NoMemory → client_in self.new ≡ client_in self.old) }
-        ensures busy { is_busy self.old ≡ true → self.new ≡ self.old }
-        ensures no_loader { IsErrOf result Fault.NoLoader → LacksLoader self.old loader }
+        ensures busy { is_busy self.old ≡ true
+            → self.new ≡ self.old }
+        ensures no_loader { IsErrOf result Fault.NoLoader
+            → LacksLoader self.old loader }
     {
         match mem::replace(self, HostClient::Moved).into_idle() {
             Err(busy) => {
@@ -155,9 +163,12 @@ impl HostClient {
     /// [`Busy`](Fault::Busy), [`NoLoader`](Fault::NoLoader).
     pub fn clear_all(&mut self, loader: usize) -> Result<(), Fault>
         ensures cleared { OnOk result (OnClient (Calls (ClearingAll loader)) self.old self.new) }
-        ensures kept { OnErr result (client_in self.new ≡ client_in self.old) }
-        ensures busy { is_busy self.old ≡ true → self.new ≡ self.old }
-        ensures no_loader { IsErrOf result Fault.NoLoader → LacksLoader self.old loader }
+        ensures kept { OnErr result
+            (client_in self.new ≡ client_in self.old) }
+        ensures busy { is_busy self.old ≡ true
+            → self.new ≡ self.old }
+        ensures no_loader { IsErrOf result Fault.NoLoader
+            → LacksLoader self.old loader }
     {
         match mem::replace(self, HostClient::Moved).into_idle() {
             Err(busy) => {
@@ -180,8 +191,10 @@ impl HostClient {
     /// [`Busy`](Fault::Busy), [`NoMemory`](Fault::NoMemory).
     pub fn restart(&mut self) -> Result<(), Fault>
         ensures begun { OnOk result (OnClient (λ c d. d ≡ begun c) self.old self.new) }
-        ensures kept { OnErr result (client_in self.new ≡ client_in self.old) }
-        ensures busy { is_busy self.old ≡ true → self.new ≡ self.old }
+        ensures kept { OnErr result
+            (client_in self.new ≡ client_in self.old) }
+        ensures busy { is_busy self.old ≡ true
+            → self.new ≡ self.old }
     {
         match mem::replace(self, HostClient::Moved).into_idle() {
             Err(busy) => {
@@ -205,7 +218,8 @@ impl HostClient {
     pub fn limit_answers(&mut self, most: Option<usize>) -> Result<(), Fault>
         ensures limited { OnOk result (OnClient (LimitsAnswers most) self.old self.new) }
         ensures kept { OnErr result (self.new ≡ self.old) }
-        ensures busy { is_busy self.old ≡ true → self.new ≡ self.old }
+        ensures busy { is_busy self.old ≡ true
+            → self.new ≡ self.old }
     {
         match mem::replace(self, HostClient::Moved).into_idle() {
             Err(busy) => {
@@ -230,7 +244,8 @@ impl HostClient {
     pub fn log(&self, alloc: Global, loader: usize) -> Result<BatchLog, Fault>
         ensures log { IfOk result (λ l.
             LogHolds (λ log. AreBatches log l.rounds.items l.stored.items l.keys) self.now loader) }
-        ensures no_loader { IsErrOf result Fault.NoLoader → LacksLoader self.now loader }
+        ensures no_loader { IsErrOf result Fault.NoLoader
+            → LacksLoader self.now loader }
     {
         let Some(client) = self.idle() else {
             return Err(Fault::Busy);

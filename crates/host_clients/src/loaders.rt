@@ -34,7 +34,8 @@ fn kind_of(line: &LoaderLine) -> u32
 
 // The columns that a loader is by.
 fn columns_of(line: &LoaderLine) -> (&str, &str)
-    ensures { result.0.now ∷ result.1.now ∷ [] ≡ columns_by (option_map by_of line.now.by) }
+    ensures { result.0.now ∷ result.1.now ∷ []
+        ≡ columns_by (option_map by_of line.now.by) }
 {
     match &line.by {
         None => ("", ""),
@@ -57,7 +58,8 @@ fn columns_of(line: &LoaderLine) -> (&str, &str)
 
 // Writes the texts of a loader at the end. When out of memory, nothing is known of what was written.
 fn write_texts(texts: &mut TextBuffer, line: &LoaderLine) -> Result<(), AllocError>
-    ensures { OnOk result (texts.new ≡ texts.old ++ texts_of (loader_of line.now)) }
+    ensures { OnOk result (texts.new
+        ≡ texts.old ++ texts_of (loader_of line.now)) }
 {
     let (one, two) = columns_of(line);
     texts.push(line.name.as_str())?;
@@ -69,8 +71,10 @@ fn write_texts(texts: &mut TextBuffer, line: &LoaderLine) -> Result<(), AllocErr
 impl LoaderTexts {
     /// The loaders of this server, in order.
     pub fn of(alloc: Global, server: &Server) -> Result<LoaderTexts, AllocError>
-        ensures kinds { IfOk result (λ l. l.kinds.items ≡ map kind_of server.now.bindings.loaders) }
-        ensures texts { IfOk result (λ l. l.texts ≡ flat_map texts_of server.now.bindings.loaders) }
+        ensures kinds { IfOk result (λ l. l.kinds.items
+            ≡ map kind_of server.now.bindings.loaders) }
+        ensures texts { IfOk result (λ l. l.texts ≡ flat_map
+            texts_of server.now.bindings.loaders) }
     {
         let lines = server.bindings().loaders();
         let mut kinds = Vec::with_capacity(alloc, lines.len())?;
@@ -103,8 +107,10 @@ impl LoaderTexts {
         ends: &mut [u32],
         bytes: &mut [u8],
     ) -> Result<(), Fault>
-        ensures kinds { OnOk result (kinds.new ≡ self.now.kinds.items) }
-        ensures texts { OnOk result (cut bytes.new 0 ends.new ≡ self.now.texts) }
+        ensures kinds { OnOk result
+            (kinds.new ≡ self.now.kinds.items) }
+        ensures texts { OnOk result
+            (cut bytes.new 0 ends.new ≡ self.now.texts) }
         ensures kept { OnErr result
             ((kinds.new ≡ kinds.old) × (ends.new ≡ ends.old) × (bytes.new ≡ bytes.old)) }
     {

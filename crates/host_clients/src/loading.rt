@@ -62,9 +62,12 @@ impl LoadUnderWay {
         asked: AskedKeys,
         keys: Vec<Key>,
     ) -> LoadUnderWay
-        requires loader { (keys_asked asked).loader < length client.session.loaders }
-        requires keys { map key_of keys.items ≡ (keys_asked asked).keys }
-        ensures { let k = keys_asked asked in result ≡ load_by_hand_of client k.loader k.keys handed }
+        requires loader { (keys_asked asked).loader
+            < length client.session.loaders }
+        requires keys { map key_of keys.items
+            ≡ (keys_asked asked).keys }
+        ensures { let k = keys_asked asked in
+            result ≡ load_by_hand_of client k.loader k.keys handed }
     {
         let loader = asked.loader;
         LoadUnderWay {
@@ -139,10 +142,14 @@ impl LoadUnderWay {
         number: usize,
         answer: Result<Vec<Item>, FetchFault>,
     ) -> Result<(), TakeFault>
-        ensures taken { OnOk result (TakesForLoad number answer self.old self.new) }
-        ensures none { IsErrOf result TakeFault.NoSuchOrder → self.new ≡ self.old }
-        ensures kept { IsErrOf result TakeFault.Answered → self.new ≡ self.old }
-        ensures over { IsErrOf result TakeFault.NoMemory → self.new.far ≡ over }
+        ensures taken { OnOk result
+            (TakesForLoad number answer self.old self.new) }
+        ensures none { IsErrOf result TakeFault.NoSuchOrder
+            → self.new ≡ self.old }
+        ensures kept { IsErrOf result TakeFault.Answered
+            → self.new ≡ self.old }
+        ensures over { IsErrOf result TakeFault.NoMemory
+            → self.new.far ≡ over }
     {
         match self.hand.answer(number, answer) {
             Ok(()) => Ok(()),

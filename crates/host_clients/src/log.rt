@@ -43,10 +43,14 @@ impl BatchLog {
     /// Returns how many elements the buffers have to hold that [`copy_to`](BatchLog::copy_to) fills. There is a list of keys for
     /// each batch.
     pub fn sizes(&self) -> KeySizes
-        ensures lists { result.lists ≡ length self.now.keys }
-        ensures keys { result.keys ≡ length (keys_in self.now.keys) }
-        ensures texts { result.texts ≡ length (all_texts self.now.keys) }
-        ensures bytes { result.bytes ≡ size_of (all_texts self.now.keys) }
+        ensures lists { result.lists
+            ≡ length self.now.keys }
+        ensures keys { result.keys
+            ≡ length (keys_in self.now.keys) }
+        ensures texts { result.texts
+            ≡ length (all_texts self.now.keys) }
+        ensures bytes { result.bytes
+            ≡ size_of (all_texts self.now.keys) }
     {
         self.keys.sizes()
     }
@@ -61,8 +65,10 @@ impl BatchLog {
 
     /// Copies the round of each batch, and whether its replies were stored.
     pub fn copy_rounds(&self, rounds: &mut [u32], stored: &mut [u32]) -> Result<(), Fault>
-        ensures rounds { OnOk result (rounds.new ≡ self.now.rounds.items) }
-        ensures stored { OnOk result (stored.new ≡ self.now.stored.items) }
+        ensures rounds { OnOk result
+            (rounds.new ≡ self.now.rounds.items) }
+        ensures stored { OnOk result
+            (stored.new ≡ self.now.stored.items) }
         ensures kept { OnErr result ((rounds.new ≡ rounds.old) × (stored.new ≡ stored.old)) }
     {
         if !self.has_rounds(rounds.len(), stored.len()) {

@@ -26,7 +26,8 @@ fn share_server(server: &Server) -> Result<Object, Fault>
 
 // A client of a server, which knows nothing.
 fn client_of(alloc: Global, server: &Server, limits: &[u32]) -> Result<Object, Fault>
-    ensures { MakesClient limits.now (Object.Server server.now) result }
+    ensures { MakesClient limits.now
+        (Object.Server server.now) result }
 {
     Ok(Object::Client(open_client(alloc, server, limits)?))
 }

@@ -92,8 +92,10 @@ fn place_of(fault: &SchemaFault) -> FaultPlace
 ///
 /// [`NotUtf8`](OpenFault::NotUtf8); then the first fault, as [`Server::read`] finds it, with its place.
 pub fn open_server(alloc: Global, schema: &[u8], bindings: &[u8]) -> Result<Server, OpenFault>
-    ensures made { IfOk result (IsServer schema.now bindings.now) }
-    ensures refused { IfErr result (RefusesOpening schema.now bindings.now) }
+    ensures made { IfOk result
+        (IsServer schema.now bindings.now) }
+    ensures refused { IfErr result
+        (RefusesOpening schema.now bindings.now) }
 {
     let Ok(schema) = str::from_utf8(schema) else {
         return Err(OpenFault::NotUtf8);
@@ -110,7 +112,8 @@ pub fn open_server(alloc: Global, schema: &[u8], bindings: &[u8]) -> Result<Serv
 
 // Returns how the keys of a line's loader are compared.
 fn mode_of(line: &LoaderLine) -> KeyMode
-    ensures { result ≡ mode_of (option_map by_of line.now.by) }
+    ensures { result ≡ mode_of
+        (option_map by_of line.now.by) }
 {
     match &line.by {
         Some(By { fold: true, .. }) => KeyMode::FoldAscii,
@@ -121,7 +124,8 @@ fn mode_of(line: &LoaderLine) -> KeyMode
 // The limit of the first loader, and the limits of those after it.
 fn first_limit(limits: &[u32]) -> (Option<u32>, &[u32])
     ensures limit { result.0 ≡ limit_at limits.entry.now }
-    ensures after { result.1.now ≡ limits_after limits.entry.now }
+    ensures after { result.1.now
+        ≡ limits_after limits.entry.now }
 {
     match limits.split_first() {
         None => (None, limits),
@@ -160,7 +164,8 @@ fn new_loaders(
 /// [`BadSize`](Fault::BadSize) where `limits` has another length; [`BadLimit`](Fault::BadLimit) where one is over 65,535;
 /// [`NoMemory`](Fault::NoMemory).
 pub fn open_client(alloc: Global, server: &Server, limits: &[u32]) -> Result<HostClient, Fault>
-    ensures { IfOk result (IsNewClient server.now limits.now) }
+    ensures { IfOk result
+        (IsNewClient server.now limits.now) }
 {
     let lines = server.bindings().loaders();
     if !limits.is_empty() && limits.len() != lines.len() {

@@ -53,7 +53,8 @@ impl Model for UnderWay {
 
 // The orders with one more at the end, which may have its reply.
 fn with_one(orders: FlatOrders, one: &Pending) -> Result<FlatOrders, AllocError>
-    ensures { IfOk result (λ more. more ≡ orders ++ order_in one.now ∷ []) }
+    ensures { IfOk result
+        (λ more. more ≡ orders ++ order_in one.now ∷ []) }
 {
     match one {
         Pending::Out(order) => orders.with(order.loader(), order.keys()),
@@ -63,7 +64,8 @@ fn with_one(orders: FlatOrders, one: &Pending) -> Result<FlatOrders, AllocError>
 
 /// The orders of a round, to be copied out.
 pub(crate) fn orders_of(alloc: Global, pending: &[Pending]) -> Result<FlatOrders, AllocError>
-    ensures { IfOk result (λ orders. orders ≡ map order_in pending.now) }
+    ensures { IfOk result
+        (λ orders. orders ≡ map order_in pending.now) }
 {
     let mut orders = FlatOrders::new(alloc);
     for one in pending {
@@ -75,7 +77,8 @@ pub(crate) fn orders_of(alloc: Global, pending: &[Pending]) -> Result<FlatOrders
 
 // The orders of the round that is out, to be copied out.
 fn round_orders(alloc: Global, hand: &mut OwnedByHand) -> Result<FlatOrders, AllocError>
-    ensures orders { IfOk result (λ orders. orders ≡ orders_out hand.old) }
+    ensures orders { IfOk result
+        (λ orders. orders ≡ orders_out hand.old) }
     ensures same { hand.new ≡ hand.old }
 {
     hand.see_orders(
@@ -93,7 +96,8 @@ impl UnderWay {
         client: ClientSession<HandedIn>,
         asked: AskedTexts,
     ) -> (HostClient, Result<(), Fault>)
-        ensures { Begins client (asked_in asked) result.0 result.1 }
+        ensures { Begins client
+            (asked_in asked) result.0 result.1 }
     {
         let mut client = client;
         let Ok(planned) = asked.plan(alloc, &mut client) else {
@@ -176,10 +180,14 @@ impl UnderWay {
         number: usize,
         answer: Result<Vec<Item>, FetchFault>,
     ) -> Result<(), TakeFault>
-        ensures taken { OnOk result (Takes number answer self.old self.new) }
-        ensures none { IsErrOf result TakeFault.NoSuchOrder → self.new ≡ self.old }
-        ensures kept { IsErrOf result TakeFault.Answered → self.new ≡ self.old }
-        ensures over { IsErrOf result TakeFault.NoMemory → IsOver self.new.hand.far }
+        ensures taken { OnOk result
+            (Takes number answer self.old self.new) }
+        ensures none { IsErrOf result TakeFault.NoSuchOrder
+            → self.new ≡ self.old }
+        ensures kept { IsErrOf result TakeFault.Answered
+            → self.new ≡ self.old }
+        ensures over { IsErrOf result TakeFault.NoMemory
+            → IsOver self.new.hand.far }
     {
         match self.hand.answer(number, answer) {
             Ok(()) => Ok(()),

@@ -5,7 +5,7 @@ use Rattle.std.proofs.lemmas.Bool.{eqb-true, eqb-false}
 use Rattle.std.specs.Prelude.{◌==◌, ◌&&◌, not, is_some, option_map, if◌then◌else◌, slice_set, filter}
 use Rattle.std.specs.Option.{option_or}
 use Rattle.std.specs.List.{IsDistinct, AllByRecursion}
-use Rattle.std.specs.Map.{keys_of, lookup}
+use Rattle.std.specs.Map.{keys_of, lookup, KeepsOthers}
 use Rattle.load_memory.specs.Keys.{KeyOf, cache_of, same_key}
 use Rattle.load_memory.specs.Outcomes.{ItemOf, OutcomeOf, known, batch_fault, outcome_of, is_failed}
 use Rattle.load_memory.specs.Pairs.{PairOf, is_at, look, primed, IsSameMap, IsWithout, unless_failed, IsUnfailed, IsWith}
@@ -15,7 +15,7 @@ use Rattle.load_memory.specs.declared.outcome.Outcome.{Outcome}
 use Rattle.load_memory.specs.declared.outcome.Outcome.TheVariants as outcome
 use Rattle.load_memory.specs.contracts.key.CacheKeyPartialEq.TheImpl as cache_eq
 use Rattle.load_memory.proofs.Looks.{same_key-is, nothing, primed-absent}
-use Rattle.load_memory.proofs.LoaderMemoryLaws.{cache-eq, lookup-cache, at_part, look-part, at_part-read, at_part-same, at_part-other}
+use Rattle.load_memory.proofs.LoaderMemoryLaws.{cache-eq, look_in-put, lookup-cache, at_part, look-part, at_part-read, at_part-same, at_part-other}
 
 -- a look-up in the memory finds what the loader's part says
 pub look-one : (ps : List PartOf) (i : ℕ) (d : PartOf) (q : KeyOf) → i < length ps → d ≡ get_or ps i d → look (pairs_from 0 ps) i q ≡ look_in d.entries q
@@ -135,6 +135,10 @@ look_in-there es k o e q = go (same_key q k) refl (look_in es q) refl where
   go false at (Some x) h = refl
   go false at None h = refl
 
+-- entries that stay, since the key is there
+pub look_in-there_still : (old new : EntriesOf) (k : KeyOf) (o : OutcomeOf) → new ≡ old → is_some (look_in old k) ≡ true → (q : KeyOf) → look_in new q ≡ option_or (look_in old q) (if same_key q k then Some o else None)
+look_in-there_still old new k o same there q = ap (λ es. look_in es q) same ∙ look_in-there old k o there q
+
 -- a pair that is put, since its key is absent
 pub look_in-new : (old new : EntriesOf) (k : KeyOf) (o : OutcomeOf) → is_some (look_in old k) ≡ false → ((q : KeyOf) → look_in new q ≡ (if same_key q k then Some o else look_in old q))
     → (q : KeyOf) → look_in new q ≡ option_or (look_in old q) (if same_key q k then Some o else None)
@@ -146,3 +150,9 @@ look_in-new old new k o e put q = put q ∙ go (same_key q k) refl where
   go : (b : Bool) → same_key q k ≡ b → (if b then Some o else look_in old q) ≡ option_or (look_in old q) (if b then Some o else None)
   go true at = rw (ap (look_in old) (same_key-is q k at) ∙ nothing (look_in old k) e) refl
   go false at = or-none (look_in old q)
+
+-- an entry that is written where none was
+pub look_in-written : (old new written : EntriesOf) (k : CacheKey) (o : Outcome) → look_in old (cache_of k) ≡ None → lookup ((cache_eq.eq-value).it k) written ≡ Some o → KeepsOthers (cache_eq.eq-value).it ((cache_eq.eq-value).it k) old written → new ≡ written
+    → (q : KeyOf) → look_in new q ≡ option_or (look_in old q) (if same_key q (cache_of k) then Some (outcome_of o) else None)
+look_in-written old new written k o absent here others same =
+    rw same (look_in-new old written (cache_of k) (outcome_of o) (ap is_some absent) (look_in-put k (Some o) old written here others))

@@ -1,5 +1,5 @@
 -- The pairs of a memory that keeps a hash map for each loader.
-use Rattle.std.specs.Prelude.{◌≡◌, ◌==◌, ◌≤◌, ℕ, zero, suc, Bool, false, List, [], ◌∷◌, ◌++◌, map, length, Option, Some, None, option_map, if◌then◌else◌}
+use Rattle.std.specs.Prelude.{◌≡◌, ◌==◌, ◌≤◌, ◌+◌, ℕ, zero, suc, Bool, false, List, [], ◌∷◌, ◌++◌, map, length, Option, Some, None, option_map, if◌then◌else◌}
 use Rattle.std.specs.HashMap.{HashMap, IsUnique, spare}
 use Rattle.std.specs.Map.{lookup}
 use Rattle.std.specs.Option.{option_or}
@@ -7,7 +7,7 @@ use Rattle.std.specs.declared.hash.FoldHasher.{FoldHasher}
 use Rattle.std.specs.declared.hash.BuildHasherDefault.{BuildHasherDefault}
 use Rattle.load_memory.specs.Keys.{KeyOf, key_of, cache_of, same_key}
 use Rattle.load_memory.specs.Outcomes.{OutcomeOf, outcome_of}
-use Rattle.load_memory.specs.Pairs.{PairOf, look, unless_failed}
+use Rattle.load_memory.specs.Pairs.{PairOf, IsSameMap, IsWith, look, unless_failed}
 use Rattle.load_memory.specs.Replies.{reply_pairs}
 use Rattle.load_memory.specs.declared.key.CacheKey.{CacheKey}
 use Rattle.load_memory.specs.declared.key.KeyMode.{KeyMode}
@@ -37,11 +37,13 @@ look_in es key = option_map outcome_of (lookup (λ x. same_key key (cache_of x))
 
 -- the entries have this pair, and of each other key what the old ones have
 abbrev pub HasPut : KeyOf → OutcomeOf → EntriesOf → EntriesOf → Type 0
-HasPut key outcome old new = (q : KeyOf) → look_in new q ≡ (if same_key q key then Some outcome else look_in old q)
+HasPut key outcome old new =
+    (q : KeyOf) → look_in new q ≡ (if same_key q key then Some outcome else look_in old q)
 
 -- says the same, where the old ones have no pair of the key; else they have what they had
 abbrev pub HasPutIfAbsent : KeyOf → OutcomeOf → EntriesOf → EntriesOf → Type 0
-HasPutIfAbsent key outcome old new = (q : KeyOf) → look_in new q ≡ option_or (look_in old q) (if same_key q key then Some outcome else None)
+HasPutIfAbsent key outcome old new = (q : KeyOf)
+    → look_in new q ≡ option_or (look_in old q) (if same_key q key then Some outcome else None)
 
 abbrev pub HasOwnKeys : PartOf → Type 0
 HasOwnKeys p = IsUnique (key_eq.eq-value).it p
@@ -50,6 +52,22 @@ abbrev pub HaveOwnKeys : List PartOf → Type 0
 HaveOwnKeys [] = Unit {0}
 HaveOwnKeys (p ∷ ps) = HasOwnKeys p × HaveOwnKeys ps
 
+-- the pair of a key that was absent was put: one entry more
+pub record Puts (key : KeyOf) (outcome : OutcomeOf) (old new : PartOf) : Type 0 where
+  pub pairs : HasPut key outcome old.entries new.entries
+  pub count : length new.entries ≡ length old.entries + 1
+
+-- the pair was put if its key was absent, and then is one entry more
+pub record PutsIfAbsent (key : KeyOf) (outcome : OutcomeOf) (absent : Bool)
+    (old new : PartOf) : Type 0 where
+  pub pairs : HasPutIfAbsent key outcome old.entries new.entries
+  pub count : length new.entries ≡ length old.entries + (if absent then 1 else 0)
+
+-- the parts hold the same pairs, as many
+pub record HoldSame (old new : List PartOf) : Type 0 where
+  pub pairs : IsSameMap (pairs_from 0 new) (pairs_from 0 old)
+  pub count : length (pairs_from 0 new) ≡ length (pairs_from 0 old)
+
 -- no batch of these failed as a whole
 abbrev pub AreUnfailed : List PairOf → Type 0
 AreUnfailed ps = (loader : ℕ) (key : KeyOf)
@@ -57,7 +75,8 @@ AreUnfailed ps = (loader : ℕ) (key : KeyOf)
 
 -- There is a part for each mode, no part has a key twice, the pairs are counted, and where some batch failed that is
 -- marked.
-pub record AreParts (modes : List KeyMode) (parts : List PartOf) (count : ℕ) (failed : Bool) : Type 0 where
+pub record AreParts (modes : List KeyMode) (parts : List PartOf) (count : ℕ)
+    (failed : Bool) : Type 0 where
   pub lined_up : length parts ≡ length modes
   pub own_keys : HaveOwnKeys parts
   pub counted : count ≡ length (pairs_from 0 parts)
@@ -69,12 +88,20 @@ staged_of s = record { loader = s.loader; key = cache_of s.key; outcome = outcom
 
 -- the pairs of a reply were added to those that are to be stored
 abbrev pub AddsReply : KeyMode → Reply → List StagedPair → List StagedPair → Type 0
-AddsReply mode r old new = map staged_of new ≡ map staged_of old ++ reply_pairs mode r.loader (map key_of r.keys) (map outcome_of r.outcomes.items)
+AddsReply mode r old new = map staged_of new ≡ map staged_of old
+    ++ reply_pairs mode r.loader (map key_of r.keys) (map outcome_of r.outcomes.items)
+
+-- of these pairs `added` were stored: those of absent keys, of equal keys the first
+pub record StorePairs (pairs : List StagedPair) (added : ℕ) (old new : List PartOf) : Type 0 where
+  pub stored : IsWith (pairs_from 0 old) (map staged_of pairs) (pairs_from 0 new)
+  pub count : length (pairs_from 0 new) ≡ length (pairs_from 0 old) + added
+  pub most : added ≤ length pairs
 
 -- gives how many of these are of the loader of a number
 abbrev pub count_at : ℕ → List StagedPair → ℕ
 count_at loader [] = 0
-count_at loader (s ∷ pairs) = if s.loader == loader then suc (count_at loader pairs) else count_at loader pairs
+count_at loader (s ∷ pairs) =
+    if s.loader == loader then suc (count_at loader pairs) else count_at loader pairs
 
 -- the places that the part of a loader has to spare
 abbrev pub room_at : List PartOf → ℕ → ℕ

@@ -41,7 +41,8 @@ primed ps p = if is_some (look ps p.loader p.key) then ps else ps ++ p ∷ []
 
 -- the second is the map of the first without the keys that a test names
 abbrev pub IsWithout : (ℕ → KeyOf → Bool) → List PairOf → List PairOf → Type 0
-IsWithout names old new = (loader : ℕ) (key : KeyOf) → look new loader key ≡ (if names loader key then None else look old loader key)
+IsWithout names old new = (loader : ℕ) (key : KeyOf)
+    → look new loader key ≡ (if names loader key then None else look old loader key)
 
 -- the test that names one key of one loader
 abbrev pub is_key : ℕ → KeyOf → ℕ → KeyOf → Bool
@@ -60,7 +61,8 @@ IsUnfailed old new = (loader : ℕ) (key : KeyOf)
 
 -- says the same of one loader's pairs alone
 abbrev pub IsUnfailedAt : ℕ → List PairOf → List PairOf → Type 0
-IsUnfailedAt at old new = (loader : ℕ) (key : KeyOf) → look new loader key ≡ (if at == loader then unless_failed (look old loader key) else look old loader key)
+IsUnfailedAt at old new = (loader : ℕ) (key : KeyOf) → look new loader key
+    ≡ (if at == loader then unless_failed (look old loader key) else look old loader key)
 
 -- the last is the map of the first with those of some more pairs whose keys are absent, of equal keys the first
 abbrev pub IsWith : List PairOf → List PairOf → List PairOf → Type 0

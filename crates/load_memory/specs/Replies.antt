@@ -12,16 +12,22 @@ pub record ReplyOf : Type 0 where
   pub outcomes : List OutcomeOf
 
 abbrev pub reply_of : Reply → ReplyOf
-reply_of r = record { loader = r.loader; keys = map key_of r.keys; outcomes = map outcome_of r.outcomes.items }
+reply_of r = record {
+  loader = r.loader;
+  keys = map key_of r.keys;
+  outcomes = map outcome_of r.outcomes.items;
+}
 
 -- the pairs of a reply, place by place
 abbrev pub reply_pairs : KeyMode → ℕ → List KeyOf → List OutcomeOf → List PairOf
 reply_pairs mode loader [] outcomes = []
 reply_pairs mode loader (key ∷ keys) [] = []
 reply_pairs mode loader (key ∷ keys) (outcome ∷ outcomes) =
-    record { loader = loader; key = folded mode key; outcome = outcome } ∷ reply_pairs mode loader keys outcomes
+    record { loader = loader; key = folded mode key; outcome = outcome }
+    ∷ reply_pairs mode loader keys outcomes
 
 -- the pairs of replies, one after another
 abbrev pub pairs_of : List KeyMode → List ReplyOf → List PairOf
 pairs_of modes [] = []
-pairs_of modes (r ∷ rs) = reply_pairs (mode_at modes r.loader) r.loader r.keys r.outcomes ++ pairs_of modes rs
+pairs_of modes (r ∷ rs) =
+    reply_pairs (mode_at modes r.loader) r.loader r.keys r.outcomes ++ pairs_of modes rs

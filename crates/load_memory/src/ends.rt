@@ -60,7 +60,8 @@ impl Ends {
 
     /// Adds a place at the end.
     pub(crate) fn push(&mut self, place: usize) -> Result<(), AllocError>
-        ensures ok { OnOk result (self.new ≡ self.old ++ place ∷ []) }
+        ensures ok { OnOk result
+            (self.new ≡ self.old ++ place ∷ []) }
         ensures err { OnErr result (self.new ≡ self.old) }
     {
         add(&mut self.places, place)
@@ -68,8 +69,10 @@ impl Ends {
 }
 
 fn add(places: &mut EndOffsets, place: usize) -> Result<(), AllocError>
-    ensures ok { OnOk result (places_of places.new ≡ places_of places.old ++ place ∷ []) }
-    ensures err { OnErr result (places_of places.new ≡ places_of places.old) }
+    ensures ok { OnOk result (places_of places.new
+        ≡ places_of places.old ++ place ∷ []) }
+    ensures err { OnErr result
+        (places_of places.new ≡ places_of places.old) }
 {
     match places {
         EndOffsets::Narrow(narrow) => match u32::try_from(place) {
@@ -83,7 +86,8 @@ fn add(places: &mut EndOffsets, place: usize) -> Result<(), AllocError>
 
 // Returns the same places in more memory, and one more.
 fn widen_ends(alloc: Global, narrow: &[u32], place: usize) -> Result<Vec<usize>, AllocError>
-    ensures { IfOk result (λ wide. wide.items ≡ narrow.now ++ place ∷ []) }
+    ensures { IfOk result
+        (λ wide. wide.items ≡ narrow.now ++ place ∷ []) }
 {
     let mut wide = Vec::with_capacity(alloc, narrow.len())?;
     for known in narrow.iter() {

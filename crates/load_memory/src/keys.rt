@@ -39,7 +39,8 @@ impl Model for Keys {
 
 // Returns the same list once more, in no memory.
 fn shared_again(list: &Option<Arc<Vec<Key>>>) -> Result<Option<Arc<Vec<Key>>>, AllocError>
-    ensures { IfOk result (λ again. shared again ≡ shared list.now) }
+    ensures { IfOk result
+        (λ again. shared again ≡ shared list.now) }
 {
     match list {
         Some(list) => Ok(Some(Arc::try_clone(list)?)),
@@ -108,8 +109,10 @@ impl Keys {
     /// more; then nothing is taken off.
     pub fn split_to(&mut self, at: usize) -> Result<Keys, AllocError>
         requires { at ≤ length self.old }
-        ensures first { IfOk result (λ first. first ≡ take at self.old) }
-        ensures rest { OnOk result (self.new ≡ drop at self.old) }
+        ensures first { IfOk result
+            (λ first. first ≡ take at self.old) }
+        ensures rest { OnOk result
+            (self.new ≡ drop at self.old) }
         ensures kept { OnErr result (self.new ≡ self.old) }
     {
         let middle = self.from + at;

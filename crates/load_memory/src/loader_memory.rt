@@ -4,11 +4,12 @@ ghost use Rattle.std.specs.HashMap.{IsUnchanged, spare};
 ghost use Rattle.load_memory.specs.Keys.{KeyOf, borrowed_of, cache_of, folded, same_key};
 ghost use Rattle.load_memory.specs.Outcomes.{outcome_of};
 ghost use Rattle.load_memory.specs.Pairs.{unless_failed};
-ghost use Rattle.load_memory.specs.LoaderMemories.{look_in, HasOwnKeys, HasPut, HasPutIfAbsent};
+ghost use Rattle.load_memory.specs.LoaderMemories.{look_in, HasOwnKeys, Puts, PutsIfAbsent};
 
 use crate::key::{CacheKey, KeyMode, KeyRef};
 use crate::outcome::Outcome;
 use indexmap::IndexMap;
+use indexmap::map::Entry;
 use std::alloc::AllocError;
 
 /// One loader's part of the memory. Its keys have places, which stay until one is taken out.
@@ -28,12 +29,13 @@ pub(crate) fn put_absent(
     key: CacheKey,
     outcome: Outcome,
 ) -> Result<(), AllocError>
-    requires { look_in part.old.entries (cache_of key) ≡ None }
-    ensures pairs { OnOk result
-        (HasPut (cache_of key) (outcome_of outcome) part.old.entries part.new.entries) }
-    ensures count { OnOk result (length part.new.entries ≡ length part.old.entries + 1) }
+    requires { look_in part.old.entries (cache_of key)
+        ≡ None }
+    ensures put { OnOk result
+        (Puts (cache_of key) (outcome_of outcome) part.old part.new) }
     ensures own_keys { OnOk result (HasOwnKeys part.new) }
-    ensures kept { OnErr result (IsUnchanged part.old part.new) }
+    ensures kept { OnErr result
+        (IsUnchanged part.old part.new) }
     ensures succeeds { 0 < spare part.old → IsOk result }
     ensures room { spare part.old ≤ spare part.new + 1 }
 {
@@ -45,20 +47,23 @@ pub(crate) fn put_absent(
 pub(crate) fn put(part: &mut LoaderMemory, key: CacheKey, outcome: Outcome) -> bool
     requires room { 0 < spare part.old }
     requires own_keys { HasOwnKeys part.old }
-    ensures found { result ≡ is_none (look_in part.old.entries (cache_of key)) }
-    ensures pairs { HasPutIfAbsent (cache_of key)
-        (outcome_of outcome) part.old.entries part.new.entries }
-    ensures count { length part.new.entries ≡ length part.old.entries + (if result then 1 else 0) }
+    ensures found { result ≡ is_none
+        (look_in part.old.entries (cache_of key)) }
+    ensures put { PutsIfAbsent (cache_of key)
+        (outcome_of outcome) result part.old part.new }
     ensures own_keys { HasOwnKeys part.new }
     ensures room { spare part.old ≤ spare part.new + 1 }
 {
-    if part.contains_key(&key) {
-        return false;
-    }
-    let Ok(()) = put_absent(part, key, outcome) else {
+    let Ok(entry) = part.entry(key) else {
         unreachable!();
     };
-    true
+    match entry {
+        Entry::Occupied(_) => false,
+        Entry::Vacant(entry) => {
+            entry.insert(outcome);
+            true
+        }
+    }
 }
 
 /// The outcome at a place, if the key there is seen to be this one. It takes no hash.
@@ -94,7 +99,8 @@ pub(crate) fn find<'m>(part: &'m LoaderMemory, key: &CacheKey) -> Option<(usize,
 
 /// Takes a pair out, where its key is there.
 pub(crate) fn take_out(part: &mut LoaderMemory, key: &CacheKey) -> bool
-    ensures found { result ≡ is_some (look_in part.old.entries (cache_of key.now)) }
+    ensures found { result ≡ is_some
+        (look_in part.old.entries (cache_of key.now)) }
     ensures pairs { (q : KeyOf) → look_in part.new.entries q
         ≡ (if same_key (cache_of key.now) q then None else look_in part.old.entries q) }
     ensures count { length part.new.entries + (if result then 1 else 0) ≡ length part.old.entries }
@@ -107,7 +113,8 @@ pub(crate) fn take_out(part: &mut LoaderMemory, key: &CacheKey) -> bool
 pub(crate) fn drop_failed_of(part: &mut LoaderMemory) -> usize
     ensures pairs { (q : KeyOf)
         → look_in part.new.entries q ≡ unless_failed (look_in part.old.entries q) }
-    ensures count { length part.new.entries + result ≡ length part.old.entries }
+    ensures count { length part.new.entries + result
+        ≡ length part.old.entries }
     ensures own_keys { HasOwnKeys part.new }
 {
     let before = part.len();

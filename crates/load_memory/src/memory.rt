@@ -49,7 +49,8 @@ impl Model for Memory {
 impl Memory {
     /// An empty memory. Its loaders are numbered from 0 in the order of their modes.
     pub fn new(alloc: Global, modes: Vec<KeyMode>) -> Result<Memory, AllocError>
-        ensures { IfOk result (λ m. m ≡ record { modes = modes.items; pairs = [] }) }
+        ensures { IfOk result (λ m. m
+            ≡ record { modes = modes.items; pairs = [] }) }
     {
         let mut parts = Vec::with_capacity(alloc, modes.len())?;
         for _ in 0..modes.len() {
@@ -73,7 +74,8 @@ impl Memory {
     /// Returns how a loader compares its keys.
     pub fn mode(&self, loader: usize) -> KeyMode
         requires { loader < length self.now.modes }
-        ensures { slice_get self.now.modes loader ≡ Some result }
+        ensures { slice_get self.now.modes loader
+            ≡ Some result }
     {
         self.modes[loader]
     }
@@ -101,8 +103,8 @@ impl Memory {
         key: KeyRef<'_>,
     ) -> Result<Option<&Outcome>, AllocError>
         requires { loader < length self.now.modes }
-        ensures { IfOk result (λ outcome. option_map outcome_of (option_copied outcome)
-            ≡ look self.now.pairs loader (folded (mode_at self.now.modes loader) (borrowed_of key.entry))) }
+        ensures { IfOk result (λ it. option_map outcome_of (option_copied it) ≡ look self.now.pairs
+            loader (folded (mode_at self.now.modes loader) (borrowed_of key.entry))) }
     {
         let mode = self.mode(loader);
         let part = &self.parts[loader];
@@ -182,7 +184,8 @@ impl Memory {
     /// Forgets what is known of the keys of one loader.
     pub fn clear_all(&mut self, loader: usize)
         requires { loader < length self.old.modes }
-        ensures pairs { IsWithout (λ l _. loader == l) self.old.pairs self.new.pairs }
+        ensures pairs { IsWithout (λ l _.
+            loader == l) self.old.pairs self.new.pairs }
         ensures modes { self.new.modes ≡ self.old.modes }
     {
         self.count -= self.parts[loader].len();
@@ -201,7 +204,8 @@ impl Memory {
     /// Forgets the keys whose batch failed as a whole. If no batch failed since the last call, it looks at no
     /// pair.
     pub fn drop_failed(&mut self)
-        ensures pairs { IsUnfailed self.old.pairs self.new.pairs }
+        ensures pairs { IsUnfailed
+            self.old.pairs self.new.pairs }
         ensures modes { self.new.modes ≡ self.old.modes }
     {
         if !self.failed {
@@ -215,7 +219,8 @@ impl Memory {
 
     fn drop_failed_at(&mut self, loader: usize)
         requires { loader < length self.old.modes }
-        ensures pairs { IsUnfailedAt loader self.old.pairs self.new.pairs }
+        ensures pairs { IsUnfailedAt loader
+            self.old.pairs self.new.pairs }
         ensures modes { self.new.modes ≡ self.old.modes }
     {
         self.count -= drop_failed_of(&mut self.parts[loader]);
@@ -228,11 +233,13 @@ impl Memory {
     ///
     /// When out of memory, every key is known or not as before, with the same outcome (`kept`, `modes`).
     pub fn keep(&mut self, replies: &[Reply]) -> Result<(), AllocError>
-        requires { All (λ (r : Reply). r.loader < length self.old.modes) replies.now }
+        requires { All (λ (r : Reply).
+            r.loader < length self.old.modes) replies.now }
         ensures pairs { OnOk result (IsWith self.old.pairs
             (pairs_of self.old.modes (map reply_of replies.now)) self.new.pairs) }
         ensures modes { self.new.modes ≡ self.old.modes }
-        ensures kept { OnErr result (IsSameMap self.new.pairs self.old.pairs) }
+        ensures kept { OnErr result
+            (IsSameMap self.new.pairs self.old.pairs) }
     {
         let mut pairs = Vec::new(*self.modes.allocator());
         for reply in replies {
@@ -247,11 +254,13 @@ impl Memory {
     ///
     /// Those of [`keep`](Memory::keep). The replies are gone even then.
     pub fn keep_owned(&mut self, replies: Vec<Reply>) -> Result<(), AllocError>
-        requires { All (λ (r : Reply). r.loader < length self.old.modes) replies.items }
+        requires { All (λ (r : Reply). r.loader
+            < length self.old.modes) replies.items }
         ensures pairs { OnOk result (IsWith self.old.pairs
             (pairs_of self.old.modes (map reply_of replies.items)) self.new.pairs) }
         ensures modes { self.new.modes ≡ self.old.modes }
-        ensures kept { OnErr result (IsSameMap self.new.pairs self.old.pairs) }
+        ensures kept { OnErr result
+            (IsSameMap self.new.pairs self.old.pairs) }
     {
         let mut pairs = Vec::new(*self.modes.allocator());
         for owned in replies {
@@ -267,11 +276,13 @@ impl Memory {
     /// Those of [`keep`](Memory::keep).
     pub fn index(&mut self, shelf: &Shelf, receipts: &[Receipt]) -> Result<(), AllocError>
         requires shelf { All (IsOn shelf.now) receipts.now }
-        requires loaders { All (λ r. (shown r).loader < length self.old.modes) receipts.now }
+        requires loaders { All (λ r. (shown r).loader
+            < length self.old.modes) receipts.now }
         ensures pairs { OnOk result (IsWith self.old.pairs
             (pairs_of self.old.modes (map shown receipts.now)) self.new.pairs) }
         ensures modes { self.new.modes ≡ self.old.modes }
-        ensures kept { OnErr result (IsSameMap self.new.pairs self.old.pairs) }
+        ensures kept { OnErr result
+            (IsSameMap self.new.pairs self.old.pairs) }
     {
         let mut pairs = Vec::new(*self.modes.allocator());
         for receipt in receipts {
@@ -282,11 +293,13 @@ impl Memory {
     }
 
     fn store(&mut self, pairs: Vec<StagedPair>) -> Result<(), AllocError>
-        requires { All (λ (s : StagedPair). s.loader < length self.old.modes) pairs.items }
+        requires { All (λ (s : StagedPair).
+            s.loader < length self.old.modes) pairs.items }
         ensures pairs { OnOk result
             (IsWith self.old.pairs (map staged_of pairs.items) self.new.pairs) }
         ensures modes { self.new.modes ≡ self.old.modes }
-        ensures kept { OnErr result (IsSameMap self.new.pairs self.old.pairs) }
+        ensures kept { OnErr result
+            (IsSameMap self.new.pairs self.old.pairs) }
     {
         if self.count.checked_add(pairs.len()).is_none() {
             return Err(AllocError);

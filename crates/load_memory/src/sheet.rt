@@ -69,7 +69,8 @@ impl Cells {
     }
 
     fn push(&mut self, text: &str) -> Result<(), AllocError>
-        ensures ok { OnOk result (self.new ≡ self.old ++ text.now ∷ []) }
+        ensures ok { OnOk result
+            (self.new ≡ self.old ++ text.now ∷ []) }
         ensures err { OnErr result (self.new ≡ self.old) }
     {
         self.text.reserve(text.len())?;
@@ -154,9 +155,11 @@ impl SheetBuilder {
 
     /// Ends the row that was begun, which has a field for each column.
     pub fn end_row(&mut self)
-        requires filled { length self.old.begun ≡ length self.old.names }
+        requires filled { length self.old.begun
+            ≡ length self.old.names }
         requires room { length self.old.rows + 1 < 2 ^ 32 }
-        ensures { self.new ≡ draft_with_row self.old self.old.begun }
+        ensures { self.new
+            ≡ draft_with_row self.old self.old.begun }
     {
         self.rows += 1;
     }
@@ -221,14 +224,16 @@ impl Sheet {
     /// The name of a column, counted from 0.
     pub fn name(&self, column: usize) -> &str
         requires { column < length self.now.names }
-        ensures { result.now ≡ get_or self.now.names column [] }
+        ensures { result.now
+            ≡ get_or self.now.names column [] }
     {
         self.cells.get(column)
     }
 
     /// The first column of that name, counted from 0.
     pub fn column(&self, name: &str) -> Option<usize>
-        ensures { result ≡ position (λ n. bytes_eq n name.now) self.now.names }
+        ensures { result ≡ position
+            (λ n. bytes_eq n name.now) self.now.names }
     {
         for column in 0..self.width {
             if self.name(column) == name {
@@ -242,7 +247,8 @@ impl Sheet {
     pub fn field(&self, row: u32, column: usize) -> &str
         requires row { row < length self.now.rows }
         requires column { column < length self.now.names }
-        ensures { result.now ≡ get_or (get_or self.now.rows row []) column [] }
+        ensures { result.now ≡ get_or
+            (get_or self.now.rows row []) column [] }
     {
         self.cells.count_fits();
         self.cells.get((row as usize + 1) * self.width + column)

@@ -35,8 +35,10 @@ impl Shelf {
     /// Puts a reply on the shelf and returns a receipt that shows it for good. When out of memory, returns the
     /// reply. It may wait while another thread makes room.
     pub fn put(&self, rt: &impl Wait, reply: Reply) -> Result<Receipt, Reply>
-        ensures shown { IfOk result (λ r. IsOn self.now r × (shown r ≡ reply_of reply)) }
-        ensures back { IfErr result (λ r. reply_of r ≡ reply_of reply) }
+        ensures shown { IfOk result (λ r.
+            IsOn self.now r × (shown r ≡ reply_of reply)) }
+        ensures back { IfErr result
+            (λ r. reply_of r ≡ reply_of reply) }
     {
         let pushed = self.replies.push_shown(rt, reply)?;
         Ok(Receipt { pushed })

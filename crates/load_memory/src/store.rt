@@ -4,7 +4,7 @@
 //! memory ran out, pairs may lie in another order, and the map is as it was.
 ghost use Rattle.std.specs.Prelude.{◌≡◌, ◌<◌, ◌≤◌, ◌+◌, false, ℕ, [], All, map, length, IfOk, OnOk, slice_index};
 ghost use Rattle.load_memory.specs.Pairs.{IsSameMap, IsWith};
-ghost use Rattle.load_memory.specs.LoaderMemories.{HaveOwnKeys, HaveRoom, room_at, count_at, pairs_from, staged_of, AreUnfailed, AddsReply};
+ghost use Rattle.load_memory.specs.LoaderMemories.{HaveOwnKeys, HaveRoom, HoldSame, StorePairs, room_at, count_at, pairs_from, staged_of, AreUnfailed, AddsReply};
 
 use crate::key::{KeyMode, cache_key};
 use crate::loader_memory::{LoaderMemory, StagedPair, put};
@@ -67,7 +67,8 @@ pub(crate) fn stage_owned(
 
 /// Tells whether some of the pairs are of a batch that failed as a whole.
 pub(crate) fn has_failed(pairs: &[StagedPair]) -> bool
-    ensures { result ≡ false → AreUnfailed (map staged_of pairs.now) }
+    ensures { result ≡ false
+        → AreUnfailed (map staged_of pairs.now) }
 {
     for pair in pairs {
         if pair.outcome.has_failed() {
@@ -83,8 +84,10 @@ pub(crate) fn counts_of(
     pairs: &[StagedPair],
     loaders: usize,
 ) -> Result<Vec<usize>, AllocError>
-    requires { All (λ (s : StagedPair). s.loader < loaders) pairs.now }
-    ensures lined_up { IfOk result (λ v. length v.items ≡ loaders) }
+    requires { All (λ (s : StagedPair).
+        s.loader < loaders) pairs.now }
+    ensures lined_up { IfOk result
+        (λ v. length v.items ≡ loaders) }
     ensures counts { IfOk result (λ v. (loader : ℕ) → loader < loaders
         → slice_index v.items loader ≡ count_at loader pairs.now) }
 {
@@ -98,12 +101,13 @@ pub(crate) fn counts_of(
 /// Makes room for this many more pairs in each part. The parts keep the same pairs, even when out of
 /// memory.
 pub(crate) fn make_room(parts: &mut Vec<LoaderMemory>, counts: &[usize]) -> Result<(), AllocError>
-    requires lined_up { length counts.now ≡ length parts.old.items }
+    requires lined_up { length counts.now
+        ≡ length parts.old.items }
     requires own_keys { HaveOwnKeys parts.old.items }
-    ensures lined_up { length parts.new.items ≡ length parts.old.items }
+    ensures lined_up { length parts.new.items
+        ≡ length parts.old.items }
     ensures own_keys { HaveOwnKeys parts.new.items }
-    ensures pairs { IsSameMap (pairs_from 0 parts.new.items) (pairs_from 0 parts.old.items) }
-    ensures count { length (pairs_from 0 parts.new.items) ≡ length (pairs_from 0 parts.old.items) }
+    ensures same { HoldSame parts.old.items parts.new.items }
     ensures room { OnOk result ((loader : ℕ) → loader < length parts.old.items
         → slice_index counts.now loader ≤ room_at parts.new.items loader) }
 {
@@ -115,7 +119,8 @@ pub(crate) fn make_room(parts: &mut Vec<LoaderMemory>, counts: &[usize]) -> Resu
 
 /// Takes the pairs out of each part.
 pub(crate) fn clear_loaders(parts: &mut Vec<LoaderMemory>)
-    ensures lined_up { length parts.new.items ≡ length parts.old.items }
+    ensures lined_up { length parts.new.items
+        ≡ length parts.old.items }
     ensures own_keys { HaveOwnKeys parts.new.items }
     ensures pairs { pairs_from 0 parts.new.items ≡ [] }
 {
@@ -128,15 +133,14 @@ pub(crate) fn clear_loaders(parts: &mut Vec<LoaderMemory>)
 /// how many it stored.
 pub(crate) fn put_all(parts: &mut Vec<LoaderMemory>, pairs: Vec<StagedPair>) -> usize
     requires room { HaveRoom parts.old.items pairs.items }
-    requires loaders { All (λ (s : StagedPair). s.loader < length parts.old.items) pairs.items }
+    requires loaders { All (λ (s : StagedPair).
+        s.loader < length parts.old.items) pairs.items }
     requires own_keys { HaveOwnKeys parts.old.items }
-    ensures lined_up { length parts.new.items ≡ length parts.old.items }
+    ensures lined_up { length parts.new.items
+        ≡ length parts.old.items }
     ensures own_keys { HaveOwnKeys parts.new.items }
-    ensures pairs { IsWith (pairs_from 0 parts.old.items) (map staged_of pairs.items)
-        (pairs_from 0 parts.new.items) }
-    ensures count { length (pairs_from 0 parts.new.items)
-        ≡ length (pairs_from 0 parts.old.items) + result }
-    ensures most { result ≤ length pairs.items }
+    ensures stored { StorePairs pairs.items result
+        parts.old.items parts.new.items }
 {
     let mut added = 0;
     for pair in pairs {

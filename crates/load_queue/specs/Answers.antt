@@ -10,9 +10,11 @@ pub data AnswerOf : Type 0 where
 
 -- gives what is said of n items for m keys
 abbrev pub wrong_count : ℕ → ℕ → List ℕ
-wrong_count n m = codes "the source answered " ++ decimal n ++ codes " results for " ++ decimal m ++ codes " keys"
+wrong_count n m =
+    codes "the source answered " ++ decimal n ++ codes " results for " ++ decimal m ++ codes " keys"
 
 -- the outcomes of m keys, place by place
 abbrev pub outcomes_of : ℕ → AnswerOf → List OutcomeOf
-outcomes_of m (given items) = if length items == m then map known items else replicate m (batch_fault (wrong_count (length items) m))
+outcomes_of m (given items) = if length items == m then map known items
+    else replicate m (batch_fault (wrong_count (length items) m))
 outcomes_of m (failed text) = replicate m (batch_fault text)

@@ -23,9 +23,23 @@ pub record LoaderOf (S : Type 0) : Type 0 where
   -- says how many orders were ever made of it, which nothing resets
   pub orders : ℕ
 
+-- the loader that is made of these: nothing was asked of it
+abbrev pub made_of : {S : Type 0} → List ℕ → S → KeyMode → Option ℕ → LoaderOf S
+made_of name source mode limit = record {
+  name = name;
+  source = source;
+  mode = mode;
+  limit = limit;
+  log = [];
+  orders = 0;
+}
+
 -- the loader once these keys are asked in this round: its log has gained an entry for each batch, and each is counted
 abbrev pub asked_in : {S : Type 0} → LoaderOf S → ℕ → List KeyOf → LoaderOf S
-asked_in l round keys = record l { log = l.log ++ map (entered round) (batches l.limit keys); orders = l.orders + length (batches l.limit keys) }
+asked_in l round keys = record l {
+  log = l.log ++ map (entered round) (batches l.limit keys);
+  orders = l.orders + length (batches l.limit keys);
+}
 
 -- the entry, as stored if it is of this round
 abbrev pub marked : ℕ → AskedOf → AskedOf

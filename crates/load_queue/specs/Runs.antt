@@ -8,7 +8,8 @@ use Rattle.load_queue.specs.Orders.{OrderOf}
 
 -- the reply bears the order's number and keys, and has the outcomes of an answer that the source of the loader of
 -- that number may give for these keys
-pub record IsReplyTo {S : Type 0} (may : S → List KeyOf → AnswerOf → Type 0) (loaders : List (LoaderOf S)) (order : OrderOf) (reply : ReplyOf) : Type 0 where
+pub record IsReplyTo {S : Type 0} (may : S → List KeyOf → AnswerOf → Type 0)
+    (loaders : List (LoaderOf S)) (order : OrderOf) (reply : ReplyOf) : Type 0 where
   pub loader : reply.loader ≡ order.loader
   pub keys : reply.keys ≡ order.keys
   pub asked : LoaderOf S

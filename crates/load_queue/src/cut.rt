@@ -69,7 +69,8 @@ pub(crate) fn log_entries(
 
 /// Returns the same keys once more.
 pub(crate) fn copy_of(alloc: Global, keys: &[Key]) -> Result<Vec<Key>, AllocError>
-    ensures { IfOk result (λ copy. map key_of copy.items ≡ map key_of keys.now) }
+    ensures { IfOk result (λ copy.
+        map key_of copy.items ≡ map key_of keys.now) }
 {
     let mut copy = Vec::with_capacity(alloc, keys.len())?;
     for key in keys {

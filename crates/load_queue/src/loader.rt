@@ -94,7 +94,8 @@ impl<S> Model for Loader<S> {
 fn mark(log: &mut Vec<LogEntry>, first: usize, round: u32)
     requires { All (λ (a : AskedOf). a.round ≡ round → ⊥)
         (take first (map asked_of log.old.items)) }
-    ensures { map asked_of log.new.items ≡ map (marked round) (map asked_of log.old.items) }
+    ensures { map asked_of log.new.items
+        ≡ map (marked round) (map asked_of log.old.items) }
 {
     for index in first..log.len() {
         if log[index].round == round {
@@ -117,7 +118,8 @@ impl<S> Loader<S> {
     /// Returns how the loader's keys are compared. A contract also sees here that no loader's limit is 0.
     pub fn mode(&self) -> KeyMode
         ensures value { result ≡ self.now.mode }
-        ensures limited { (n : ℕ) → self.now.limit ≡ Some n → 0 < n }
+        ensures limited { (n : ℕ) → self.now.limit ≡ Some n
+            → 0 < n }
     {
         self.mode
     }
@@ -224,7 +226,7 @@ impl<S> Loader<S> {
 }
 
 impl<S: Drop> Loader<S> {
-    ghost use Rattle.load_queue.specs.Loaders.{IsBadLimit};
+    ghost use Rattle.load_queue.specs.Loaders.{IsBadLimit, made_of};
 
     /// A new loader with an empty log, of which no order was made yet. It asks its source for at most `max` keys at
     /// once, 1 to 65,535; `None` is no limit.
@@ -235,9 +237,10 @@ impl<S: Drop> Loader<S> {
         mode: KeyMode,
         max: Option<u32>,
     ) -> Result<Loader<S>, QueueFault>
-        ensures made { IfOk result (λ l. l
-            ≡ record { name = name.now; source = source; mode = mode; limit = max; log = []; orders = 0 }) }
-        ensures refused { IsErrOf result QueueFault.BadLimit ↔ IsBadLimit max }
+        ensures made { IfOk result
+            (λ l. l ≡ made_of name.now source mode max) }
+        ensures refused { IsErrOf result QueueFault.BadLimit
+            ↔ IsBadLimit max }
     {
         if let Some(limit) = max
             && (limit == 0 || limit > MAX_LIMIT)

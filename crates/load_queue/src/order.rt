@@ -37,14 +37,16 @@ impl Order {
     ghost use Rattle.load_memory.specs.Replies.{reply_of};
 
     pub(crate) fn new(loader: usize, keys: Keys) -> Order
-        ensures { result ≡ order_of loader (map key_of keys) }
+        ensures { result ≡ order_of loader
+            (map key_of keys) }
     {
         Order { loader, keys }
     }
 
     /// Its keys once more, in the list that it shares.
     pub(crate) fn shared_keys(&self) -> Result<Keys, AllocError>
-        ensures { IfOk result (λ keys. map key_of keys ≡ self.now.keys) }
+        ensures { IfOk result
+            (λ keys. map key_of keys ≡ self.now.keys) }
     {
         Ok(self.keys.clone()?)
     }
@@ -75,7 +77,8 @@ impl Order {
         loaders: &[Loader<S>],
     ) -> Result<Reply, AllocError>
         requires { self.loader < length loaders.now }
-        ensures { IfOk result (λ reply. IsReplyTo S.may_tell loaders.now self (reply_of reply)) }
+        ensures { IfOk result (λ reply. IsReplyTo
+            S.may_tell loaders.now self (reply_of reply)) }
     {
         let Order { loader, keys } = self;
         let answer = loaders[loader].source().ask(alloc, keys.as_slice());
@@ -98,8 +101,10 @@ impl Order {
         alloc: Global,
         answer: Result<Vec<Item>, FetchFault>,
     ) -> Result<Reply, AllocError>
-        ensures loader { IfOk result (λ reply. reply.loader ≡ self.loader) }
-        ensures keys { IfOk result (λ reply. (reply_of reply).keys ≡ self.keys) }
+        ensures loader { IfOk result
+            (λ reply. reply.loader ≡ self.loader) }
+        ensures keys { IfOk result
+            (λ reply. (reply_of reply).keys ≡ self.keys) }
         ensures outcomes { IfOk result (λ reply.
             Follow (reply_of reply).outcomes answer (length self.keys)) }
     {

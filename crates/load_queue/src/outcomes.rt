@@ -14,7 +14,8 @@ pub(crate) fn outcomes_of_answer(
     answer: Result<Vec<Item>, FetchFault>,
     keys: usize,
 ) -> Result<Vec<Outcome>, AllocError>
-    ensures { IfOk result (λ v. Follow (map outcome_of v.items) answer keys) }
+    ensures { IfOk result
+        (λ v. Follow (map outcome_of v.items) answer keys) }
 {
     match answer {
         Ok(items) if items.len() == keys => outcomes_of_items(alloc, items),
@@ -29,7 +30,8 @@ pub(crate) fn outcomes_of_answer(
 
 /// Each item as the outcome of its key.
 fn outcomes_of_items(alloc: Global, items: Vec<Item>) -> Result<Vec<Outcome>, AllocError>
-    ensures { IfOk result (λ v. map outcome_of v.items ≡ map known (map item_of items.items)) }
+    ensures { IfOk result (λ v. map outcome_of v.items
+        ≡ map known (map item_of items.items)) }
 {
     let mut outcomes = Vec::with_capacity(alloc, items.len())?;
     for item in items {
@@ -40,7 +42,8 @@ fn outcomes_of_items(alloc: Global, items: Vec<Item>) -> Result<Vec<Outcome>, Al
 
 /// One fault as the outcome of each of `keys` keys.
 fn outcomes_of_fault(alloc: Global, text: &str, keys: usize) -> Result<Vec<Outcome>, AllocError>
-    ensures { IfOk result (λ v. map outcome_of v.items ≡ replicate keys (batch_fault text.now)) }
+    ensures { IfOk result (λ v. map outcome_of v.items
+        ≡ replicate keys (batch_fault text.now)) }
 {
     let mut outcomes = Vec::with_capacity(alloc, keys)?;
     for _ in 0..keys {
@@ -51,7 +54,8 @@ fn outcomes_of_fault(alloc: Global, text: &str, keys: usize) -> Result<Vec<Outco
 
 /// Returns what is said of a list of items that hasn't one item for each key.
 fn wrong_count_text(alloc: Global, items: usize, keys: usize) -> Result<String, AllocError>
-    ensures { IfOk result (λ t. string_bytes t ≡ wrong_count items keys) }
+    ensures { IfOk result
+        (λ t. string_bytes t ≡ wrong_count items keys) }
 {
     Ok(format!(in alloc; "the source answered {items} results for {keys} keys")?)
 }

@@ -38,7 +38,8 @@ fn see_first(
     seen: &mut IndexSet<CacheKey>,
 ) -> Result<(), AllocError>
     requires some { 0 < length keys.now }
-    requires seen { HaveSeen mode (map cache_of seen.old.keys) (map key_of keys.now) }
+    requires seen { HaveSeen mode
+        (map cache_of seen.old.keys) (map key_of keys.now) }
     ensures all { OnOk result
         (map cache_of seen.new.keys ≡ map (folded mode) (map key_of keys.now)) }
     ensures kept { OnErr result (HaveSeen mode (map cache_of seen.new.keys) (map key_of keys.now)) }
@@ -69,8 +70,10 @@ impl WantedKeys {
 
     // The keys, of which then none is wanted.
     fn take_keys(&mut self) -> Vec<Key>
-        ensures keys { map key_of result.items ≡ self.old.keys }
-        ensures after { self.new ≡ nothing_wanted self.old.mode }
+        ensures keys { map key_of result.items
+            ≡ self.old.keys }
+        ensures after { self.new
+            ≡ nothing_wanted self.old.mode }
     {
         let alloc = *self.keys.allocator();
         let all = mem::replace(self, WantedKeys::new(alloc, self.mode));
@@ -79,8 +82,10 @@ impl WantedKeys {
     }
 
     fn add(&mut self, key: Key) -> Result<bool, AllocError>
-        ensures added { IfOk result (λ added. added ≡ not (is_wanted self.old (key_of key))) }
-        ensures after { OnOk result (self.new ≡ with_key self.old (key_of key)) }
+        ensures added { IfOk result (λ added.
+            added ≡ not (is_wanted self.old (key_of key))) }
+        ensures after { OnOk result
+            (self.new ≡ with_key self.old (key_of key)) }
         ensures kept { OnErr result (self.new ≡ self.old) }
     {
         if self.keys.is_empty() {
@@ -121,7 +126,8 @@ impl Model for Wants {
 impl Wants {
     /// No wanted keys yet, for the memory's loaders, whose modes say when two keys are the same.
     pub fn new(alloc: Global, memory: &Memory) -> Result<Wants, AllocError>
-        ensures { IfOk result (λ w. w ≡ map nothing_wanted memory.now.modes) }
+        ensures { IfOk result
+            (λ w. w ≡ map nothing_wanted memory.now.modes) }
     {
         let modes = memory.modes();
         let mut parts = Vec::with_capacity(alloc, modes.len())?;
@@ -134,7 +140,8 @@ impl Wants {
     /// The keys that are wanted of a loader, in the order in which they were added.
     pub fn keys(&self, loader: usize) -> &[Key]
         requires { loader < length self.now }
-        ensures { map key_of result.now ≡ keys_wanted self.now loader }
+        ensures { map key_of result.now
+            ≡ keys_wanted self.now loader }
     {
         self.parts[loader].keys()
     }
@@ -142,8 +149,10 @@ impl Wants {
     /// Takes the wanted keys of a loader out, in the order in which they were added.
     pub fn take_keys(&mut self, loader: usize) -> Vec<Key>
         requires { loader < length self.old }
-        ensures keys { map key_of result.items ≡ keys_wanted self.old loader }
-        ensures after { self.new ≡ taken_from self.old loader }
+        ensures keys { map key_of result.items
+            ≡ keys_wanted self.old loader }
+        ensures after { self.new
+            ≡ taken_from self.old loader }
     {
         self.parts[loader].take_keys()
     }
@@ -158,8 +167,10 @@ impl Wants {
         requires { loader < length self.old }
         ensures added { IfOk result (λ added.
             added ≡ not (is_key_wanted self.old loader (key_of key))) }
-        ensures after { OnOk result (self.new ≡ with_wanted self.old loader (key_of key)) }
-        ensures loaders { length self.new ≡ length self.old }
+        ensures after { OnOk result (self.new
+            ≡ with_wanted self.old loader (key_of key)) }
+        ensures loaders { length self.new
+            ≡ length self.old }
         ensures kept { OnErr result (self.new ≡ self.old) }
     {
         self.parts[loader].add(key)

@@ -1,5 +1,5 @@
 -- Definitions of what contracts see of an answering future, and what it does, poll by poll.
-use Rattle.std.specs.Prelude.{◌≡◌, ◌≢◌, ◌≤◌, ℕ, List, [], ◌+◌, length, Option, Some, None, Result, String, string_bytes}
+use Rattle.std.specs.Prelude.{◌≡◌, ◌≢◌, ◌≤◌, ℕ, Bool, true, List, [], ◌+◌, length, Option, Some, None, Result, IfOk, String, string_bytes}
 use Rattle.load_memory.specs.Keys.{KeyOf}
 use Rattle.load_memory.specs.Pairs.{MemoryOf, look}
 use Rattle.load_memory.specs.Replies.{ReplyOf}
@@ -10,6 +10,7 @@ use Rattle.execution.specs.Program.{Program, chain}
 use Rattle.execution.specs.Completion.{AnsweredOf}
 use Rattle.execution.specs.Front.{front}
 use Rattle.execution.specs.Sessions.{Forgot}
+use Rattle.futures.specs.Poll.{IfReady, OnPending}
 use Rattle.futures.specs.declared.task.Poll.{Poll}
 use Rattle.futures.specs.declared.task.Poll.TheVariants.{Ready, Pending}
 use Rattle.std.specs.declared.alloc.Global.{Global}
@@ -110,4 +111,16 @@ module _ {S E : Type 0} where
       pub ends : new ≡ polled after (rounds_of old + 1) progress
       pub lacks : front (session_modes before) p before.memory ≢ []
       pub ran : RoundRan may before (state_of after) (front (session_modes before) p before.memory)
-      pub within : rounds_of new ≤ chain p (read (session_modes (state_of after)) (look after.pairs))
+      pub within : rounds_of new
+          ≤ chain p (read (session_modes (state_of after)) (look after.pairs))
+
+    -- What a poll does beyond what any future promises: the plan stays, and one that is pending has made a round and asked for the next
+    -- poll. One that is ready with an answer counts the rounds so far, and has asked nothing itself.
+    pub record Polls {P : Type 0} (p : Program) (old new : AnsweringOf S P E) (woken : Bool)
+        (result : Poll (SessionOf S × Result Answer AllocError)) : Type 0 where
+      pub plan : new.plan ≡ old.plan
+      pub round : OnPending result (PollRan p old.far new.far)
+      pub yielded : OnPending result (woken ≡ true)
+      pub counted : IfReady result (λ out. IfOk out.1 (λ a. a.rounds ≡ rounds_of old.far))
+      pub asks_nothing : IfReady result (λ out.
+          IfOk out.1 (λ _. begun old.far ≡ Some (state_of out.0)))

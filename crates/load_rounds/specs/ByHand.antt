@@ -1,10 +1,11 @@
 -- Rounds by hand: what contracts see of a run, what its calls do to a session, and what was done since it was begun.
-use Rattle.std.specs.Prelude.{◌≡◌, ◌≢◌, ◌⊎◌, ◌+◌, ℕ, List, [], map, length, Result, IfOk, IsPermutation, string_bytes}
+use Rattle.std.specs.Prelude.{◌≡◌, ◌≢◌, ◌≤◌, ◌<◌, ◌⊎◌, ◌+◌, ◌^◌, ℕ, All, List, [], map, length, Result, IfOk, IsPermutation, string_bytes}
 use Rattle.load_memory.specs.Keys.{KeyOf}
 use Rattle.load_memory.specs.Replies.{ReplyOf}
-use Rattle.load_memory.specs.Shelves.{shown}
+use Rattle.load_memory.specs.Shelves.{IsOn, shown}
 use Rattle.std.specs.declared.alloc.AllocError.{AllocError}
 use Rattle.load_memory.specs.declared.shelf.Receipt.{Receipt}
+use Rattle.load_memory.specs.declared.shelf.Shelf.{Shelf}
 use Rattle.load_queue.specs.Answers.{AnswerOf}
 use Rattle.load_queue.specs.Loaders.{stored_in}
 use Rattle.load_queue.specs.Orders.{OrderOf}
@@ -18,7 +19,7 @@ use Rattle.load_rounds.specs.declared.by_hand.Next.{Next}
 use Rattle.load_rounds.specs.declared.by_hand.Next.TheVariants as next
 use Rattle.load_rounds.specs.declared.by_hand.Stage.{Stage}
 use Rattle.load_rounds.specs.declared.by_hand.Stage.TheVariants.{Ready, Out, Finished, Failed}
-use Rattle.load_rounds.specs.Sessions.{StateOf, rules_of, session_modes, after_step, AreNumbered}
+use Rattle.load_rounds.specs.Sessions.{SessionOf, StateOf, rules_of, session_modes, after_step, AreNumbered}
 use Rattle.load_rounds.specs.Calls.{RoundRan, RoundLost}
 use Rattle.load_rounds.specs.Headline.{MakesRounds, Headline, StopsAnswering}
 use Rattle.execution.specs.Executes.{IsTextOf}
@@ -33,7 +34,8 @@ abbrev pub run_of : {P : Type 0} → P → ℕ → Stage → RunOf P
 run_of plan rounds stage = record { plan = plan; rounds = rounds; stage = stage }
 
 -- one reply to each order, in whatever order the replies are
-pub record AreReceived (may : ℕ → List KeyOf → AnswerOf → Type 0) (orders : List OrderOf) (shown : List ReplyOf) : Type 0 where
+pub record AreReceived (may : ℕ → List KeyOf → AnswerOf → Type 0) (orders : List OrderOf)
+    (shown : List ReplyOf) : Type 0 where
   pub replies : List ReplyOf
   pub fit : AreReplies may orders replies
   pub moved : IsPermutation replies shown
@@ -64,10 +66,21 @@ module _ {S : Type 0} where
     pub counted : now.rounds ≡ before.rounds + 1
     pub numbered : AreNumbered before.rounds before.loaders
 
+  -- A run at this stage expects replies: its round is out, and the session is as that round left it.
+  pub record AwaitsReplies (p : Program) (stage : Stage) (now : StateOf S) : Type 0 where
+    pub out : stage ≡ Out
+    pub latest : IsAsked p now
+
   module _ (may : S → List KeyOf → AnswerOf → Type 0) (p : Program) where
     -- one reply to each order of the round, as its source may answer it, in whatever order
     abbrev pub AreReceivedIn : StateOf S → List ReplyOf → Type 0
     AreReceivedIn s shown = AreReceived (may_at may s.loaders) (orders_in s p) shown
+
+    -- The receipts are on the shelf, and show one such reply to each order of the round.
+    pub record AreReceiptsIn (s : StateOf S)
+        (shelf : Shelf) (receipts : List Receipt) : Type 0 where
+      pub on : All (IsOn shelf) receipts
+      pub round : AreReceivedIn s (map shown receipts)
 
     -- It is as if the latest round had been run in one piece: its entries are marked, and those of no other round.
     abbrev pub RunsAsked : StateOf S → StateOf S → Type 0
@@ -84,8 +97,14 @@ module _ {S : Type 0} where
     abbrev pub TakesReceipts : StateOf S → StateOf S → List Receipt → Type 0
     TakesReceipts old new receipts = TakesInAnyOrder old new (map shown receipts)
 
+    -- once the receipts are taken: the round was run as if in one piece, whatever the order of the receipts
+    pub record RunsReceipts (old new : StateOf S) (receipts : List Receipt) : Type 0 where
+      pub ran : RunsAsked old new
+      pub ordered : TakesReceipts old new receipts
+
   -- Nothing is missing: the text is that of the execution over the memory, and nothing changes.
-  pub record IsLast (p : Program) (text_of : AnsweredOf → List ℕ) (old new : StateOf S) (text : List ℕ) : Type 0 where
+  pub record IsLast (p : Program) (text_of : AnsweredOf → List ℕ) (old new : StateOf S)
+      (text : List ℕ) : Type 0 where
     pub complete : front_in old p ≡ []
     pub answered : IsTextOf text_of p (read (session_modes old) old.memory) text
     pub same : new ≡ old
@@ -102,6 +121,28 @@ module _ {S : Type 0} where
   -- after want of memory: nothing was entered, or the batches of the first loaders were
   abbrev pub IsUnasked : Program → StateOf S → StateOf S → Type 0
   IsUnasked p old new = (new ≡ old) ⊎ RoundLost old new (front_in old p)
+
+  module _ {P : Type 0} where
+    -- The run may go on: it is ready, and the session has the loaders that its plan asks.
+    pub record CanGoOn (loaders : P → ℕ) (run : RunOf P) (session : SessionOf S) : Type 0 where
+      pub ready : run.stage ≡ Ready
+      pub within : loaders run.plan ≤ length session.loaders
+
+    -- The next round wasn't made, for want of memory: the run has failed, with as many rounds as before.
+    pub record FailsToAsk (p : Program) (old new : StateOf S) (run later : RunOf P) : Type 0 where
+      pub failed : later ≡ run_of run.plan run.rounds Failed
+      pub lost : IsUnasked p old new
+
+    -- The replies to the round that is out are stored, and the run is ready to go on.
+    pub record TakesReplies (old new : StateOf S)
+        (run later : RunOf P) (shown : List ReplyOf) : Type 0 where
+      pub stored : new ≡ received old shown
+      pub ready : later ≡ run_of run.plan run.rounds Ready
+
+    -- The replies weren't stored, for want of memory: the run has failed, with as many rounds as before.
+    pub record FailsToTake (old new : StateOf S) (run later : RunOf P) : Type 0 where
+      pub failed : later ≡ run_of run.plan run.rounds Failed
+      pub same : new ≡ old
 
   -- says what comes next, by what is missing
   abbrev pub IsNext : {P : Type 0} → Program → (AnsweredOf → List ℕ)
@@ -139,7 +180,8 @@ module _ {S : Type 0} where
 
     -- the answer of a run has the headline, from where it was begun
     abbrev pub AnswersRun : (AnsweredOf → List ℕ) → StateOf S → StateOf S → Next → Type 0
-    AnswersRun text_of begun now (next.Finished answer) = Headline may begun now p text_of (string_bytes answer.text) answer.rounds
+    AnswersRun text_of begun now (next.Finished answer) =
+        Headline may begun now p text_of (string_bytes answer.text) answer.rounds
     AnswersRun text_of begun now (next.Round orders) = Unit {0}
 
     -- From whichever state a run was begun: the session is as the run of this stage left it, and after a call as the run then does.
@@ -153,3 +195,10 @@ module _ {S : Type 0} where
         → StateOf S → StateOf S → RunOf P → Result Next AllocError → Type 0
     AnswersRunFrom text_of old new run result = (begun : StateOf S)
         → IsRun begun old run.rounds Ready → IfOk result (AnswersRun text_of begun new)
+
+    -- What a call that makes the next round keeps: what was done since the run was begun, and what that makes of the answer.
+    pub record KeepsRun {P : Type 0} (text_of : AnsweredOf → List ℕ) (old new : StateOf S)
+        (run later : RunOf P) (result : Result Next AllocError) : Type 0 where
+      pub since : RunsOnFrom Ready old new run later
+      pub answer : AnswersRunFrom text_of old new run result
+      pub bounded : later.rounds < 2 ^ 32

@@ -37,7 +37,8 @@ module _ {S : Type 0} where
 
   -- says what is known of keys of a loader, place by place
   abbrev pub AreKnown : StateOf S → ℕ → List KeyOf → List OutcomeOf → Type 0
-  AreKnown s loader keys outcomes = map (λ key. read (session_modes s) s.memory (load_of loader key)) keys ≡ map Some outcomes
+  AreKnown s loader keys outcomes =
+      map (λ key. read (session_modes s) s.memory (load_of loader key)) keys ≡ map Some outcomes
 
   module _ (may : S → List KeyOf → AnswerOf → Type 0) where
     -- a round was run: it asked these loads, and each batch was answered as its source may
@@ -58,7 +59,8 @@ module _ {S : Type 0} where
 
   module _ (may : S → List KeyOf → AnswerOf → Type 0) where
     -- failed batches were forgotten, what was missing was asked, and these are the outcomes of the keys
-    pub record IsLoaded (old new : StateOf S) (loader : ℕ) (keys : List KeyOf) (outcomes : List OutcomeOf) : Type 0 where
+    pub record IsLoaded (old new : StateOf S) (loader : ℕ) (keys : List KeyOf)
+        (outcomes : List OutcomeOf) : Type 0 where
       pub round : AsksOnce may (after_step old Forgot) new (asked_for old loader keys)
       pub known : AreKnown new loader keys outcomes
 

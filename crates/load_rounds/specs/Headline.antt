@@ -20,18 +20,22 @@ use Rattle.load_rounds.specs.declared.answer.Answer.{Answer}
 -- the rounds of a log, as steps of a session: each asks exactly the front
 abbrev pub asked_steps : List RuleOf → Program → Memory → List (List ReplyOf) → List Step
 asked_steps rules p M [] = []
-asked_steps rules p M (round ∷ rounds) = AskedLoads (front (modes_of rules) p M) round ∷ asked_steps rules p (after_round rules M round) rounds
+asked_steps rules p M (round ∷ rounds) = AskedLoads (front (modes_of rules) p M) round
+    ∷ asked_steps rules p (after_round rules M round) rounds
 
 module _ {S : Type 0} (may : S → List KeyOf → AnswerOf → Type 0) where
   -- Failed batches were forgotten. Then these rounds were made and nothing else: each asked exactly the batches of the front,
   -- each batch was answered as its source may, and the logs gained it as stored, under the session's next number.
-  pub record MakesRounds (old new : StateOf S) (p : Program) (log : List (List ReplyOf)) : Type 0 where
-    pub rounds : AreRounds (may_at may old.loaders) (rules_of old) p (without_failed old.memory) log new.memory
+  pub record MakesRounds (old new : StateOf S) (p : Program)
+      (log : List (List ReplyOf)) : Type 0 where
+    pub rounds : AreRounds (may_at may old.loaders) (rules_of old) p
+        (without_failed old.memory) log new.memory
     pub after : new
         ≡ after_steps old (Forgot ∷ asked_steps (rules_of old) p (without_failed old.memory) log)
 
   -- The headline, of a program: what is executed. Whoever ran the orders, in whatever order they came back.
-  pub record Headline (old new : StateOf S) (p : Program) (text_of : AnsweredOf → List ℕ) (text : List ℕ) (rounds : ℕ) : Type 0 where
+  pub record Headline (old new : StateOf S) (p : Program) (text_of : AnsweredOf → List ℕ)
+      (text : List ℕ) (rounds : ℕ) : Type 0 where
     -- the text is that of recursive execution, one key at a time, over the memory at the return
     pub answered : IsTextOf text_of p (read (session_modes old) new.memory) text
     -- the log that the session gained is lawful: rounds, until nothing is missing

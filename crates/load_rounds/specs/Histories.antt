@@ -103,7 +103,8 @@ replies_of (Restarted ∷ steps) = replies_of steps
 -- the cells of what entries of a loader's log asked
 abbrev pub entered_cells : List KeyMode → ℕ → List AskedOf → List Cell
 entered_cells modes loader [] = []
-entered_cells modes loader (e ∷ es) = map (key_cell modes loader) e.keys ++ entered_cells modes loader es
+entered_cells modes loader (e ∷ es) =
+    map (key_cell modes loader) e.keys ++ entered_cells modes loader es
 
 module _ {S : Type 0} where
   abbrev pub log_in : Option (LoaderOf S) → List AskedOf
@@ -122,7 +123,8 @@ module _ {S : Type 0} where
 
   -- gives what was asked of a loader in rounds that were stored
   abbrev pub gained_cells : ℕ → StateOf S → StateOf S → List Cell
-  gained_cells loader old new = entered_cells (session_modes old) loader (stored_gained loader old new)
+  gained_cells loader old new =
+      entered_cells (session_modes old) loader (stored_gained loader old new)
 
   -- the cell was asked in a round that was stored
   abbrev pub IsEntered : Cell → StateOf S → StateOf S → Type 0
@@ -188,4 +190,5 @@ module _ {S : Type 0} (may : S → List KeyOf → AnswerOf → Type 0) where
   -- a pair's origin after calls: it was there, was primed by one of them, or is in a reply of one of their rounds
   abbrev pub IsFrom : List Call → StateOf S → StateOf S → PairOf → Type 0
   IsFrom calls old new pair = HasPair old.memory pair ⊎ IsOneOf (Priming pair) calls
-      ⊎ ((steps : List Step) × Leads may old steps new × AreMadeOf calls steps × IsAnsweredIn (session_modes old) pair (replies_of steps))
+      ⊎ ((steps : List Step) × Leads may old steps new × AreMadeOf calls steps
+      × IsAnsweredIn (session_modes old) pair (replies_of steps))

@@ -39,20 +39,24 @@ module _ {S : Type 0} where
 module _ {S : Type 0} (may : S → List KeyOf → AnswerOf → Type 0) where
   -- the log of each answer is the lawful one, if its sources answer by these items
   abbrev pub HasLawfulLog : (S → KeyOf → ItemOf) → Type 0
-  HasLawfulLog item = (old new : StateOf S) (p : Program) (text_of : AnsweredOf → List ℕ) (text : List ℕ) (rounds : ℕ)
+  HasLawfulLog item = (old new : StateOf S) (p : Program) (text_of : AnsweredOf → List ℕ)
+      (text : List ℕ) (rounds : ℕ)
       → (h : Headline may old new p text_of text rounds)
-      → IsLawful (key_by_key (item_over item old.loaders)) (rules_of old) p (without_failed old.memory) h.log new.memory
+      → IsLawful (key_by_key (item_over item old.loaders)) (rules_of old) p
+      (without_failed old.memory) h.log new.memory
 
   -- two answers from one state are one: the same text, rounds, memory and logs
   abbrev pub IsAnsweredAlike : Type 0
-  IsAnsweredAlike = (old new other : StateOf S) (p : Program) (text_of : AnsweredOf → List ℕ) (text more : List ℕ) (rounds count : ℕ)
+  IsAnsweredAlike = (old new other : StateOf S) (p : Program) (text_of : AnsweredOf → List ℕ)
+      (text more : List ℕ) (rounds count : ℕ)
       → Headline may old new p text_of text rounds → Headline may old other p text_of more count
       → (new ≡ other) × (text ≡ more) × (rounds ≡ count)
 
   -- The text is that of direct execution by the sources' items, if the loaders compare keys as their sources do and the memory has at
   -- first what the sources would answer.
   abbrev pub IsAnsweredDirectly : (S → KeyOf → ItemOf) → (S → KeyMode) → Type 0
-  IsAnsweredDirectly item mode_of = (old new : StateOf S) (p : Program) (text_of : AnsweredOf → List ℕ) (text : List ℕ) (rounds : ℕ)
+  IsAnsweredDirectly item mode_of = (old new : StateOf S) (p : Program)
+      (text_of : AnsweredOf → List ℕ) (text : List ℕ) (rounds : ℕ)
       → CompareAlike mode_of old.loaders
       → HoldsItems (session_modes old) (item_over item old.loaders) (without_failed old.memory)
       → Headline may old new p text_of text rounds

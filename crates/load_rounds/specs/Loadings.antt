@@ -38,7 +38,8 @@ module _ {S : Type 0} where
 
   -- A load of a loader's keys was begun on a session: failed batches were forgotten, and the round that asks for what is missing is out.
   abbrev pub IsLoading : StateOf S → StateOf S → ℕ → List KeyOf → Type 0
-  IsLoading begun now loader keys = HasAsked (after_step begun Forgot) now (asked_for begun loader keys)
+  IsLoading begun now loader keys =
+      HasAsked (after_step begun Forgot) now (asked_for begun loader keys)
 
   -- says the same, whatever session it was begun on
   abbrev pub IsLoadOut : StateOf S → ℕ → List KeyOf → Type 0
@@ -47,13 +48,15 @@ module _ {S : Type 0} where
   module _ (may : S → List KeyOf → AnswerOf → Type 0) where
     -- says what the begin of a load did: all keys are known, and these are their outcomes, or its round is out, and these are its orders
     abbrev pub BeginsLoad : StateOf S → StateOf S → ℕ → List KeyOf → NextLoad → Type 0
-    BeginsLoad old new loader keys (next.Loaded outcomes) = IsLoaded may old new loader keys (map outcome_of outcomes.items)
+    BeginsLoad old new loader keys (next.Loaded outcomes) =
+        IsLoaded may old new loader keys (map outcome_of outcomes.items)
     BeginsLoad old new loader keys (next.Round orders) = IsLoading old new loader keys
         × (orders.items ≡ orders_at new loader keys)
 
     -- one reply to each order of the round that is out, in order, as its source may answer it
     abbrev pub AreToldAt : StateOf S → ℕ → List KeyOf → List ReplyOf → Type 0
-    AreToldAt s loader keys replies = AreReplies (may_at may s.loaders) (orders_at s loader keys) replies
+    AreToldAt s loader keys replies =
+        AreReplies (may_at may s.loaders) (orders_at s loader keys) replies
 
     -- From whichever session the load was begun: it has loaded its keys, if the replies are as the sources may give them.
     abbrev pub LoadsFrom : StateOf S → StateOf S → ℕ

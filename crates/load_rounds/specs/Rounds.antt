@@ -13,14 +13,16 @@ use Rattle.load_rounds.specs.Sessions.{logged_from, made}
 -- for each loader from n on in order of number, the orders of its keys
 abbrev pub orders_by : ℕ → List RuleOf → (ℕ → List KeyOf) → List OrderOf
 orders_by n [] keys = []
-orders_by n (rule ∷ rules) keys = map (order_of n) (batches rule.limit (keys n)) ++ orders_by (suc n) rules keys
+orders_by n (rule ∷ rules) keys =
+    map (order_of n) (batches rule.limit (keys n)) ++ orders_by (suc n) rules keys
 
 -- the keys of the loaders below a number
 abbrev pub first_keys : ℕ → (ℕ → List KeyOf) → ℕ → List KeyOf
 first_keys n keys loader = if nat_lt loader n then keys loader else []
 
 -- the batches of these keys were entered in the logs, and the round is counted if there is one
-pub record Enters {S : Type 0} (round : ℕ) (keys : ℕ → List KeyOf) (old new : List (LoaderOf S)) (before after : ℕ) : Type 0 where
+pub record Enters {S : Type 0} (round : ℕ) (keys : ℕ → List KeyOf) (old new : List (LoaderOf S))
+    (before after : ℕ) : Type 0 where
   pub loaders : new ≡ logged_from 0 false round keys old
   pub rounds : after ≡ before + made (orders_by 0 (map rule_of old) keys)
 

@@ -63,7 +63,8 @@ module _ {S : Type 0} where
   -- gives the same of loaders numbered from n on, each with its own keys
   abbrev pub logged_from : ℕ → Bool → ℕ → (ℕ → List KeyOf) → List (LoaderOf S) → List (LoaderOf S)
   logged_from n stored round keys [] = []
-  logged_from n stored round keys (l ∷ ls) = logged stored round (keys n) l ∷ logged_from (suc n) stored round keys ls
+  logged_from n stored round keys (l ∷ ls) =
+      logged stored round (keys n) l ∷ logged_from (suc n) stored round keys ls
 
   -- the state once the batches of these loads were entered in the logs, under the number of the next round
   abbrev pub asked : Bool → List Load → Memory → StateOf S → StateOf S
@@ -76,13 +77,19 @@ module _ {S : Type 0} where
   -- the state after a step: the logs gain the batches of a round, which are stored unless the round was lost; a session that
   -- starts again has empty logs
   abbrev pub after_step : StateOf S → Step → StateOf S
-  after_step s (AskedLoads loads replies) = asked true loads (after (rules_of s) s.memory (AskedLoads loads replies)) s
+  after_step s (AskedLoads loads replies) =
+      asked true loads (after (rules_of s) s.memory (AskedLoads loads replies)) s
   after_step s (Lost loads) = asked false loads (after (rules_of s) s.memory (Lost loads)) s
   after_step s Forgot = record s { memory = after (rules_of s) s.memory Forgot }
   after_step s (Primed pair) = record s { memory = after (rules_of s) s.memory (Primed pair) }
   after_step s (Cleared cell) = record s { memory = after (rules_of s) s.memory (Cleared cell) }
-  after_step s (ClearedAll loader) = record s { memory = after (rules_of s) s.memory (ClearedAll loader) }
-  after_step s Restarted = record { loaders = map unasked s.loaders; memory = after (rules_of s) s.memory Restarted; rounds = 0 }
+  after_step s (ClearedAll loader) =
+      record s { memory = after (rules_of s) s.memory (ClearedAll loader) }
+  after_step s Restarted = record {
+    loaders = map unasked s.loaders;
+    memory = after (rules_of s) s.memory Restarted;
+    rounds = 0;
+  }
 
   abbrev pub after_steps : StateOf S → List Step → StateOf S
   after_steps s [] = s

@@ -50,7 +50,9 @@ front_of_all modes ps M = firsts modes (missing (read modes M) (needs_of_all ps 
 -- Several programs are one: the items of a list, in order, each of nullable type. Its front is the front of all.
 abbrev pub items_from : ℕ → List RequestOf → Programs
 items_from n [] = End
-items_from n (r ∷ rs) = With (record { part = Item n; non_null = false; place = record { line = 1; column = 1 } }) r.program (items_from (suc n) rs)
+items_from n (r ∷ rs) =
+    With (record { part = Item n; non_null = false; place = record { line = 1; column = 1 } })
+    r.program (items_from (suc n) rs)
 
 abbrev pub together : List RequestOf → Program
 together rs = Under ListOf (items_from 0 rs)
@@ -74,7 +76,8 @@ greatest (t ∷ ts) = max t.rounds (greatest ts)
 module _ {S : Type 0} where
   -- One of the answers: its text is that of the execution over the memory at the return. Its rounds are those of the log in which
   -- something that it needed was missing: at most its own load chain, and no more than the steps of any sparing run of it alone.
-  pub record IsShared (old new : StateOf S) (log : List (List ReplyOf)) (r : RequestOf) (report : ReportOf) : Type 0 where
+  pub record IsShared (old new : StateOf S) (log : List (List ReplyOf)) (r : RequestOf)
+      (report : ReportOf) : Type 0 where
     pub answered : IsTextOf r.text_of r.program (read (session_modes old) new.memory) report.text
     pub counted : own_rounds (rules_of old) r.program (without_failed old.memory) log
         ≡ report.rounds
@@ -93,7 +96,8 @@ module _ {S : Type 0} where
 
   -- The headline, of several requests: one lawful log for all of them, in which no key is asked twice, and as many rounds as the
   -- answer with the most.
-  pub record SharedHeadline (may : S → List KeyOf → AnswerOf → Type 0) (old new : StateOf S) (rs : List RequestOf) (reports : List ReportOf) : Type 0 where
+  pub record SharedHeadline (may : S → List KeyOf → AnswerOf → Type 0) (old new : StateOf S)
+      (rs : List RequestOf) (reports : List ReportOf) : Type 0 where
     pub log : List (List ReplyOf)
     pub made : MakesRounds may old new (together rs) log
     pub complete : front (session_modes old) (together rs) new.memory ≡ []
@@ -113,7 +117,8 @@ module _ {S : Type 0} where
   -- the headline of one request alone
   abbrev pub IsAnsweredAlone : (S → List KeyOf → AnswerOf → Type 0)
       → StateOf S → StateOf S → RequestOf → ReportOf → Type 0
-  IsAnsweredAlone may old new r report = Headline may old new r.program r.text_of report.text report.rounds
+  IsAnsweredAlone may old new r report =
+      Headline may old new r.program r.text_of report.text report.rounds
 
   -- the longest load chain of all requests, over the memory of a state
   abbrev pub longest_chain : List KeyMode → List RequestOf → StateOf S → ℕ

@@ -1,8 +1,9 @@
 -- Executions that share rounds: what contracts see of them, and how far each is.
-use Rattle.std.specs.Prelude.{◌≡◌, ◌≢◌, ◌⊎◌, ◌++◌, ℕ, Bool, List, [], ◌∷◌, map, length, Option, Some, None, is_none}
+use Rattle.std.specs.Prelude.{◌≡◌, ◌≢◌, ◌<◌, ◌⊎◌, ◌++◌, ◌+◌, ◌^◌, ℕ, Bool, List, [], ◌∷◌, map, length, Option, Some, None, Result, is_none, IfOk}
 use Rattle.std.specs.List.{list_any}
 use Rattle.load_memory.specs.Pairs.{MemoryOf, look}
 use Rattle.load_memory.specs.Replies.{ReplyOf}
+use Rattle.std.specs.declared.alloc.AllocError.{AllocError}
 use Rattle.load_queue.specs.Wanted.{WantedOf}
 use Rattle.execution.specs.Loads.{Load, Memory, read}
 use Rattle.execution.specs.Program.{Program}
@@ -55,6 +56,12 @@ abbrev pub asked_in : Option (List WantedOf) → ℕ
 asked_in None = 0
 asked_in (Some wants) = 1
 
+-- the count of rounds that were asked has gained the one that is asked of these wants
+pub record CountsAsked (old new : ℕ)
+    (result : Result (Option (List WantedOf)) AllocError) : Type 0 where
+  pub counted : IfOk result (λ wants. new ≡ old + asked_in wants)
+  pub bounded : new < 2 ^ 32
+
 -- gives what each of several plans needs and the memory lacks, one after another
 abbrev pub fronts : {P : Type 0} → (P → Program) → MemoryOf → List P → List Load
 fronts program m [] = []
@@ -84,10 +91,12 @@ module _ {P E : Type 0} where
   CountRounds program rules M log (x ∷ xs) = CountsRounds rules M log (program x.plan) x.report
       × CountRounds program rules M log xs
 
-  module _ (program : P → Program) (text_of : P → AnsweredOf → List ℕ) (loaders : P → ℕ) (fits : P → E → MemoryOf → Type 0) where
+  module _ (program : P → Program) (text_of : P → AnsweredOf → List ℕ) (loaders : P → ℕ)
+      (fits : P → E → MemoryOf → Type 0) where
     abbrev pub FitsPart : P → E → Option ReportOf → MemoryOf → Type 0
     FitsPart plan progress None m = fits plan progress m
-    FitsPart plan progress (Some report) m = IsDone (loaders plan) (request_of (program plan) (text_of plan)) m report
+    FitsPart plan progress (Some report) m =
+        IsDone (loaders plan) (request_of (program plan) (text_of plan)) m report
 
     -- each is of an execution, and holds nothing as done that isn't so over the memory
     abbrev pub FitParts : List (PartOf P E) → MemoryOf → Type 0
@@ -97,7 +106,8 @@ module _ {P E : Type 0} where
     -- one of them went on over a memory, after `rounds` rounds
     pub record GoesOn (rounds : ℕ) (m : MemoryOf) (old new : PartOf P E) : Type 0 where
       pub same : new.plan ≡ old.plan
-      pub report : TellsAt rounds (front m.modes (program old.plan) (look m.pairs)) old.report new.report
+      pub report : TellsAt rounds
+          (front m.modes (program old.plan) (look m.pairs)) old.report new.report
       pub fitting : (later : MemoryOf) → GrowsTo m later
           → FitsPart new.plan new.progress new.report later
       pub within : HasLoaders (loaders new.plan) (program new.plan)

@@ -1,7 +1,7 @@
 //! Shared rounds by hand: answers to several plans on their way, whose rounds the caller runs.
-ghost use Rattle.std.specs.Prelude.{◌≡◌, ◌≤◌, ◌<◌, ◌^◌, All, map, length, IfOk, OnOk, OnErr};
+ghost use Rattle.std.specs.Prelude.{◌≡◌, ◌≤◌, All, map, length, IfOk, OnOk, OnErr};
 ghost use Rattle.load_memory.specs.Replies.{reply_of};
-ghost use Rattle.load_memory.specs.Shelves.{IsOn, shown};
+ghost use Rattle.load_memory.specs.Shelves.{shown};
 ghost use Rattle.execution.specs.Sessions.{Forgot};
 
 use crate::answer::Answer;
@@ -55,19 +55,22 @@ impl<S: LocalSource> Session<S> {
     ///
     /// # Headline
     ///
-    /// `begun` and `run` say what was done since `begin_all`, and `answers` states `SharedHeadline` from there
+    /// `begun` and `run` say what was done since `begin_all`, and `answers` of `KeepsRunAll` states `SharedHeadline`
+    /// from there
     pub fn begin_all<'p, E: Drop, P: Execute<'p, E>>(
         &mut self,
         plans: &'p [P],
     ) -> Result<AllRoundsByHand<'p, P, E>, AllocError>
-        requires { All (λ plan. P.loaders plan ≤ length self.old.loaders) plans.now }
+        requires { All (λ plan. P.loaders plan
+            ≤ length self.old.loaders) plans.now }
         ensures run { IfOk result (λ run.
             (run.plans ≡ plans.now) × (run.executions.rounds ≡ 0) × (run.stage ≡ Stage.Ready)) }
         ensures begun { IfOk result (λ run.
             IsRunAll P.program P.text_of S.may_tell (state_of self.old) (state_of self.new) run) }
         ensures fits { IfOk result (λ run.
             FitsRun P.program P.text_of P.loaders P.fits run (memory_of self.new)) }
-        ensures forgot { state_of self.new ≡ after_step (state_of self.old) Forgot }
+        ensures forgot { state_of self.new
+            ≡ after_step (state_of self.old) Forgot }
     {
         self.forget();
         let executions = Together::begin(self.alloc(), plans)?;
@@ -91,9 +94,9 @@ impl<'p, P, E> AllRoundsByHand<'p, P, E> {
 impl<'p, E: Drop, P: Execute<'p, E>> AllRoundsByHand<'p, P, E> {
     ghost use Rattle.load_rounds.specs.Sessions.{state_of, memory_of};
     ghost use Rattle.load_rounds.specs.Histories.{any_tell};
-    ghost use Rattle.load_rounds.specs.ByHand.{received, AreReceivedIn, IsAsked, RunsAsked, TakesReceipts, IsUnasked};
+    ghost use Rattle.load_rounds.specs.ByHand.{AreReceiptsIn, AreReceivedIn, AwaitsReplies, RunsReceipts};
     ghost use Rattle.load_rounds.specs.SharedRounds.{joint};
-    ghost use Rattle.load_rounds.specs.SharedRuns.{FitsRun, FitsLater, KeepsFitting, IsNextAll, GoesOnFrom, GoesOnIfReceived, AnswersFrom};
+    ghost use Rattle.load_rounds.specs.SharedRuns.{CanGoOnAll, FailToAsk, FailToTake, FitsRun, GoesOnFrom, GoesOnIfReceived, IsNextAll, KeepsRunAll, LeavesRun, TakeReplies};
 
     /// Goes on with each plan that isn't finished, in order. Returns the answers if nothing is missing, and otherwise the orders of
     /// the next round, which is then out.
@@ -106,29 +109,24 @@ impl<'p, E: Drop, P: Execute<'p, E>> AllRoundsByHand<'p, P, E> {
     ///
     /// # Headline
     ///
-    /// `begun` and `run` say what was done since `begin_all`, and `answers` states `SharedHeadline` from there
+    /// `begun` and `run` say what was done since `begin_all`, and `answers` of `KeepsRunAll` states `SharedHeadline`
+    /// from there
     pub fn next_round<S: LocalSource>(
         &mut self,
         session: &mut Session<S>,
     ) -> Result<NextAll, AllocError>
-        requires ready { self.old.stage ≡ Stage.Ready }
-        requires loaders { All (λ plan.
-            P.loaders plan ≤ length session.old.loaders) self.old.plans }
+        requires can { CanGoOnAll P.loaders
+            self.old session.old }
         requires fits { FitsRun P.program P.text_of P.loaders
             P.fits self.old (memory_of session.old) }
         ensures next { IfOk result (IsNextAll P.program P.text_of self.old
             self.new (state_of session.old) (state_of session.new)) }
-        ensures fits { self.new.stage ≡ Stage.Out
-            → FitsLater P.program P.text_of P.loaders P.fits self.new (memory_of session.new) }
-        ensures plans { self.new.plans ≡ self.old.plans }
-        ensures bounded { self.new.executions.rounds < 2 ^ 32 }
-        ensures failed { OnErr result (self.new.stage ≡ Stage.Failed) }
-        ensures lost { OnErr result (IsUnasked (joint P.program P.text_of self.old.plans)
-            (state_of session.old) (state_of session.new)) }
-        ensures run { GoesOnFrom P.program P.text_of S.may_tell
-            (state_of session.old) (state_of session.new) self.old self.new }
-        ensures answers { IfOk result (AnswersFrom P.program P.text_of
-            S.may_tell (state_of session.old) (state_of session.new) self.old) }
+        ensures left { LeavesRun P.program P.text_of P.loaders P.fits
+            self.old self.new (memory_of session.new) }
+        ensures failed { OnErr result (FailToAsk P.program P.text_of
+            (state_of session.old) (state_of session.new) self.old self.new) }
+        ensures run { KeepsRunAll P.program P.text_of S.may_tell
+            (state_of session.old) (state_of session.new) self.old self.new result }
     {
         self.stage = Stage::Failed;
         match self.executions.go_on(session)? {
@@ -155,30 +153,24 @@ impl<'p, E: Drop, P: Execute<'p, E>> AllRoundsByHand<'p, P, E> {
     ///
     /// # Headline
     ///
-    /// `begun` and `run` say what was done since `begin_all`, and `answers` states `SharedHeadline` from there
+    /// `begun` and `run` say what was done since `begin_all`, and `answers` of `KeepsRunAll` states `SharedHeadline`
+    /// from there
     pub fn take<S: LocalSource>(
         &mut self,
         session: &mut Session<S>,
         shelf: &Shelf,
         receipts: &[Receipt],
     ) -> Result<(), AllocError>
-        requires out { self.old.stage ≡ Stage.Out }
-        requires latest { IsAsked (joint P.program P.text_of self.old.plans)
-            (state_of session.old) }
-        requires shelf { All (IsOn shelf.now) receipts.now }
-        requires round { AreReceivedIn S.may_tell (joint P.program P.text_of self.old.plans)
-            (state_of session.old) (map shown receipts.now) }
-        ensures taken { OnOk result
-            (state_of session.new ≡ received (state_of session.old) (map shown receipts.now)) }
-        ensures ran { OnOk result (RunsAsked S.may_tell (joint P.program P.text_of self.old.plans)
-            (state_of session.old) (state_of session.new)) }
-        ensures ordered { OnOk result (TakesReceipts S.may_tell (joint P.program P.text_of self.old.plans)
-            (state_of session.old) (state_of session.new) receipts.now) }
-        ensures ready { OnOk result (self.new ≡ record self.old { stage = Stage.Ready }) }
-        ensures fits { OnOk result (KeepsFitting P.program P.text_of P.loaders P.fits self.old self.new
-            (memory_of session.old) (memory_of session.new)) }
-        ensures lost { OnErr result (state_of session.new ≡ state_of session.old) }
-        ensures failed { OnErr result (self.new ≡ record self.old { stage = Stage.Failed }) }
+        requires out { AwaitsReplies (joint P.program P.text_of self.old.plans)
+            self.old.stage (state_of session.old) }
+        requires round { AreReceiptsIn S.may_tell (joint P.program P.text_of self.old.plans)
+            (state_of session.old) shelf.now receipts.now }
+        ensures taken { OnOk result (TakeReplies P.program P.text_of P.loaders P.fits
+            session.old session.new self.old self.new (map shown receipts.now)) }
+        ensures ran { OnOk result (RunsReceipts S.may_tell (joint P.program P.text_of
+            self.old.plans) (state_of session.old) (state_of session.new) receipts.now) }
+        ensures failed { OnErr result (FailToTake
+            (state_of session.old) (state_of session.new) self.old self.new) }
         ensures run { GoesOnFrom P.program P.text_of S.may_tell
             (state_of session.old) (state_of session.new) self.old self.new }
     {
@@ -200,20 +192,16 @@ impl<'p, E: Drop, P: Execute<'p, E>> AllRoundsByHand<'p, P, E> {
         session: &mut Session<S>,
         replies: Vec<Reply>,
     ) -> Result<(), AllocError>
-        requires out { self.old.stage ≡ Stage.Out }
-        requires latest { IsAsked (joint P.program P.text_of self.old.plans)
-            (state_of session.old) }
+        requires out { AwaitsReplies (joint P.program P.text_of self.old.plans)
+            self.old.stage (state_of session.old) }
         requires round { AreReceivedIn any_tell (joint P.program P.text_of self.old.plans)
             (state_of session.old) (map reply_of replies.items) }
-        ensures taken { OnOk result
-            (state_of session.new ≡ received (state_of session.old) (map reply_of replies.items)) }
-        ensures ready { OnOk result (self.new ≡ record self.old { stage = Stage.Ready }) }
-        ensures fits { OnOk result (KeepsFitting P.program P.text_of P.loaders P.fits self.old self.new
-            (memory_of session.old) (memory_of session.new)) }
-        ensures lost { OnErr result (state_of session.new ≡ state_of session.old) }
-        ensures failed { OnErr result (self.new ≡ record self.old { stage = Stage.Failed }) }
-        ensures run { GoesOnIfReceived P.program P.text_of S.may_tell
-            (state_of session.old) (state_of session.new) self.old self.new (map reply_of replies.items) }
+        ensures taken { OnOk result (TakeReplies P.program P.text_of P.loaders P.fits
+            session.old session.new self.old self.new (map reply_of replies.items)) }
+        ensures failed { OnErr result (FailToTake
+            (state_of session.old) (state_of session.new) self.old self.new) }
+        ensures run { GoesOnIfReceived P.program P.text_of S.may_tell (state_of session.old)
+            (state_of session.new) self.old self.new (map reply_of replies.items) }
     {
         self.stage = Stage::Failed;
         session.receive_owned(replies)?;

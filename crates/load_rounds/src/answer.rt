@@ -36,11 +36,12 @@ impl<S: LocalSource> Session<S> {
         &mut self,
         plan: &'p P,
     ) -> Result<Answer, AllocError>
-        requires { P.loaders plan.now ≤ length self.old.loaders }
+        requires { P.loaders plan.now
+            ≤ length self.old.loaders }
         ensures answer { IfOk result (HasHeadline S.may_tell (state_of self.old) (state_of self.new)
             (P.program plan.now) (P.text_of plan.now)) }
-        ensures stopped { OnErr result (StopsAnswering S.may_tell (state_of self.old) (state_of self.new)
-            (P.program plan.now)) }
+        ensures stopped { OnErr result (StopsAnswering S.may_tell (state_of self.old)
+            (state_of self.new) (P.program plan.now)) }
     {
         self.forget();
         let mut progress = plan.start();
@@ -60,10 +61,12 @@ impl<S: LocalSource> Session<S> {
         plan: &'p P,
         progress: &mut E,
     ) -> Result<Poll<String>, AllocError>
-        requires loaders { P.loaders plan.now ≤ length self.old.loaders }
-        requires fits { P.fits plan.now progress.old (memory_of self.old) }
-        ensures turned { IfOk result (λ polled. Turned S.may_tell (P.text_of plan.now) (state_of self.old)
-            (state_of self.new) (P.program plan.now) polled) }
+        requires loaders { P.loaders plan.now
+            ≤ length self.old.loaders }
+        requires fits { P.fits plan.now progress.old
+            (memory_of self.old) }
+        ensures turned { IfOk result (λ polled. Turned S.may_tell (P.text_of plan.now)
+            (state_of self.old) (state_of self.new) (P.program plan.now) polled) }
         ensures fits { OnOk result (P.fits plan.now progress.new (memory_of self.new)) }
         ensures within { OnOk result (HasLoaders (P.loaders plan.now) (P.program plan.now)) }
         ensures stopped { OnErr result

@@ -9,7 +9,7 @@
 //! promise implies the old one. So a future that has made rounds promises its output for whichever state these
 //! began from (`Gives`). That the session has the plan's loaders is required where the future is polled, and
 //! not where it is made.
-ghost use Rattle.std.specs.Prelude.{◌≡◌, true, IsSome, Some, IfOk};
+ghost use Rattle.std.specs.Prelude.{◌≡◌, IsSome, Some};
 ghost use Rattle.execution.specs.Rounds.{AreLimited};
 ghost use Rattle.futures.specs.Poll.{IfReady, OnPending};
 ghost use Rattle.futures.specs.Task.{Covers, Keeps};
@@ -97,11 +97,16 @@ impl<S, E> Far<S, E> {
     // limit is 0.
     fn begin<'p, P: Execute<'p, E>>(self, plan: &'p P) -> AnswerUnderWay<S, E>
         requires can { IsSome (begun (far_of self)) }
-        requires fits { FitsFar (P.fits plan.now) (far_of self) }
-        ensures state { begun (far_of self) ≡ Some (state_of result.session) }
-        ensures rounds { result.rounds ≡ rounds_of (far_of self) }
-        ensures fits { P.fits plan.now result.progress (memory_of result.session) }
-        ensures limited { AreLimited (rules_of (state_of result.session)) }
+        requires fits { FitsFar (P.fits plan.now)
+            (far_of self) }
+        ensures state { begun (far_of self)
+            ≡ Some (state_of result.session) }
+        ensures rounds { result.rounds
+            ≡ rounds_of (far_of self) }
+        ensures fits { P.fits plan.now result.progress
+            (memory_of result.session) }
+        ensures limited { AreLimited
+            (rules_of (state_of result.session)) }
     {
         match self {
             Far::Unpolled(mut session) => {
@@ -123,8 +128,7 @@ impl<S, E> Far<S, E> {
 
 impl<'p, S: LocalSource + Drop, E: Drop, P: Execute<'p, E> + Drop> Future
     for Answering<'p, S, P, E> {
-    ghost use Rattle.load_rounds.specs.Sessions.{state_of};
-    ghost use Rattle.load_rounds.specs.Answerings.{CanPoll, Gives, GivesNoMore, PollRan, begun, rounds_of};
+    ghost use Rattle.load_rounds.specs.Answerings.{CanPoll, Gives, GivesNoMore, Polls};
 
     type Output = (Session<S>, Result<Answer, AllocError>);
 
@@ -139,20 +143,15 @@ impl<'p, S: LocalSource + Drop, E: Drop, P: Execute<'p, E> + Drop> Future
             (P.loaders self.old.plan) (P.program self.old.plan) self.old.far }
         ensures value { IfReady result (λ out.
             Gives S.may_tell (P.program self.old.plan) (P.text_of self.old.plan) self.old.far out) }
-        ensures again { OnPending result
-            (CanPoll S.may_tell (P.fits self.new.plan) (P.loaders self.new.plan) (P.program self.new.plan) self.new.far) }
+        ensures again { OnPending result (CanPoll S.may_tell (P.fits self.new.plan)
+            (P.loaders self.new.plan) (P.program self.new.plan) self.new.far) }
         ensures same { OnPending result
             (GivesNoMore S.may_tell P.program P.text_of self.old self.new) }
-        ensures registered { OnPending result (Covers cx.new (λ _. ⊥)) }
+        ensures registered { OnPending result
+            (Covers cx.new (λ _. ⊥)) }
         ensures kept { Keeps cx.old cx.new }
-        ensures plan { self.new.plan ≡ self.old.plan }
-        ensures round { OnPending result
-            (PollRan S.may_tell (P.program self.old.plan) self.old.far self.new.far) }
-        ensures yielded { OnPending result (cx.new.is_woken ≡ true) }
-        ensures counted { IfReady result (λ out.
-            IfOk out.1 (λ a. a.rounds ≡ rounds_of self.old.far)) }
-        ensures asks_nothing { IfReady result (λ out.
-            IfOk out.1 (λ _. begun self.old.far ≡ Some (state_of out.0))) }
+        ensures polled { Polls S.may_tell (P.program self.old.plan)
+            self.old self.new cx.new.is_woken result }
     {
         let AnswerUnderWay {
             mut session,

@@ -1,8 +1,7 @@
 //! Rounds by hand: an answer on its way, whose rounds the caller runs.
-ghost use Rattle.std.specs.Prelude.{◌≡◌, ◌≤◌, ◌<◌, ◌^◌, All, map, length, IfOk, OnOk, OnErr};
+ghost use Rattle.std.specs.Prelude.{◌≡◌, ◌≤◌, map, length, IfOk, OnOk, OnErr};
 ghost use Rattle.load_memory.specs.Replies.{reply_of};
-ghost use Rattle.load_memory.specs.Shelves.{IsOn, shown};
-ghost use Rattle.execution.specs.Rounds.{may_at};
+ghost use Rattle.load_memory.specs.Shelves.{shown};
 ghost use Rattle.execution.specs.Sessions.{Forgot};
 
 use crate::answer::Answer;
@@ -74,16 +73,19 @@ impl<S: LocalSource> Session<S> {
     ///
     /// # Headline
     ///
-    /// `begun` and `run` say what was done since `begin`, and `answer` states the headline from there
+    /// `begun` and `run` say what was done since `begin`, and `answer` of `KeepsRun` states the headline from there
     pub fn begin<'p, E, P: Execute<'p, E>>(
         &mut self,
         plan: &'p P,
     ) -> Result<RoundsByHand<'p, P>, AllocError>
-        requires { P.loaders plan.now ≤ length self.old.loaders }
-        ensures run { IfOk result (λ run. run ≡ run_of plan.now 0 Stage.Ready) }
+        requires { P.loaders plan.now
+            ≤ length self.old.loaders }
+        ensures run { IfOk result
+            (λ run. run ≡ run_of plan.now 0 Stage.Ready) }
         ensures begun { IfOk result (λ run. IsRun S.may_tell (P.program plan.now)
             (state_of self.old) (state_of self.new) 0 Stage.Ready) }
-        ensures forgot { state_of self.new ≡ after_step (state_of self.old) Forgot }
+        ensures forgot { state_of self.new
+            ≡ after_step (state_of self.old) Forgot }
     {
         self.forget();
         Ok(RoundsByHand {
@@ -127,7 +129,7 @@ impl<'p, P> RoundsByHand<'p, P> {
 impl<'p, P> RoundsByHand<'p, P> {
     ghost use Rattle.load_rounds.specs.Sessions.{state_of, memory_of};
     ghost use Rattle.execution.specs.Executes.{FitsFrom};
-    ghost use Rattle.load_rounds.specs.ByHand.{run_of, orders_in, received, AreReceived, IsAsked, RunsAsked, TakesReceipts, IsNext, RunsOnFrom, AnswersRunFrom, IsUnasked};
+    ghost use Rattle.load_rounds.specs.ByHand.{AreReceiptsIn, AreReceivedIn, AwaitsReplies, CanGoOn, FailsToAsk, FailsToTake, IsNext, KeepsRun, RunsAsked, RunsOnFrom, RunsReceipts, TakesReplies};
 
     /// Returns the answer if nothing is missing, and otherwise the orders of the next round, which is then out.
     ///
@@ -142,26 +144,20 @@ impl<'p, P> RoundsByHand<'p, P> {
     ///
     /// # Headline
     ///
-    /// `begun` and `run` say what was done since `begin`, and `answer` states the headline from there
+    /// `begun` and `run` say what was done since `begin`, and `answer` of `KeepsRun` states the headline from there
     pub fn next_round<E: Drop, S: LocalSource>(
         &mut self,
         session: &mut Session<S>,
     ) -> Result<Next, AllocError>
     where
         P: Execute<'p, E>,
-        requires ready { self.old.stage ≡ Stage.Ready }
-        requires loaders { P.loaders self.old.plan ≤ length session.old.loaders }
-        ensures next { IfOk result (IsNext (P.program self.old.plan) (P.text_of self.old.plan) self.old self.new
-            (state_of session.old) (state_of session.new)) }
-        ensures bounded { self.new.rounds < 2 ^ 32 }
-        ensures failed { OnErr result
-            (self.new ≡ run_of self.old.plan self.old.rounds Stage.Failed) }
-        ensures lost { OnErr result
-            (IsUnasked (P.program self.old.plan) (state_of session.old) (state_of session.new)) }
-        ensures run { RunsOnFrom S.may_tell (P.program self.old.plan) Stage.Ready
-            (state_of session.old) (state_of session.new) self.old self.new }
-        ensures answer { AnswersRunFrom S.may_tell (P.program self.old.plan) (P.text_of self.old.plan)
-            (state_of session.old) (state_of session.new) self.old result }
+        requires { CanGoOn P.loaders self.old session.old }
+        ensures next { IfOk result (IsNext (P.program self.old.plan) (P.text_of self.old.plan)
+            self.old self.new (state_of session.old) (state_of session.new)) }
+        ensures failed { OnErr result (FailsToAsk (P.program self.old.plan)
+            (state_of session.old) (state_of session.new) self.old self.new) }
+        ensures run { KeepsRun S.may_tell (P.program self.old.plan) (P.text_of self.old.plan)
+            (state_of session.old) (state_of session.new) self.old self.new result }
     {
         let mut progress = self.plan.start();
         self.resume(session, &mut progress)
@@ -175,7 +171,7 @@ impl<'p, P> RoundsByHand<'p, P> {
     ///
     /// # Headline
     ///
-    /// `begun` and `run` say what was done since `begin`, and `answer` states the headline from there
+    /// `begun` and `run` say what was done since `begin`, and `answer` of `KeepsRun` states the headline from there
     pub fn resume<E, S: LocalSource>(
         &mut self,
         session: &mut Session<S>,
@@ -183,22 +179,18 @@ impl<'p, P> RoundsByHand<'p, P> {
     ) -> Result<Next, AllocError>
     where
         P: Execute<'p, E>,
-        requires ready { self.old.stage ≡ Stage.Ready }
-        requires loaders { P.loaders self.old.plan ≤ length session.old.loaders }
-        requires fits { P.fits self.old.plan progress.old (memory_of session.old) }
+        requires can { CanGoOn P.loaders
+            self.old session.old }
+        requires fits { P.fits self.old.plan progress.old
+            (memory_of session.old) }
         ensures fits { OnOk result
             (FitsFrom (P.fits self.old.plan progress.new) (memory_of session.new)) }
-        ensures next { IfOk result (IsNext (P.program self.old.plan) (P.text_of self.old.plan) self.old self.new
-            (state_of session.old) (state_of session.new)) }
-        ensures bounded { self.new.rounds < 2 ^ 32 }
-        ensures failed { OnErr result
-            (self.new ≡ run_of self.old.plan self.old.rounds Stage.Failed) }
-        ensures lost { OnErr result
-            (IsUnasked (P.program self.old.plan) (state_of session.old) (state_of session.new)) }
-        ensures run { RunsOnFrom S.may_tell (P.program self.old.plan) Stage.Ready
-            (state_of session.old) (state_of session.new) self.old self.new }
-        ensures answer { AnswersRunFrom S.may_tell (P.program self.old.plan) (P.text_of self.old.plan)
-            (state_of session.old) (state_of session.new) self.old result }
+        ensures next { IfOk result (IsNext (P.program self.old.plan) (P.text_of self.old.plan)
+            self.old self.new (state_of session.old) (state_of session.new)) }
+        ensures failed { OnErr result (FailsToAsk (P.program self.old.plan)
+            (state_of session.old) (state_of session.new) self.old self.new) }
+        ensures run { KeepsRun S.may_tell (P.program self.old.plan) (P.text_of self.old.plan)
+            (state_of session.old) (state_of session.new) self.old self.new result }
     {
         self.stage = Stage::Failed;
         match session.execute(self.plan, progress)? {
@@ -231,7 +223,7 @@ impl<'p, P> RoundsByHand<'p, P> {
     ///
     /// # Headline
     ///
-    /// `begun` and `run` say what was done since `begin`, and `answer` states the headline from there
+    /// `begun` and `run` say what was done since `begin`, and `answer` of `KeepsRun` states the headline from there
     pub fn take<E, S: LocalSource>(
         &mut self,
         session: &mut Session<S>,
@@ -240,21 +232,16 @@ impl<'p, P> RoundsByHand<'p, P> {
     ) -> Result<(), AllocError>
     where
         P: Execute<'p, E>,
-        requires out { self.old.stage ≡ Stage.Out }
-        requires latest { IsAsked (P.program self.old.plan) (state_of session.old) }
-        requires shelf { All (IsOn shelf.now) receipts.now }
-        requires round { AreReceived (may_at S.may_tell session.old.loaders)
-            (orders_in (state_of session.old) (P.program self.old.plan)) (map shown receipts.now) }
-        ensures taken { OnOk result
-            (state_of session.new ≡ received (state_of session.old) (map shown receipts.now)) }
-        ensures ran { OnOk result (RunsAsked S.may_tell (P.program self.old.plan)
-            (state_of session.old) (state_of session.new)) }
-        ensures ordered { OnOk result (TakesReceipts S.may_tell (P.program self.old.plan)
+        requires out { AwaitsReplies (P.program self.old.plan) self.old.stage
+            (state_of session.old) }
+        requires round { AreReceiptsIn S.may_tell (P.program self.old.plan)
+            (state_of session.old) shelf.now receipts.now }
+        ensures taken { OnOk result (TakesReplies (state_of session.old) (state_of session.new)
+            self.old self.new (map shown receipts.now)) }
+        ensures ran { OnOk result (RunsReceipts S.may_tell (P.program self.old.plan)
             (state_of session.old) (state_of session.new) receipts.now) }
-        ensures ready { OnOk result (self.new ≡ run_of self.old.plan self.old.rounds Stage.Ready) }
-        ensures lost { OnErr result (state_of session.new ≡ state_of session.old) }
-        ensures failed { OnErr result
-            (self.new ≡ run_of self.old.plan self.old.rounds Stage.Failed) }
+        ensures failed { OnErr result (FailsToTake
+            (state_of session.old) (state_of session.new) self.old self.new) }
         ensures run { RunsOnFrom S.may_tell (P.program self.old.plan) Stage.Out
             (state_of session.old) (state_of session.new) self.old self.new }
     {
@@ -273,7 +260,7 @@ impl<'p, P> RoundsByHand<'p, P> {
     ///
     /// # Headline
     ///
-    /// `begun` and `run` say what was done since `begin`, and `answer` states the headline from there
+    /// `begun` and `run` say what was done since `begin`, and `answer` of `KeepsRun` states the headline from there
     pub fn take_owned<E, S: LocalSource>(
         &mut self,
         session: &mut Session<S>,
@@ -281,18 +268,16 @@ impl<'p, P> RoundsByHand<'p, P> {
     ) -> Result<(), AllocError>
     where
         P: Execute<'p, E>,
-        requires out { self.old.stage ≡ Stage.Out }
-        requires latest { IsAsked (P.program self.old.plan) (state_of session.old) }
-        requires round { AreReceived (may_at S.may_tell session.old.loaders)
-            (orders_in (state_of session.old) (P.program self.old.plan)) (map reply_of replies.items) }
-        ensures taken { OnOk result
-            (state_of session.new ≡ received (state_of session.old) (map reply_of replies.items)) }
+        requires out { AwaitsReplies (P.program self.old.plan) self.old.stage
+            (state_of session.old) }
+        requires round { AreReceivedIn S.may_tell (P.program self.old.plan)
+            (state_of session.old) (map reply_of replies.items) }
+        ensures taken { OnOk result (TakesReplies (state_of session.old) (state_of session.new)
+            self.old self.new (map reply_of replies.items)) }
         ensures ran { OnOk result (RunsAsked S.may_tell (P.program self.old.plan)
             (state_of session.old) (state_of session.new)) }
-        ensures ready { OnOk result (self.new ≡ run_of self.old.plan self.old.rounds Stage.Ready) }
-        ensures lost { OnErr result (state_of session.new ≡ state_of session.old) }
-        ensures failed { OnErr result
-            (self.new ≡ run_of self.old.plan self.old.rounds Stage.Failed) }
+        ensures failed { OnErr result (FailsToTake
+            (state_of session.old) (state_of session.new) self.old self.new) }
         ensures run { RunsOnFrom S.may_tell (P.program self.old.plan) Stage.Out
             (state_of session.old) (state_of session.new) self.old self.new }
     {

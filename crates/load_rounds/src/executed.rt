@@ -28,12 +28,15 @@ impl<S> Session<S> {
         plan: &'p P,
         progress: &mut E,
     ) -> Result<ExecutionFinding, AllocError>
-        requires loaders { P.loaders plan.now ≤ length self.now.loaders }
-        requires fits { P.fits plan.now progress.old (memory_of self.now) }
+        requires loaders { P.loaders plan.now
+            ≤ length self.now.loaders }
+        requires fits { P.fits plan.now progress.old
+            (memory_of self.now) }
         ensures found { IfOk result
             (Finds (P.text_of plan.now) (P.program plan.now) (state_of self.now)) }
         ensures fits { OnOk result (FitsFrom (P.fits plan.now progress.new) (memory_of self.now)) }
-        ensures limited { AreLimited (rules_of (state_of self.now)) }
+        ensures limited { AreLimited
+            (rules_of (state_of self.now)) }
         ensures within { OnOk result (HasLoaders (P.loaders plan.now) (P.program plan.now)) }
     {
         let memory = self.memory();

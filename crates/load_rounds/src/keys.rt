@@ -34,8 +34,8 @@ pub(crate) fn missing_keys(
     keys: &[Key],
 ) -> Result<Wants, AllocError>
     requires { loader < length memory.now.modes }
-    ensures { IfOk result (λ wants. wants
-        ≡ wanted memory.now.modes (missing (reader_of memory.now) (map (load_of loader) (map key_of keys.now)))) }
+    ensures { IfOk result (λ wants. wants ≡ wanted memory.now.modes
+        (missing (reader_of memory.now) (map (load_of loader) (map key_of keys.now)))) }
 {
     let mut wants = Wants::new(alloc, memory)?;
     for key in keys {
@@ -54,10 +54,10 @@ pub(crate) fn known_outcomes(
     keys: &[Key],
 ) -> Result<Vec<Outcome>, AllocError>
     requires loader { loader < length memory.now.modes }
-    requires known { All (λ k. IsSome (read memory.now.modes (look memory.now.pairs) (load_of loader k)))
-        (map key_of keys.now) }
-    ensures { IfOk result (λ v. map (λ k. reader_of memory.now (load_of loader k)) (map key_of keys.now)
-        ≡ map Some (map outcome_of v.items)) }
+    requires known { All (λ k. IsSome
+        (read memory.now.modes (look memory.now.pairs) (load_of loader k))) (map key_of keys.now) }
+    ensures { IfOk result (λ v. map (λ k. reader_of memory.now (load_of loader k))
+        (map key_of keys.now) ≡ map Some (map outcome_of v.items)) }
 {
     let mut outcomes = Vec::with_capacity(alloc, keys.len())?;
     for key in keys {

@@ -27,8 +27,8 @@ pub fn calls_are_steps<S: LocalSource>()
         → (steps : _) × Leads S.may_tell old (Forgot ∷ steps) new × IsMadeOf call steps }
     ensures all { (calls : List Call) (old new : _) → AreCalls S.may_tell calls old new
         → (steps : _) × Leads S.may_tell old steps new × AreMadeOf calls steps }
-    ensures pairs { (calls : _) (old new : _) (pair : _) → AreCalls S.may_tell calls old new → HasPair new.memory pair
-        → IsFrom S.may_tell calls old new pair }
+    ensures pairs { (calls : _) (old new : _) (pair : _) → AreCalls S.may_tell calls old new
+        → HasPair new.memory pair → IsFrom S.may_tell calls old new pair }
 {}
 
 /// No call changes more of a loader than its log and the count of its orders. So a session that starts again is as a new one over the
@@ -47,8 +47,8 @@ pub fn calls_keep_loaders<S: LocalSource>()
 /// A call that is out of memory counts, with the rounds that it stored; such a `clear` has cleared nothing. A
 /// call that is refused because of its loader's number doesn't count.
 pub fn no_key_twice<S: LocalSource>()
-    ensures together { (call : _) (old new : _) (loader : _) → AreLimited (rules_of old) → IsCall S.may_tell call old new
-        → AreApart (gained_cells loader old new) }
+    ensures together { (call : _) (old new : _) (loader : _) → AreLimited (rules_of old)
+        → IsCall S.may_tell call old new → AreApart (gained_cells loader old new) }
     ensures again { (t : _) → AreLimited (rules_of t.old) → AskTwice S.may_tell t
         → (list_any (clears_at t.cell) t.between ≡ true) ⊎ IsFailedAt t.cell t.mid }
 {}
@@ -59,10 +59,10 @@ pub fn no_key_twice<S: LocalSource>()
 pub fn requests_share_rounds<S: LocalSource>()
     ensures front { (modes : List KeyMode) (rs : List RequestOf) (M : Memory)
         → front modes (together rs) M ≡ front_of_all modes (map (λ r. r.program) rs) M }
-    ensures chain { (old new : _) (rs : _) (report : _) → (h : SharedHeadline S.may_tell old new rs report)
-        → AreWithinChain old new rs (length h.log) }
-    ensures one { (old new : _) (r : _) (report : _) → SharedHeadline S.may_tell old new (r ∷ []) (report ∷ [])
-        → IsAnsweredAlone S.may_tell old new r report }
+    ensures chain { (old new : _) (rs : _) (report : _) → (h : SharedHeadline S.may_tell
+        old new rs report) → AreWithinChain old new rs (length h.log) }
+    ensures one { (old new : _) (r : _) (report : _) → SharedHeadline S.may_tell old new
+        (r ∷ []) (report ∷ []) → IsAnsweredAlone S.may_tell old new r report }
     ensures alone { (old new : _) (r : _) (report : _) → IsAnsweredAlone S.may_tell old new r report
         → SharedHeadline S.may_tell old new (r ∷ []) (report ∷ []) }
 {}
@@ -76,8 +76,8 @@ pub fn answers_key_by_key<S: LocalSource>()
         → AnswerKeyByKey S.may_tell item → HasLawfulLog S.may_tell item }
     ensures one { (item : S → KeyOf → ItemOf)
         → AnswerKeyByKey S.may_tell item → IsAnsweredAlike S.may_tell }
-    ensures direct { (item : _) (mode_of : S → KeyMode) → AnswerKeyByKey S.may_tell item → RespectModes mode_of item
-        → IsAnsweredDirectly S.may_tell item mode_of }
+    ensures direct { (item : _) (mode_of : S → KeyMode) → AnswerKeyByKey S.may_tell item
+        → RespectModes mode_of item → IsAnsweredDirectly S.may_tell item mode_of }
 {}
 
 /// *One lawful log*, of answers to several requests. Over sources that answer key by key two times the answers to the same requests
@@ -86,6 +86,6 @@ pub fn answers_key_by_key<S: LocalSource>()
 pub fn requests_key_by_key<S: LocalSource>()
     ensures one { (item : S → KeyOf → ItemOf)
         → AnswerKeyByKey S.may_tell item → AreAnsweredAlike S.may_tell }
-    ensures direct { (item : _) (mode_of : S → KeyMode) → AnswerKeyByKey S.may_tell item → RespectModes mode_of item
-        → AreAnsweredDirectly S.may_tell item mode_of }
+    ensures direct { (item : _) (mode_of : S → KeyMode) → AnswerKeyByKey S.may_tell item
+        → RespectModes mode_of item → AreAnsweredDirectly S.may_tell item mode_of }
 {}

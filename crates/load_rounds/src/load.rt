@@ -42,8 +42,8 @@ impl<S> Session<S> {
     // Copies of what is known of a loader's keys, place by place.
     fn outcomes(&self, loader: usize, keys: &[Key]) -> Result<Vec<Outcome>, AllocError>
         requires loader { loader < length self.now.loaders }
-        requires known { All (λ k. IsSome (read (session_modes (state_of self.now)) (state_of self.now).memory (load_of loader k)))
-            (map key_of keys.now) }
+        requires known { All (λ k. IsSome (read (session_modes (state_of self.now))
+            (state_of self.now).memory (load_of loader k))) (map key_of keys.now) }
         ensures { IfOk result (λ outcomes. AreKnown (state_of self.now)
             loader (map key_of keys.now) (map outcome_of outcomes.items)) }
     {
@@ -77,7 +77,8 @@ impl<S: LocalSource> Session<S> {
             → IsCallOf S.may_tell (StoppedLoading loader (map key_of keys.now)) self.old self.new }
         ensures begun { IfOk result (BeginsLoad S.may_tell (state_of self.old)
             (state_of self.new) loader (map key_of keys.now)) }
-        ensures recorded { AreOnRecord self.old.loaders self.new.loaders }
+        ensures recorded { AreOnRecord
+            self.old.loaders self.new.loaders }
     {
         if loader >= self.loaders().len() {
             return Err(SessionFault::NoSuchLoader);
@@ -109,14 +110,16 @@ impl<S: LocalSource> Session<S> {
         replies: Vec<Reply>,
     ) -> Result<Vec<Outcome>, AllocError>
         requires loader { loader < length self.old.loaders }
-        requires out { IsLoadOut (state_of self.old) loader (map key_of keys.now) }
+        requires out { IsLoadOut (state_of self.old) loader
+            (map key_of keys.now) }
         requires round { AreToldAt any_tell (state_of self.old) loader
             (map key_of keys.now) (map reply_of replies.items) }
         ensures loaded { IfOk result (LoadsFrom S.may_tell (state_of self.old) (state_of self.new)
             loader (map key_of keys.now) (map reply_of replies.items)) }
-        ensures stopped { OnErr result (StopsLoadFrom S.may_tell (state_of self.old) (state_of self.new)
-            loader (map key_of keys.now) (map reply_of replies.items)) }
-        ensures recorded { AreOnRecord self.old.loaders self.new.loaders }
+        ensures stopped { OnErr result (StopsLoadFrom S.may_tell (state_of self.old)
+            (state_of self.new) loader (map key_of keys.now) (map reply_of replies.items)) }
+        ensures recorded { AreOnRecord
+            self.old.loaders self.new.loaders }
     {
         self.receive_owned(replies)?;
         self.outcomes(loader, keys)

@@ -26,7 +26,8 @@ pub(crate) fn forget_all(alloc: Global, memory: &mut Memory) -> Result<(), Alloc
 
 // A memory that compares keys as this one does, and knows none.
 fn fresh_memory(alloc: Global, memory: &Memory) -> Result<Memory, AllocError>
-    ensures { IfOk result (λ fresh. fresh ≡ record { modes = memory.now.modes; pairs = [] }) }
+    ensures { IfOk result (λ fresh. fresh
+        ≡ record { modes = memory.now.modes; pairs = [] }) }
 {
     let mut modes = Vec::with_capacity(alloc, memory.modes().len())?;
     for mode in memory.modes().iter() {
@@ -37,7 +38,8 @@ fn fresh_memory(alloc: Global, memory: &Memory) -> Result<Memory, AllocError>
 
 /// Forgets what was asked of each loader. The counts of orders go on.
 pub(crate) fn restart_all<S>(loaders: &mut Vec<Loader<S>>)
-    ensures { loaders.new.items ≡ map unasked loaders.old.items }
+    ensures { loaders.new.items
+        ≡ map unasked loaders.old.items }
 {
     for loader in 0..loaders.len() {
         loaders[loader].restart();

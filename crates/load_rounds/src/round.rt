@@ -24,7 +24,8 @@ pub(crate) fn cut_all<S>(
     round: u32,
     wants: &mut Wants,
 ) -> Result<Vec<Order>, AllocError>
-    requires lined_up { length wants.old ≡ length loaders.old.items }
+    requires lined_up { length wants.old
+        ≡ length loaders.old.items }
     requires next { round ≡ rounds.old + 1 }
     ensures orders { IfOk result (λ orders. orders.items
         ≡ orders_by 0 (map rule_of loaders.old.items) (keys_wanted wants.old)) }
@@ -54,7 +55,8 @@ pub(crate) fn run_all<S: LocalSource>(
     orders: Vec<Order>,
     loaders: &[Loader<S>],
 ) -> Result<Vec<Reply>, AllocError>
-    requires { All (λ (o : OrderOf). o.loader < length loaders.now) orders.items }
+    requires { All (λ (o : OrderOf).
+        o.loader < length loaders.now) orders.items }
     ensures { IfOk result (λ replies.
         AreReplies (may_at S.may_tell loaders.now) orders.items (map reply_of replies.items)) }
 {
@@ -67,7 +69,8 @@ pub(crate) fn run_all<S: LocalSource>(
 
 /// Marks the entries of a round as stored.
 pub(crate) fn mark_all<S>(loaders: &mut Vec<Loader<S>>, round: u32)
-    ensures { loaders.new.items ≡ map (λ l. stored_in l round) loaders.old.items }
+    ensures { loaders.new.items
+        ≡ map (λ l. stored_in l round) loaders.old.items }
 {
     for loader in 0..loaders.len() {
         loaders[loader].mark_stored(round);

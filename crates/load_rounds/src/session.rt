@@ -53,14 +53,16 @@ impl<S> Session<S> {
     /// Forgets the failed batches. A contract also sees here that no loader's limit is 0.
     pub(crate) fn forget(&mut self)
         ensures after { state_of self.new ≡ after_step (state_of self.old) Forgot }
-        ensures limited { AreLimited (rules_of (state_of self.old)) }
+        ensures limited { AreLimited
+            (rules_of (state_of self.old)) }
     {
         self.memory.drop_failed();
     }
 
     // No loader's limit is 0.
     pub(crate) fn limits(&self)
-        ensures { AreLimited (rules_of (state_of self.now)) }
+        ensures { AreLimited
+            (rules_of (state_of self.now)) }
     {
         let _ = &self.memory;
     }
@@ -68,14 +70,16 @@ impl<S> Session<S> {
     /// Cuts the wanted keys into the batches of the next round, enters these in the logs, and returns their orders, into
     /// which the keys move. A contract also sees here that the log's entries have the numbers of rounds that were made.
     pub(crate) fn cut(&mut self, wants: &mut Wants) -> Result<Vec<Order>, AllocError>
-        requires { length wants.old ≡ length self.old.loaders }
-        ensures orders { (loads : List Load) → AreWanted wants.old loads
-            → IfOk result (λ orders. orders.items ≡ round_orders (rules_of (state_of self.old)) loads) }
+        requires { length wants.old
+            ≡ length self.old.loaders }
+        ensures orders { (loads : List Load) → AreWanted wants.old loads → IfOk result
+            (λ orders. orders.items ≡ round_orders (rules_of (state_of self.old)) loads) }
         ensures entered { (loads : List Load) → AreWanted wants.old loads
             → OnOk result (state_of self.new ≡ after_step (state_of self.old) (Lost loads)) }
         ensures lost { (loads : List Load) → AreWanted wants.old loads
             → OnErr result (RoundLost (state_of self.old) (state_of self.new) loads) }
-        ensures numbered { AreNumbered self.old.rounds self.old.loaders }
+        ensures numbered { AreNumbered
+            self.old.rounds self.old.loaders }
     {
         let round = self.rounds.checked_add(1).ok_or(AllocError)?;
         cut_all(&mut self.loaders, &mut self.rounds, round, wants)
@@ -85,11 +89,14 @@ impl<S> Session<S> {
     /// stored. A contract also sees here that no loader's limit is 0.
     pub(crate) fn receive(&mut self, shelf: &Shelf, receipts: &[Receipt]) -> Result<(), AllocError>
         requires shelf { All (IsOn shelf.now) receipts.now }
-        requires loaders { All (λ r. (shown r).loader < length self.old.loaders) receipts.now }
+        requires loaders { All (λ r. (shown r).loader
+            < length self.old.loaders) receipts.now }
         ensures received { OnOk result
             (state_of self.new ≡ received (state_of self.old) (map shown receipts.now)) }
-        ensures kept { OnErr result (state_of self.new ≡ state_of self.old) }
-        ensures limited { AreLimited (rules_of (state_of self.old)) }
+        ensures kept { OnErr result
+            (state_of self.new ≡ state_of self.old) }
+        ensures limited { AreLimited
+            (rules_of (state_of self.old)) }
     {
         self.memory.index(shelf, receipts)?;
         mark_all(&mut self.loaders, self.rounds);
@@ -98,11 +105,14 @@ impl<S> Session<S> {
 
     /// Does what [`receive`](Session::receive) does with replies that it is handed.
     pub(crate) fn receive_owned(&mut self, replies: Vec<Reply>) -> Result<(), AllocError>
-        requires { All (λ r. r.loader < length self.old.loaders) replies.items }
+        requires { All (λ r. r.loader
+            < length self.old.loaders) replies.items }
         ensures received { OnOk result
             (state_of self.new ≡ received (state_of self.old) (map reply_of replies.items)) }
-        ensures kept { OnErr result (state_of self.new ≡ state_of self.old) }
-        ensures limited { AreLimited (rules_of (state_of self.old)) }
+        ensures kept { OnErr result
+            (state_of self.new ≡ state_of self.old) }
+        ensures limited { AreLimited
+            (rules_of (state_of self.old)) }
     {
         self.memory.keep_owned(replies)?;
         mark_all(&mut self.loaders, self.rounds);
@@ -112,7 +122,8 @@ impl<S> Session<S> {
     /// Returns what is known of the loaders' keys. A contract also sees here that no loader's limit is 0.
     pub fn memory(&self) -> &Memory
         ensures pairs { result.now.pairs ≡ self.now.pairs }
-        ensures limited { AreLimited (rules_of (state_of self.now)) }
+        ensures limited { AreLimited
+            (rules_of (state_of self.now)) }
         ensures modes { result.now.modes ≡ session_modes (state_of self.now) }
     {
         &self.memory
@@ -151,8 +162,8 @@ impl<S> Session<S> {
         ensures refused { IsErrOf result SessionFault.NoSuchLoader → self.new ≡ self.old }
         ensures no_memory { IsErrOf result SessionFault.NoMemory
             → IsCallOf any_tell Forgetting self.old self.new }
-        ensures report { IfOk result (λ added. added
-            ≡ is_none (without_failed (look self.old.pairs) loader (cell_at (state_of self.old) loader (key_of key.now)).1)) }
+        ensures report { IfOk result (λ added. added ≡ is_none (without_failed (look self.old.pairs)
+            loader (cell_at (state_of self.old) loader (key_of key.now)).1)) }
         ensures after { OnOk result (IsCallOf any_tell (Priming (pair_at (state_of self.old)
             loader (key_of key.now) (item_of item))) self.old self.new) }
     {
@@ -176,8 +187,8 @@ impl<S> Session<S> {
         ensures refused { IsErrOf result SessionFault.NoSuchLoader → self.new ≡ self.old }
         ensures no_memory { IsErrOf result SessionFault.NoMemory
             → IsCallOf any_tell Forgetting self.old self.new }
-        ensures report { IfOk result (λ there. there
-            ≡ is_some (without_failed (look self.old.pairs) loader (cell_at (state_of self.old) loader (key_of key.now)).1)) }
+        ensures report { IfOk result (λ there. there ≡ is_some (without_failed (look self.old.pairs)
+            loader (cell_at (state_of self.old) loader (key_of key.now)).1)) }
         ensures after { OnOk result (IsCallOf any_tell
             (Clearing (cell_at (state_of self.old) loader (key_of key.now))) self.old self.new) }
     {
@@ -195,8 +206,10 @@ impl<S> Session<S> {
     pub fn clear_all(&mut self, loader: usize) -> Result<(), SessionFault>
         ensures no_loader { IsErrOf result SessionFault.NoSuchLoader
             ↔ (length self.old.loaders ≤ loader) }
-        ensures refused { OnErr result (self.new ≡ self.old) }
-        ensures no_other { IsErrOf result SessionFault.NoMemory → ⊥ }
+        ensures refused { OnErr result
+            (self.new ≡ self.old) }
+        ensures no_other { IsErrOf result
+            SessionFault.NoMemory → ⊥ }
         ensures after { OnOk result (IsCallOf any_tell (ClearingAll loader) self.old self.new) }
     {
         if loader >= self.loaders.len() {
@@ -216,7 +229,8 @@ impl<S> Session<S> {
     /// When out of memory, the session is equal to what it was (`kept`). In the code that comes only where more
     /// than 1,024 keys were known, which no clause says.
     pub fn restart(&mut self) -> Result<(), AllocError>
-        ensures restarted { OnOk result (self.new ≡ restarted self.old) }
+        ensures restarted { OnOk result
+            (self.new ≡ restarted self.old) }
         ensures after { OnOk result (IsCallOf any_tell Restarting self.old self.new) }
         ensures kept { OnErr result (self.new ≡ self.old) }
     {
@@ -273,7 +287,8 @@ impl<S: LocalSource> Session<S> {
             → IsCallOf S.may_tell (StoppedLoading loader (key_of key ∷ [])) self.old self.new }
         ensures loaded { IfOk result (λ outcome. IsCallOf S.may_tell
             (Loading loader (key_of key ∷ []) (outcome_of outcome ∷ [])) self.old self.new) }
-        ensures recorded { AreOnRecord self.old.loaders self.new.loaders }
+        ensures recorded { AreOnRecord
+            self.old.loaders self.new.loaders }
     {
         let keys = [key];
         let mut outcomes = self.load_many(loader, &keys)?;
@@ -299,9 +314,10 @@ impl<S: LocalSource> Session<S> {
         ensures refused { IsErrOf result SessionFault.NoSuchLoader → self.new ≡ self.old }
         ensures no_memory { IsErrOf result SessionFault.NoMemory
             → IsCallOf S.may_tell (StoppedLoading loader (map key_of keys.now)) self.old self.new }
-        ensures loaded { IfOk result (λ outcomes. IsCallOf S.may_tell
-            (Loading loader (map key_of keys.now) (map outcome_of outcomes.items)) self.old self.new) }
-        ensures recorded { AreOnRecord self.old.loaders self.new.loaders }
+        ensures loaded { IfOk result (λ outcomes. IsCallOf S.may_tell (Loading loader
+            (map key_of keys.now) (map outcome_of outcomes.items)) self.old self.new) }
+        ensures recorded { AreOnRecord
+            self.old.loaders self.new.loaders }
     {
         match self.begin_load(loader, keys)? {
             NextLoad::Loaded(outcomes) => Ok(outcomes),

@@ -25,7 +25,8 @@ impl<S: LocalSource> Session<S> {
         &mut self,
         plans: &'p [P],
     ) -> Result<Vec<Answer>, AllocError>
-        requires { All (λ plan. P.loaders plan ≤ length self.old.loaders) plans.now }
+        requires { All (λ plan. P.loaders plan
+            ≤ length self.old.loaders) plans.now }
         ensures answers { IfOk result (AreAnswers S.may_tell (state_of self.old)
             (state_of self.new) (requests P.program P.text_of plans.now)) }
         ensures stopped { OnErr result (StopsAnswering S.may_tell (state_of self.old)

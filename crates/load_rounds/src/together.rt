@@ -3,7 +3,7 @@
 //! Several plans are one program, the items of a list, each of nullable type. So the log of shared rounds is
 //! lawful by the same definition as any other, and a plan's own rounds are those in which its own front isn't
 //! empty.
-ghost use Rattle.std.specs.Prelude.{◌≡◌, ◌≤◌, ◌<◌, ◌+◌, ◌^◌, All, length, map, is_none, IfOk, OnOk};
+ghost use Rattle.std.specs.Prelude.{◌≡◌, ◌≤◌, All, length, map, is_none, IfOk, OnOk};
 ghost use Rattle.execution.specs.Front.{front, wanting, modes_wanted};
 ghost use Rattle.execution.specs.Rounds.{AreLimited};
 ghost use Rattle.load_memory.specs.Pairs.{look};
@@ -69,14 +69,16 @@ impl<'p, E: Drop, P: Execute<'p, E>> SharedExecution<'p, P, E> {
         rounds: u32,
         wants: &mut Wants,
     ) -> Result<bool, AllocError>
-        requires can { CanExecute (P.loaders self.old.plan) memory.now wants.old }
+        requires can { CanExecute
+            (P.loaders self.old.plan) memory.now wants.old }
         requires fits { FitsPart P.program P.text_of P.loaders P.fits
             self.old.plan self.old.progress self.old.report memory.now }
         ensures went { OnOk result
             (GoesOn P.program P.text_of P.loaders P.fits rounds memory.now self.old self.new) }
         ensures wanted { OnOk result (wants.new ≡ wanting wants.old
             (front memory.now.modes (P.program self.old.plan) (look memory.now.pairs))) }
-        ensures missing { IfOk result (λ missing. missing ≡ is_none self.new.report) }
+        ensures missing { IfOk result
+            (λ missing. missing ≡ is_none self.new.report) }
     {
         if self.answer.is_some() {
             return Ok(false);
@@ -101,13 +103,16 @@ fn go_on_all<'p, E: Drop, P: Execute<'p, E>>(
 ) -> Result<bool, AllocError>
     requires enough { All (λ plan. P.loaders plan ≤ length memory.now.modes)
         (plans_in parts.old.items) }
-    requires lined_up { modes_wanted wants.old ≡ memory.now.modes }
-    requires fits { FitParts P.program P.text_of P.loaders P.fits parts.old.items memory.now }
+    requires lined_up { modes_wanted wants.old
+        ≡ memory.now.modes }
+    requires fits { FitParts P.program P.text_of
+        P.loaders P.fits parts.old.items memory.now }
     ensures went { OnOk result (GoOn P.program P.text_of P.loaders
         P.fits rounds memory.now parts.old.items parts.new.items) }
     ensures wanted { OnOk result
         (wants.new ≡ wanting wants.old (fronts P.program memory.now (plans_in parts.old.items))) }
-    ensures missing { IfOk result (λ missing. missing ≡ some_unreported parts.new.items) }
+    ensures missing { IfOk result (λ missing.
+        missing ≡ some_unreported parts.new.items) }
 {
     let mut is_missing = false;
     for at in 0..parts.len() {
@@ -120,11 +125,12 @@ fn go_on_all<'p, E: Drop, P: Execute<'p, E>>(
 impl<'p, E: Drop, P: Execute<'p, E>> Together<'p, P, E> {
     ghost use Rattle.load_rounds.specs.Sessions.{state_of, rules_of, memory_of};
     ghost use Rattle.load_rounds.specs.SharedRounds.{joint};
-    ghost use Rattle.load_rounds.specs.Together.{AreBegun, FindsAll, asked_in, reports_in};
+    ghost use Rattle.load_rounds.specs.Together.{AreBegun, CountsAsked, FindsAll, reports_in};
 
     /// Executions of the plans of which nothing is done.
     pub(crate) fn begin(alloc: Global, plans: &'p [P]) -> Result<Together<'p, P, E>, AllocError>
-        ensures { IfOk result (λ t. AreBegun P.program P.text_of P.loaders P.fits plans.now t) }
+        ensures { IfOk result (λ t. AreBegun P.program
+            P.text_of P.loaders P.fits plans.now t) }
     {
         let mut parts = Vec::with_capacity(alloc, plans.len())?;
         for plan in plans {
@@ -148,10 +154,10 @@ impl<'p, E: Drop, P: Execute<'p, E>> Together<'p, P, E> {
             (joint P.program P.text_of (plans_in self.old.parts)) (state_of session.now) wants) }
         ensures went { OnOk result (GoOn P.program P.text_of P.loaders P.fits
             self.old.rounds (memory_of session.now) self.old.parts self.new.parts) }
-        ensures counted { IfOk result (λ wants.
-            self.new.rounds ≡ self.old.rounds + asked_in wants) }
-        ensures bounded { self.new.rounds < 2 ^ 32 }
-        ensures limited { AreLimited (rules_of (state_of session.now)) }
+        ensures counted { CountsAsked
+            self.old.rounds self.new.rounds result }
+        ensures limited { AreLimited
+            (rules_of (state_of session.now)) }
     {
         let rounds = self.rounds;
         let memory = session.memory();
@@ -169,7 +175,8 @@ impl<'p, E: Drop, P: Execute<'p, E>> Together<'p, P, E> {
     pub(crate) fn take_answers(&mut self, alloc: Global) -> Result<Vec<Answer>, AllocError>
         ensures answers { IfOk result (λ answers.
             map report_of answers.items ≡ reports_in self.old.parts) }
-        ensures counted { self.new.rounds ≡ self.old.rounds }
+        ensures counted { self.new.rounds
+            ≡ self.old.rounds }
     {
         let mut answers = Vec::with_capacity(alloc, self.parts.len())?;
         for part in mem::replace(&mut self.parts, Vec::new(alloc)) {

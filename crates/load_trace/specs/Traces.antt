@@ -29,7 +29,8 @@ pub record TraceOf : Type 0 where
 -- the batches of a round that stand in a loader's log, in its order
 abbrev pub batches_in : ℕ → List ℕ → List AskedOf → List BatchOf
 batches_in round loader [] = []
-batches_in round loader (entry ∷ log) = if entry.round == round then batch_of loader entry.keys ∷ batches_in round loader log else batches_in round loader log
+batches_in round loader (entry ∷ log) = if entry.round == round
+    then batch_of loader entry.keys ∷ batches_in round loader log else batches_in round loader log
 
 -- the latest round of a loader's log, 0 where it is empty
 abbrev pub last_in : List AskedOf → ℕ
@@ -45,7 +46,8 @@ module _ {S : Type 0} where
   -- the rounds from 1 to this one
   abbrev pub rounds_upto : ℕ → List (LoaderOf S) → List (List BatchOf)
   rounds_upto zero loaders = []
-  rounds_upto (suc round) loaders = rounds_upto round loaders ++ round_batches (suc round) loaders ∷ []
+  rounds_upto (suc round) loaders =
+      rounds_upto round loaders ++ round_batches (suc round) loaders ∷ []
 
   -- the latest round of the logs, 0 where nothing was asked
   abbrev pub last_round : List (LoaderOf S) → ℕ
@@ -72,7 +74,8 @@ key_json (text t) = string t
 key_json (pair s t) = array (item (string s) (item (string t) no_items))
 
 abbrev pub batch_json : BatchOf → Json
-batch_json batch = object (member (codes "loader") (string batch.loader) (member (codes "keys") (array (items_of (map key_json batch.keys))) no_members))
+batch_json batch = object (member (codes "loader") (string batch.loader)
+    (member (codes "keys") (array (items_of (map key_json batch.keys))) no_members))
 
 abbrev pub round_json : List BatchOf → Json
 round_json batches = array (items_of (map batch_json batches))
@@ -86,7 +89,8 @@ count_member None = no_members
 count_member (Some count) = member (codes "keyByKey") (number (decimal count)) no_members
 
 abbrev pub trace_json : TraceOf → Json
-trace_json trace = object (member (codes "rounds") (rounds_json trace.rounds) (count_member trace.key_by_key))
+trace_json trace =
+    object (member (codes "rounds") (rounds_json trace.rounds) (count_member trace.key_by_key))
 
 -- the tokens with no space between them, escaped as the strings of answers are
 abbrev pub trace_text : TraceOf → List ℕ

@@ -8,7 +8,8 @@ use load_queue::{Loader, LogEntry};
 
 // The latest round of the entries, or one that is later.
 fn later(last: u32, log: &[LogEntry]) -> u32
-    ensures { result ≡ max last (last_in (map asked_of log.now)) }
+    ensures { result ≡ max last
+        (last_in (map asked_of log.now)) }
 {
     let mut latest = last;
     for entry in log {

@@ -30,7 +30,8 @@ abbrev mutual
 
   pub same_members : Members → Members → Bool
   same_members no_member no_member = true
-  same_members (and_member p n v ms) (and_member q m w ns) = bytes_eq n m && (same_value v w && same_members ms ns)
+  same_members (and_member p n v ms) (and_member q m w ns) =
+      bytes_eq n m && (same_value v w && same_members ms ns)
   same_members _ _ = false
 
 -- ---- arguments, as sets of names and values

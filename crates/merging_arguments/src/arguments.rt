@@ -9,14 +9,16 @@ use gq_parser::Argument;
 
 // Tells whether names and values are the same.
 fn is_same_argument(one: &Argument, other: &Argument) -> bool
-    ensures { result ≡ same_argument (argument_of one.now) (argument_of other.now) }
+    ensures { result ≡ same_argument
+        (argument_of one.now) (argument_of other.now) }
 {
     one.name.as_str() == other.name.as_str() && is_same_value(&one.value, &other.value)
 }
 
 // Tells whether an argument is given among these.
 fn is_given(arguments: &[Argument], argument: &Argument) -> bool
-    ensures { result ≡ is_given (arguments_of arguments.now) (argument_of argument.now) }
+    ensures { result ≡ is_given (arguments_of arguments.now)
+        (argument_of argument.now) }
 {
     for other in arguments {
         if is_same_argument(argument, other) {

@@ -16,7 +16,8 @@ fn is_same_bool(one: bool, other: bool) -> bool
 /// nesting.
 #[cycle(same)]
 pub fn is_same_value(one: &Literal, other: &Literal) -> bool
-    ensures { result ≡ same_value (literal_of one.now) (literal_of other.now) }
+    ensures { result ≡ same_value
+        (literal_of one.now) (literal_of other.now) }
 {
     match &one.value {
         Value::Variable(name) => match &other.value {
@@ -61,7 +62,8 @@ pub fn is_same_value(one: &Literal, other: &Literal) -> bool
 // Tells whether the items of two lists are the same, in order.
 #[cycle(same)]
 fn are_same_items(items: &[Literal], others: &[Literal]) -> bool
-    ensures { result ≡ same_values (map_literals items.now) (map_literals others.now) }
+    ensures { result ≡ same_values (map_literals items.now)
+        (map_literals others.now) }
 {
     let mut rest = others;
     for item in items {
@@ -81,7 +83,8 @@ fn are_same_items(items: &[Literal], others: &[Literal]) -> bool
 // Tells whether the fields of two objects are the same, in order.
 #[cycle(same)]
 fn are_same_members(members: &[Argument], others: &[Argument]) -> bool
-    ensures { result ≡ same_members (map_members members.now) (map_members others.now) }
+    ensures { result ≡ same_members
+        (map_members members.now) (map_members others.now) }
 {
     let mut rest = others;
     for member in members {

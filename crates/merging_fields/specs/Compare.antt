@@ -17,13 +17,15 @@ is_composite defs n = is_some (composite_in defs n)
 
 -- tells whether the types are the same, or differ only in the names of composite types (SameResponseShape, 1 to 5)
 abbrev pub same_shape : List Definition → TypeTree → TypeTree → Bool
-same_shape defs (Named p n b) (Named q m c) = same_bool b c && (bytes_eq n m || (is_composite defs n && is_composite defs m))
+same_shape defs (Named p n b) (Named q m c) =
+    same_bool b c && (bytes_eq n m || (is_composite defs n && is_composite defs m))
 same_shape defs (ListOf p t b) (ListOf q u c) = same_bool b c && same_shape defs t u
 same_shape defs _ _ = false
 
 -- the return type of a field; `__typename` has none among the definitions, and is a `String!` (section 4.4)
 abbrev pub return_type : FieldPart → TypeTree
-return_type f = option_map_or (λ (d : schema.Field). d.of_type) f.definition (Named f.place (codes "String") true)
+return_type f = option_map_or (λ (d : schema.Field). d.of_type) f.definition
+    (Named f.place (codes "String") true)
 
 -- ---- two fields
 
@@ -47,7 +49,8 @@ is_object_parent defs f = option_map_or is_object (option_and_then (kind_in defs
 
 -- both parent types are equal, or either isn't an object type
 abbrev pub may_meet : List Definition → FieldPart → FieldPart → Bool
-may_meet defs x y = same_parent x.parent y.parent || (not (is_object_parent defs x) || not (is_object_parent defs y))
+may_meet defs x y = same_parent x.parent y.parent
+    || (not (is_object_parent defs x) || not (is_object_parent defs y))
 
 -- names and arguments are equal
 abbrev pub do_agree : FieldPart → FieldPart → Bool

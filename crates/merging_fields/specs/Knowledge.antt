@@ -30,28 +30,33 @@ document_in g = document_of g.parts.now.document.now
 
 -- an order of the fragments, each after those that it spreads
 abbrev pub IsFragmentOrder : List ℕ → Grounds → Type 0
-IsFragmentOrder order g = IsOrder order (place_in (document_in g).fragments) (document_in g).fragments
+IsFragmentOrder order g =
+    IsOrder order (place_in (document_in g).fragments) (document_in g).fragments
 
 -- the fields of a table are those of the document, in their order
 abbrev pub AreNumberedIn : Grounds → List table.Field → Type 0
-AreNumberedIn g fields = AreNumbered (parts_known g) g.numbers.now (members_of_fragment (document_in g)) g.order.now fields
+AreNumberedIn g fields = AreNumbered (parts_known g) g.numbers.now
+    (members_of_fragment (document_in g)) g.order.now fields
 
 -- ---- while sets are gathered
 
 -- of the sets of these operations those are added in which two fields clash; the first field has the number 0
 abbrev pub AddsOfOperations : FragmentMembers → List Operation
     → List ClashingSet → List ClashingSet → Type 0
-AddsOfOperations w operations old new = AddsClashing w (λ spread. operation_sets spread 0 operations) old new
+AddsOfOperations w operations old new =
+    AddsClashing w (λ spread. operation_sets spread 0 operations) old new
 
 -- says the same of fragments; the first field has the number n
 abbrev pub AddsOfFragments : FragmentMembers → ℕ → List Fragment
     → List ClashingSet → List ClashingSet → Type 0
-AddsOfFragments w n fragments old new = AddsClashing w (λ spread. fragment_sets spread n fragments) old new
+AddsOfFragments w n fragments old new =
+    AddsClashing w (λ spread. fragment_sets spread n fragments) old new
 
 -- ---- once they are compared
 
 abbrev pub IsCompared : ComparedFields → Type 0
-IsCompared c = AreCompared (parts_known c.grounds) c.grounds.numbers.now c.grounds.order.now c.fields.now c.rows.now c.fragments.now
+IsCompared c = AreCompared (parts_known c.grounds) c.grounds.numbers.now c.grounds.order.now
+    c.fields.now c.rows.now c.fragments.now
 
 -- the fields of the document, as the rule sees them
 abbrev pub fields_in : ComparedFields → Fields ℕ
@@ -75,7 +80,8 @@ set_in c set = clashing_of (members_of_fragment (document_in c.grounds)) set
 
 -- the sets of the document in which two fields clash
 abbrev pub clashing_in : ComparedFields → List SetOf
-clashing_in c = filter (is_clashing c.rows.now c.grounds.numbers.now) (sets_of (document_in c.grounds))
+clashing_in c =
+    filter (is_clashing c.rows.now c.grounds.numbers.now) (sets_of (document_in c.grounds))
 
 -- the members of a set are fields of the document
 abbrev pub HasFieldsOf : ComparedFields → SetOf → Type 0

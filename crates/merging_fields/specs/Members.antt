@@ -17,7 +17,8 @@ test_at t fields a b = at (λ x. at (t x) false fields b) false fields a
 
 -- the members of the own selection set of the field of a number
 abbrev pub members_at : PartsOf → ℕ → List ℕ
-members_at p a = at (λ f. members_below (members_of_fragment p.document) (a + 1) f.below) [] p.fields a
+members_at p a =
+    at (λ f. members_below (members_of_fragment p.document) (a + 1) f.below) [] p.fields a
 
 -- the fields of a document, as the rule sees them
 abbrev pub fields_of : PartsOf → Fields ℕ

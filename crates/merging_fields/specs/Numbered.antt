@@ -17,7 +17,8 @@ abbrev pub as_written : FieldPart → Selection
 as_written f = Field f.place f.alias f.name f.arguments f.directives f.below
 
 -- says what the table says of the field of the number a, where `spread` gives the members of fragments
-pub record IsNumbered (p : PartsOf) (numbers : List ℕ) (spread : List ℕ → List ℕ) (a : ℕ) (f : FieldPart) (x : table.Field) : Type 0 where
+pub record IsNumbered (p : PartsOf) (numbers : List ℕ) (spread : List ℕ → List ℕ) (a : ℕ)
+    (f : FieldPart) (x : table.Field) : Type 0 where
   pub key : x.key ≡ number_of Key p.definitions p.fields f
   pub name : x.name ≡ number_of Selected p.definitions p.fields f
   pub arguments : x.arguments ≡ 0
@@ -30,7 +31,9 @@ pub record IsNumbered (p : PartsOf) (numbers : List ℕ) (spread : List ℕ → 
 -- the fields of a table are those of these numbers, in this order
 abbrev pub AreNumbered : PartsOf → List ℕ → (List ℕ → List ℕ) → List ℕ → List table.Field → Type 0
 AreNumbered p numbers spread [] [] = Unit {0}
-AreNumbered p numbers spread (a ∷ order) (x ∷ fields) = ((f : FieldPart) → slice_get p.fields a ≡ Some f → IsNumbered p numbers spread a f x) × AreNumbered p numbers spread order fields
+AreNumbered p numbers spread (a ∷ order) (x ∷ fields) =
+    ((f : FieldPart) → slice_get p.fields a ≡ Some f → IsNumbered p numbers spread a f x)
+    × AreNumbered p numbers spread order fields
 AreNumbered p numbers spread [] (x ∷ fields) = ⊥
 AreNumbered p numbers spread (a ∷ order) [] = ⊥
 

@@ -19,7 +19,8 @@ use Rattle.merging_fields.specs.Numbered.{AreNumbered}
 
 -- the set, where two of its fields clash, with the first response key of one that does
 abbrev pub report_of_set : (ℕ → ℕ → Bool) → (ℕ → ℕ → Bool) → (ℕ → List ℕ) → SetOf → Option BrokenOf
-report_of_set one_key clash key s = option_map (λ f. record { name = key f; place = s.place }) (first_clash one_key clash s.members)
+report_of_set one_key clash key s =
+    option_map (λ f. record { name = key f; place = s.place }) (first_clash one_key clash s.members)
 
 abbrev pub reports_of_sets : (ℕ → ℕ → Bool) → (ℕ → ℕ → Bool)
     → (ℕ → List ℕ) → List SetOf → List BrokenOf
@@ -38,8 +39,11 @@ abbrev pub earliest_set : List SetOf → Option SetOf
 earliest_set = fold with_set None
 
 -- says what is known where the fields of a document have been compared under their numbers
-pub record AreCompared (p : PartsOf) (numbers order : List ℕ) (fields : List table.Field) (rows : List (List ℕ)) (fragments : List ReachedFields) : Type 0 where
+pub record AreCompared (p : PartsOf) (numbers order : List ℕ) (fields : List table.Field)
+    (rows : List (List ℕ)) (fragments : List ReachedFields) : Type 0 where
   pub numbered : AreNumbered p numbers (members_of_fragment p.document) order fields
-  pub decided : TellsAll (Merges (of_table.fields_of fields)) (of_table.fields_of fields) (length fields) rows
+  pub decided : TellsAll (Merges (of_table.fields_of fields))
+      (of_table.fields_of fields) (length fields) rows
   pub ranked : ∥ AreRanked (place_in p.document.fragments) p.document.fragments ∥₁
-  pub known : Knows rows numbers fragments (place_in p.document.fragments) (members_of_fragment p.document)
+  pub known : Knows rows numbers fragments (place_in p.document.fragments)
+      (members_of_fragment p.document)

@@ -27,7 +27,8 @@ selected_below spread (below s) = selected_in spread s
 -- those of the first fragment of a name among these
 abbrev pub selected_named : (List ℕ → List Selection) → List Fragment → List ℕ → List Selection
 selected_named spread [] name = []
-selected_named spread (f ∷ fs) name = if is_named name f then selected_in spread f.selection_set else selected_named spread fs name
+selected_named spread (f ∷ fs) name =
+    if is_named name f then selected_in spread f.selection_set else selected_named spread fs name
 
 -- those of a fragment, where at most k fragments are entered, one inside another
 abbrev pub selected_entered : ℕ → Document → List ℕ → List Selection
@@ -48,7 +49,8 @@ selecting spread (set_at p ss) = record { place = p; fields = map Some (selected
 -- the sets of a document, each after those inside it
 abbrev mutual
   pub selecting_in : (List ℕ → List Selection) → SelectionSet → List SelectedBy
-  selecting_in spread (set_at p ss) = selecting_among spread ss ++ selecting spread (set_at p ss) ∷ []
+  selecting_in spread (set_at p ss) =
+      selecting_among spread ss ++ selecting spread (set_at p ss) ∷ []
 
   pub selecting_among : (List ℕ → List Selection) → Selections → List SelectedBy
   selecting_among spread no_selection = []
@@ -65,14 +67,17 @@ abbrev mutual
 
 abbrev pub selecting_operations : (List ℕ → List Selection) → List Operation → List SelectedBy
 selecting_operations spread [] = []
-selecting_operations spread (o ∷ os) = selecting_in spread o.selection_set ++ selecting_operations spread os
+selecting_operations spread (o ∷ os) =
+    selecting_in spread o.selection_set ++ selecting_operations spread os
 
 abbrev pub selecting_fragments : (List ℕ → List Selection) → List Fragment → List SelectedBy
 selecting_fragments spread [] = []
-selecting_fragments spread (f ∷ fs) = selecting_in spread f.selection_set ++ selecting_fragments spread fs
+selecting_fragments spread (f ∷ fs) =
+    selecting_in spread f.selection_set ++ selecting_fragments spread fs
 
 abbrev pub selecting_sets : Document → List SelectedBy
-selecting_sets d = selecting_operations (selected_by_fragment d) d.operations ++ selecting_fragments (selected_by_fragment d) d.fragments
+selecting_sets d = selecting_operations (selected_by_fragment d) d.operations
+    ++ selecting_fragments (selected_by_fragment d) d.fragments
 
 -- a set whose members are looked up by their numbers among all fields
 abbrev pub looked_up : List Selection → SetOf → SelectedBy

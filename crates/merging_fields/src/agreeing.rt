@@ -15,7 +15,8 @@ type FirstFields<'d> = HashMap<&'d str, usize>;
 
 // Notes the number of a response key's first field.
 fn note<'d>(seen: &mut FirstFields<'d>, key: &'d str, number: usize) -> Result<(), AllocError>
-    ensures { (q : List ℕ) → OnOk result (target_at seen.new q ≡ or_else (target_at seen.old q) (if bytes_eq q key.now then Some number else None)) }
+    ensures { (q : List ℕ) → OnOk result (target_at seen.new q
+        ≡ or_else (target_at seen.old q) (if bytes_eq q key.now then Some number else None)) }
 {
     seen.entry(key)?.or_insert(number);
     Ok(())
@@ -23,9 +24,12 @@ fn note<'d>(seen: &mut FirstFields<'d>, key: &'d str, number: usize) -> Result<(
 
 // Tells whether two fields have the same name with equal arguments, and types of one shape.
 fn agree(parts: &Parts, one: usize, other: usize) -> bool
-    requires one { one < length (parts_in parts.now).fields }
-    requires other { other < length (parts_in parts.now).fields }
-    ensures { IsTrue result → FieldsAgree (parts_in parts.now) one other }
+    requires one { one < length
+        (parts_in parts.now).fields }
+    requires other { other < length
+        (parts_in parts.now).fields }
+    ensures { IsTrue result
+        → FieldsAgree (parts_in parts.now) one other }
 {
     let one = &parts.fields[one];
     let other = &parts.fields[other];
@@ -38,8 +42,10 @@ fn agrees_with_first<'d>(
     seen: &mut FirstFields<'d>,
     number: usize,
 ) -> Result<bool, AllocError>
-    requires there { number < length (parts_in parts.now).fields }
-    requires seen { AreSeen (parts_in parts.now) (target_at seen.old) number }
+    requires there { number < length
+        (parts_in parts.now).fields }
+    requires seen { AreSeen (parts_in parts.now)
+        (target_at seen.old) number }
     ensures { IfOk result (λ agrees.
         IsTrue agrees → AreSeen (parts_in parts.now) (target_at seen.new) (number + 1)) }
 {
@@ -55,7 +61,8 @@ fn agrees_with_first<'d>(
 
 /// Tells whether all fields of one response key agree, in one pass through the fields.
 pub fn agree_by_key(alloc: Global, parts: &Parts) -> Result<bool, AllocError>
-    ensures { IfOk result (λ agree. IsTrue agree → AgreeByKey (parts_in parts.now)) }
+    ensures { IfOk result (λ agree.
+        IsTrue agree → AgreeByKey (parts_in parts.now)) }
 {
     let mut seen: FirstFields = HashMap::new(alloc);
     for number in 0..parts.fields.len() {

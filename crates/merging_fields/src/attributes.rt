@@ -28,7 +28,8 @@ pub enum Attribute {
 
 /// The alias, or the name where there is none (section 2.7).
 pub fn response_key<'d>(field: &FieldPart<'d>) -> &'d str
-    ensures { result.now ≡ response_key (field_part_of field.now) }
+    ensures { result.now
+        ≡ response_key (field_part_of field.now) }
 {
     match &field.field.alias {
         Some(alias) => alias.as_str(),
@@ -37,14 +38,16 @@ pub fn response_key<'d>(field: &FieldPart<'d>) -> &'d str
 }
 
 fn have_one_key(one: &FieldPart, other: &FieldPart) -> bool
-    ensures { result ≡ have_one_key (field_part_of one.now) (field_part_of other.now) }
+    ensures { result ≡ have_one_key
+        (field_part_of one.now) (field_part_of other.now) }
 {
     response_key(one) == response_key(other)
 }
 
 /// Tells whether two fields have one name with equal arguments.
 pub fn do_agree(one: &FieldPart, other: &FieldPart) -> bool
-    ensures { result ≡ do_agree (field_part_of one.now) (field_part_of other.now) }
+    ensures { result ≡ do_agree (field_part_of one.now)
+        (field_part_of other.now) }
 {
     one.field.name.as_str() == other.field.name.as_str()
         && are_same_arguments(&one.field.arguments, &other.field.arguments)
@@ -64,7 +67,8 @@ fn have_same_parent(one: &FieldPart, other: &FieldPart) -> bool
 
 /// Tells whether the parent type is an object type.
 pub fn is_object_parent(schema: &Schema, field: &FieldPart) -> bool
-    ensures { result ≡ is_object_parent (tree_of schema.now) (field_part_of field.now) }
+    ensures { result ≡ is_object_parent
+        (tree_of schema.now) (field_part_of field.now) }
 {
     match field.parent {
         Some(parent) => matches!(schema.kind_of(parent), Some(TypeKind::Object)),
@@ -73,7 +77,8 @@ pub fn is_object_parent(schema: &Schema, field: &FieldPart) -> bool
 }
 
 fn is_composite(schema: &Schema, name: &str) -> bool
-    ensures { result ≡ is_composite (tree_of schema.now) name.now }
+    ensures { result ≡ is_composite
+        (tree_of schema.now) name.now }
 {
     match schema.kind_of(name) {
         Some(kind) => !kind.is_leaf(),
@@ -82,7 +87,8 @@ fn is_composite(schema: &Schema, name: &str) -> bool
 }
 
 fn is_same_shape(schema: &Schema, one: &TypeRef, other: &TypeRef) -> bool
-    ensures { result ≡ same_shape (tree_of schema.now) (type_of one.now) (type_of other.now) }
+    ensures { result ≡ same_shape (tree_of schema.now)
+        (type_of one.now) (type_of other.now) }
 {
     match one {
         TypeRef::Named { name, non_null, .. } => match other {

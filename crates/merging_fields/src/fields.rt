@@ -24,8 +24,10 @@ fn members_of(parts: &Parts, members: &[FieldSet], number: usize) -> FieldSet
 
 // The field of a number, as the table of pairs sees it.
 fn field_with_numbers(parts: &Parts, members: &[FieldSet], number: usize) -> Field
-    requires there { number < length (parts_in parts.now).fields }
-    requires len { length members.now ≡ length (parts_in parts.now).fields }
+    requires there { number < length
+        (parts_in parts.now).fields }
+    requires len { length members.now
+        ≡ length (parts_in parts.now).fields }
     ensures { ForFieldAt (parts_in parts.now) members.now number (λ numbers spread f.
         IsNumbered (parts_in parts.now) numbers spread number f result) }
 {
@@ -51,7 +53,8 @@ pub fn numbered_fields(
 ) -> Result<Vec<Field>, AllocError>
     requires there { (k a : ℕ) → slice_get order.now k ≡ Some a
         → a < length (parts_in parts.now).fields }
-    requires len { length members.now ≡ length (parts_in parts.now).fields }
+    requires len { length members.now
+        ≡ length (parts_in parts.now).fields }
     ensures { IfOk result (λ fields.
         AreNumberedBy (parts_in parts.now) members.now order.now fields.items) }
 {

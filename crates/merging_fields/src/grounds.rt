@@ -27,9 +27,11 @@ pub fn grounds_of<'a, 'd>(
     starts: &'a [usize],
     numbering: &'a Numbering,
 ) -> Grounds<'a, 'd>
-    requires few { length (parts_in parts.now).fields ≤ 1024 }
+    requires few { length (parts_in parts.now).fields
+        ≤ 1024 }
     requires named { AreTargets (document_of parts.now.document.now).fragments targets.now }
-    requires started { starts.now ≡ fragment_starts (document_of parts.now.document.now) }
+    requires started { starts.now ≡ fragment_starts
+        (document_of parts.now.document.now) }
     requires fixed { IsFixed (members_of_fragment (document_of parts.now.document.now))
         (document_of parts.now.document.now) }
     requires numbering { IsNumbering (document_of parts.now.document.now)
@@ -47,8 +49,10 @@ pub fn grounds_of<'a, 'd>(
 
 // Returns `count` rows without any field.
 fn blank_rows(alloc: Global, count: usize) -> Result<Vec<FieldSet>, AllocError>
-    ensures len { IfOk result (λ rows. length rows.items ≡ count) }
-    ensures below { IfOk result (λ rows. IsBelow rows.items) }
+    ensures len { IfOk result
+        (λ rows. length rows.items ≡ count) }
+    ensures below { IfOk result
+        (λ rows. IsBelow rows.items) }
 {
     let mut rows = Vec::with_capacity(alloc, count)?;
     for _ in 0..count {
@@ -63,9 +67,12 @@ pub fn fields_in_order(
     grounds: &Grounds,
     fragments: &[usize],
 ) -> Result<Vec<Field>, AllocError>
-    requires fragments { IsFragmentOrder fragments.now grounds.now }
-    ensures numbered { IfOk result (λ fields. AreNumberedIn grounds.now fields.items) }
-    ensures order { IfOk result (λ fields. AreInOrder fields.items) }
+    requires fragments { IsFragmentOrder
+        fragments.now grounds.now }
+    ensures numbered { IfOk result
+        (λ fields. AreNumberedIn grounds.now fields.items) }
+    ensures order { IfOk result
+        (λ fields. AreInOrder fields.items) }
 {
     let blank = blank_rows(alloc, grounds.order.len())?;
     let source = NumberedDocument {

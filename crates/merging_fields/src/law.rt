@@ -16,7 +16,8 @@ ghost use Rattle.merging_fields.specs.Selected.{HasNumber, named_fields, own_mem
 
 /// Of the selection sets of a document that can't be merged one is reported, with its first response key that has a failing pair.
 pub fn one_set_is_reported()
-    ensures { (p : PartsOf) (a b : Option BrokenOf) → IsMerging p a → IsMerging p b → a ≡ b }
+    ensures { (p : PartsOf) (a b : Option BrokenOf)
+        → IsMerging p a → IsMerging p b → a ≡ b }
 {}
 
 /// A document's parts list its fields as they are written, so that a field has one number: its place in that list, and in the one

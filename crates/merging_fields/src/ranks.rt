@@ -9,7 +9,8 @@ use rules_spreads::Graph;
 use std::alloc::{AllocError, Global};
 
 fn is_marked(taken: &[bool], fragment: usize) -> bool
-    ensures { result ≡ slice_index_or taken.now fragment false }
+    ensures { result ≡ slice_index_or
+        taken.now fragment false }
 {
     match taken.get(fragment) {
         Some(is_taken) => *is_taken,
@@ -24,7 +25,8 @@ fn are_marked(taken: &[bool], fragments: &[usize]) -> bool
 }
 
 fn are_all_marked(taken: &[bool]) -> bool
-    ensures { IsTrue result → (x : ℕ) → x < length taken.now → IsMarked taken.now x }
+    ensures { IsTrue result → (x : ℕ)
+        → x < length taken.now → IsMarked taken.now x }
 {
     taken.iter().all(|is_taken| *is_taken)
 }
@@ -36,9 +38,12 @@ fn take_next(
     taken: &mut Vec<bool>,
     order: &mut Vec<usize>,
 ) -> Result<(), AllocError>
-    requires part { IsPart graph.now order.old.items taken.old.items }
-    ensures part { OnOk result (IsPart graph.now order.new.items taken.new.items) }
-    ensures kept { (x : ℕ) → IsMarked taken.old.items x → OnOk result (IsMarked taken.new.items x) }
+    requires part { IsPart graph.now
+        order.old.items taken.old.items }
+    ensures part { OnOk result
+        (IsPart graph.now order.new.items taken.new.items) }
+    ensures kept { (x : ℕ) → IsMarked taken.old.items x
+        → OnOk result (IsMarked taken.new.items x) }
     ensures taken { OnOk result (TakesReady graph.now taken.old.items taken.new.items fragment) }
 {
     if fragment >= graph.len() {
@@ -57,8 +62,10 @@ fn take_next(
 
 // Takes each fragment all of whose spreads are taken.
 fn take_all(graph: &Graph, taken: &mut Vec<bool>, order: &mut Vec<usize>) -> Result<(), AllocError>
-    requires part { IsPart graph.now order.old.items taken.old.items }
-    ensures part { OnOk result (IsPart graph.now order.new.items taken.new.items) }
+    requires part { IsPart graph.now
+        order.old.items taken.old.items }
+    ensures part { OnOk result
+        (IsPart graph.now order.new.items taken.new.items) }
     ensures taken { (x : ℕ) → OnOk result (TakesReady graph.now taken.old.items taken.new.items x) }
 {
     for fragment in 0..graph.len() {
@@ -74,8 +81,10 @@ fn take_these(
     taken: &mut Vec<bool>,
     order: &mut Vec<usize>,
 ) -> Result<(), AllocError>
-    requires part { IsPart graph.now order.old.items taken.old.items }
-    ensures part { OnOk result (IsPart graph.now order.new.items taken.new.items) }
+    requires part { IsPart graph.now
+        order.old.items taken.old.items }
+    ensures part { OnOk result
+        (IsPart graph.now order.new.items taken.new.items) }
 {
     for fragment in fragments {
         take_next(graph, *fragment, taken, order)?;
@@ -86,7 +95,8 @@ fn take_these(
 /// The fragments, each after those that it spreads. It is linear in the spreads.
 pub fn rank_fragments(alloc: Global, graph: &Graph) -> Result<Vec<usize>, AllocError>
     requires free { IsFree graph.now }
-    ensures { IfOk result (λ order. IsGraphOrder graph.now order.items) }
+    ensures { IfOk result
+        (λ order. IsGraphOrder graph.now order.items) }
 {
     let mut taken = vec![in alloc; false; graph.len()]?;
     let mut order = Vec::with_capacity(alloc, graph.len())?;

@@ -23,11 +23,13 @@ IsKnown w spread = Knows w.rows.now w.numbers.now w.fragments.now (target_at w.t
 
 -- says the same of each fragment whose name passes a test
 abbrev pub IsKnownWhere : FragmentMembers → (List ℕ → List ℕ) → (List ℕ → Bool) → Type 0
-IsKnownWhere w spread test = KnowsSome test w.rows.now w.numbers.now w.fragments.now (target_at w.targets.now) spread
+IsKnownWhere w spread test =
+    KnowsSome test w.rows.now w.numbers.now w.fragments.now (target_at w.targets.now) spread
 
 -- says the same of the fragment of a name
 abbrev pub IsKnownAt : FragmentMembers → (List ℕ → List ℕ) → List ℕ → Type 0
-IsKnownAt w spread name = KnowsAt w.rows.now w.numbers.now w.fragments.now (spread name) (target_at w.targets.now name)
+IsKnownAt w spread name =
+    KnowsAt w.rows.now w.numbers.now w.fragments.now (spread name) (target_at w.targets.now name)
 
 -- ---- what it reaches
 
@@ -56,15 +58,18 @@ ReachesWhere w passes members reached = (spread : List ℕ → List ℕ) (test :
 
 abbrev pub GainsWhere : FragmentMembers → ((List ℕ → Bool) → Bool)
     → ((List ℕ → List ℕ) → List ℕ) → ReachedFields → ReachedFields → Type 0
-GainsWhere w passes members old new = (spread : List ℕ → List ℕ) (test : List ℕ → Bool) (ms : List ℕ) → IsKnownWhere w spread test → passes test ≡ true
+GainsWhere w passes members old new = (spread : List ℕ → List ℕ) (test : List ℕ → Bool)
+    (ms : List ℕ) → IsKnownWhere w spread test → passes test ≡ true
     → Reaches w ms old → Reaches w (ms ++ members spread) new
 
 -- the members of a selection set, the first field of which has the number n, and those of a selection
 abbrev pub GainsIn : FragmentMembers → ℕ → SelectionSet → ReachedFields → ReachedFields → Type 0
-GainsIn w n s old new = GainsWhere w (λ test. spreads_in test s) (λ spread. members_in spread n s) old new
+GainsIn w n s old new =
+    GainsWhere w (λ test. spreads_in test s) (λ spread. members_in spread n s) old new
 
 abbrev pub GainsFrom : FragmentMembers → ℕ → Selection → ReachedFields → ReachedFields → Type 0
-GainsFrom w n s old new = GainsWhere w (λ test. spreads_from test s) (λ spread. members_from spread n s) old new
+GainsFrom w n s old new =
+    GainsWhere w (λ test. spreads_from test s) (λ spread. members_from spread n s) old new
 
 -- the members of the fragment of a name, which is known, are reached beside those that were
 abbrev pub GainsAt : FragmentMembers → List ℕ → ReachedFields → ReachedFields → Type 0
@@ -93,7 +98,8 @@ AddsClashing w sets old new = (spread : List ℕ → List ℕ) → IsKnown w spr
 
 -- the first of these fields is met that is among the keys
 abbrev pub IsFirstMet : FragmentMembers → List ℕ → (List ℕ → List ℕ) → List ℕ → Option Met → Type 0
-IsFirstMet w keys spread ms met = IsMet (target_at w.targets.now) spread (is_key keys w.numbers.now) (find (is_key keys w.numbers.now) ms) met
+IsFirstMet w keys spread ms met = IsMet (target_at w.targets.now) spread (is_key keys w.numbers.now)
+    (find (is_key keys w.numbers.now) ms) met
 
 -- the first of the members of a part
 abbrev pub MeetsFirst : FragmentMembers → List ℕ
@@ -117,7 +123,8 @@ IsNumberOf s name j = place_in (document_in s).fragments name ≡ Some j
 
 -- the members of the fragment of a name, by those of the fragments that it spreads
 abbrev pub members_at : NumberedDocument → (List ℕ → List ℕ) → List ℕ → List ℕ
-members_at s spread name = members_named spread (count_operations (document_in s).operations) (document_in s).fragments name
+members_at s spread name = members_named spread (count_operations (document_in s).operations)
+    (document_in s).fragments name
 
 -- the members of the fragment of a number are those of the set
 abbrev pub HasMembersAt : NumberedDocument → ℕ → ClashingSet → Type 0
@@ -126,7 +133,8 @@ HasMembersAt s j set = (spread : List ℕ → List ℕ) (name : List ℕ) → Is
 
 -- a table says of each fragment what `spread` gives
 abbrev pub IsTableKnown : NumberedDocument → List ReachedFields → (List ℕ → List ℕ) → Type 0
-IsTableKnown s table spread = Knows s.rows.now s.numbers.now table (place_in (document_in s).fragments) spread
+IsTableKnown s table spread =
+    Knows s.rows.now s.numbers.now table (place_in (document_in s).fragments) spread
 
 -- the first of a set's members is found that is among the keys, where a table has what each fragment has
 abbrev pub FindsFirst : NumberedDocument → List ReachedFields
@@ -138,7 +146,8 @@ FindsFirst s table keys set found = (spread : List ℕ → List ℕ)
 -- This holds of the members of the fragment of a number, by their numbers in the table of pairs, where a table has what the
 -- fragments that it spreads have.
 abbrev pub LearnsOf : NumberedDocument → List ReachedFields → ℕ → (List ℕ → Type 0) → Type 0
-LearnsOf s table j P = (spread : List ℕ → List ℕ) (name : List ℕ) (test : List ℕ → Bool) (f : Fragment)
+LearnsOf s table j P =
+    (spread : List ℕ → List ℕ) (name : List ℕ) (test : List ℕ → Bool) (f : Fragment)
     → KnowsSome test s.rows.now s.numbers.now table (place_in (document_in s).fragments) spread
     → IsNumberOf s name j → slice_get (document_in s).fragments j ≡ Some f
     → spreads_in test f.selection_set ≡ true

@@ -6,7 +6,8 @@ use Rattle.merging_members.specs.declared.meeting.Came.{Came}
 use Rattle.merging_members.specs.declared.meeting.Came.TheVariants.{Met as to_met, Past}
 
 -- it is the first in the fragment of a name, which has one
-pub record IsIn (place : List ℕ → Option ℕ) (spread : List ℕ → List ℕ) (test : ℕ → Bool) (found : Option ℕ) (j : ℕ) : Type 0 where
+pub record IsIn (place : List ℕ → Option ℕ) (spread : List ℕ → List ℕ) (test : ℕ → Bool)
+    (found : Option ℕ) (j : ℕ) : Type 0 where
   pub name : List ℕ
   pub at : place name ≡ Some j
   pub same : found ≡ find test (spread name)

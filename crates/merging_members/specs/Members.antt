@@ -60,7 +60,8 @@ abbrev mutual
 
   pub members_among : (List ℕ → List ℕ) → ℕ → Selections → List ℕ
   members_among spread n no_selection = []
-  members_among spread n (and_selection s ss) = members_from spread n s ++ members_among spread (n + count_from s) ss
+  members_among spread n (and_selection s ss) =
+      members_from spread n s ++ members_among spread (n + count_from s) ss
 
   pub members_from : (List ℕ → List ℕ) → ℕ → Selection → List ℕ
   members_from spread n (Field p alias name as' ds b) = n ∷ []
@@ -74,12 +75,14 @@ members_below spread n (below s) = members_in spread n s
 -- those of the first fragment of a name among these, the first of which has the number n as its first field's
 abbrev pub members_named : (List ℕ → List ℕ) → ℕ → List Fragment → List ℕ → List ℕ
 members_named spread n [] name = []
-members_named spread n (f ∷ fs) name = if is_named name f then members_in spread n f.selection_set else members_named spread (n + count_in f.selection_set) fs name
+members_named spread n (f ∷ fs) name = if is_named name f then members_in spread n f.selection_set
+    else members_named spread (n + count_in f.selection_set) fs name
 
 -- those of a fragment, where at most k fragments are entered, one inside another
 abbrev pub members_entered : ℕ → Document → List ℕ → List ℕ
 members_entered zero d name = []
-members_entered (suc k) d name = members_named (members_entered k d) (count_operations d.operations) d.fragments name
+members_entered (suc k) d name =
+    members_named (members_entered k d) (count_operations d.operations) d.fragments name
 
 -- Those of a fragment. Without cycles no more fragments are entered, one inside another, than there are.
 abbrev pub members_of_fragment : Document → List ℕ → List ℕ
@@ -101,7 +104,8 @@ abbrev mutual
 
   pub sets_among : (List ℕ → List ℕ) → ℕ → Selections → List SetOf
   sets_among spread n no_selection = []
-  sets_among spread n (and_selection s ss) = sets_from spread n s ++ sets_among spread (n + count_from s) ss
+  sets_among spread n (and_selection s ss) =
+      sets_from spread n s ++ sets_among spread (n + count_from s) ss
 
   pub sets_from : (List ℕ → List ℕ) → ℕ → Selection → List SetOf
   sets_from spread n (Field p alias name as' ds b) = sets_below spread (n + 1) b
@@ -114,12 +118,15 @@ abbrev mutual
 
 abbrev pub operation_sets : (List ℕ → List ℕ) → ℕ → List Operation → List SetOf
 operation_sets spread n [] = []
-operation_sets spread n (o ∷ os) = sets_in spread n o.selection_set ++ operation_sets spread (n + count_in o.selection_set) os
+operation_sets spread n (o ∷ os) =
+    sets_in spread n o.selection_set ++ operation_sets spread (n + count_in o.selection_set) os
 
 abbrev pub fragment_sets : (List ℕ → List ℕ) → ℕ → List Fragment → List SetOf
 fragment_sets spread n [] = []
-fragment_sets spread n (f ∷ fs) = sets_in spread n f.selection_set ++ fragment_sets spread (n + count_in f.selection_set) fs
+fragment_sets spread n (f ∷ fs) =
+    sets_in spread n f.selection_set ++ fragment_sets spread (n + count_in f.selection_set) fs
 
 -- those of operations, and then those of fragments, each after those inside it
 abbrev pub sets_of : Document → List SetOf
-sets_of d = operation_sets (members_of_fragment d) 0 d.operations ++ fragment_sets (members_of_fragment d) (count_operations d.operations) d.fragments
+sets_of d = operation_sets (members_of_fragment d) 0 d.operations
+    ++ fragment_sets (members_of_fragment d) (count_operations d.operations) d.fragments

@@ -4,8 +4,9 @@ use Rattle.gq_parser.specs.Tree.{Selection, Fragment, Document}
 use Rattle.merging_pairs.specs.Numbered.{is_in}
 use Rattle.merging_members.specs.declared.numbering.Numbering.{Numbering}
 use Rattle.merging_members.specs.Fragments.{place_in}
-use Rattle.merging_members.specs.Members.{count_in, count_operations, count_fragments, starts_from, members_below, members_of_fragment}
-use Rattle.merging_members.specs.SetMembers.{to}
+use Rattle.merging_members.specs.Members.{count_in, count_operations, count_fragments, starts_from, fragment_starts, members_below, members_of_fragment}
+use Rattle.merging_members.specs.Ranked.{IsOrder}
+use Rattle.merging_members.specs.SetMembers.{to, IsFixed}
 use Rattle.merging_members.specs.Written.{written_fields, own_below}
 
 -- the field of this number stands at its place in the order
@@ -23,6 +24,13 @@ pub record ArePlaced (d : Document) (order numbers : List ℕ) : Type 0 where
   pub back : (k a : ℕ) → slice_get order k ≡ Some a → (a < length numbers) × (to numbers a ≡ k)
   pub after : (k a c : ℕ) → slice_get order k ≡ Some a
       → IsOwn d a c → HasPlace order numbers c × (to numbers c < k)
+
+-- The fragments of a document as places are given to their fields: each after those that it spreads, with the number of its first
+-- field.
+pub record HasFragments (d : Document) (starts fragments : List ℕ) : Type 0 where
+  pub started : starts ≡ fragment_starts d
+  pub ordered : IsOrder fragments (place_in d.fragments) d.fragments
+  pub fixed : IsFixed (members_of_fragment d) d
 
 -- the members of the own sets of the fields from `first` on stand after them before `end`, or have a place
 abbrev pub AreReady : Document → List ℕ → List ℕ → ℕ → ℕ → Type 0

@@ -27,10 +27,12 @@ rank_of ranks i = slice_index_or ranks i 0
 
 -- the fragment of a name has a rank below this, if there is one
 abbrev pub is_under : List ℕ → (List ℕ → Option ℕ) → ℕ → List ℕ → Bool
-is_under ranks place bound name = option_map_or (λ j. nat_lt (rank_of ranks j) bound) (place name) true
+is_under ranks place bound name =
+    option_map_or (λ j. nat_lt (rank_of ranks j) bound) (place name) true
 
 -- Ranks of fragments: whatever a fragment spreads, at whatever depth, has a lesser rank, and ranks are below the number of fragments.
-pub record IsRanked (ranks : List ℕ) (place : List ℕ → Option ℕ) (fragments : List Fragment) : Type 0 where
+pub record IsRanked (ranks : List ℕ) (place : List ℕ → Option ℕ)
+    (fragments : List Fragment) : Type 0 where
   pub below : (i : ℕ) (f : Fragment) → slice_get fragments i ≡ Some f
       → rank_of ranks i < length fragments
   pub under : (i : ℕ) (f : Fragment) → slice_get fragments i ≡ Some f
@@ -45,7 +47,8 @@ abbrev pub is_among : List ℕ → (List ℕ → Option ℕ) → List ℕ → Bo
 is_among numbers place name = option_map_or (is_in numbers) (place name) true
 
 -- An order of fragments, in which each of them stands. Before a fragment stand those that it spreads, at whatever depth.
-pub record IsOrder (order : List ℕ) (place : List ℕ → Option ℕ) (fragments : List Fragment) : Type 0 where
+pub record IsOrder (order : List ℕ) (place : List ℕ → Option ℕ)
+    (fragments : List Fragment) : Type 0 where
   pub all : (i : ℕ) → i < length fragments → is_in order i ≡ true
   pub below : (k i : ℕ) → slice_get order k ≡ Some i → i < length fragments
   pub after : (k i : ℕ) (f : Fragment) → slice_get order k ≡ Some i → slice_get fragments i ≡ Some f

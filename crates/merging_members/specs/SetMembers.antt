@@ -25,7 +25,8 @@ clash rows numbers a b = fail rows (to numbers a) (to numbers b)
 -- the members known of the fragment of a number are these; a name of no fragment has none
 abbrev pub KnowsAt : List (List ℕ) → List ℕ → List ReachedFields → List ℕ → Option ℕ → Type 0
 KnowsAt rows numbers fragments ms None = ms ≡ []
-KnowsAt rows numbers fragments ms (Some j) = IfSome (slice_get fragments j) (IsReached rows (renumbered numbers ms))
+KnowsAt rows numbers fragments ms (Some j) =
+    IfSome (slice_get fragments j) (IsReached rows (renumbered numbers ms))
 
 -- the members of each fragment whose name passes a test are those that `spread` gives, where `place` gives its number
 abbrev pub KnowsSome : (List ℕ → Bool) → List (List ℕ) → List ℕ
@@ -53,7 +54,8 @@ place_of (set_at p ss) = p
 
 -- gives what a set says, where `spread` gives the members of fragments
 abbrev pub clashing_of : (List ℕ → List ℕ) → rust.ClashingSet → SetOf
-clashing_of spread c = let s = set_of c.set.now in record { place = place_of s; members = members_in spread c.first s }
+clashing_of spread c =
+    let s = set_of c.set.now in record { place = place_of s; members = members_in spread c.first s }
 
 -- the field is among these of the table, by its number in the document
 abbrev pub is_key : List ℕ → List ℕ → ℕ → Bool
@@ -81,6 +83,7 @@ AreClashingAdded rows numbers spread sets old new = map (clashing_of spread) new
 -- It has gained this set, whose members are reached, if two of them clash. The first field of the set has the number `first`.
 abbrev pub AddsIfClashing : ReachedFields → ℕ → SelectionSet
     → List rust.ClashingSet → List rust.ClashingSet → Type 0
-AddsIfClashing reached first set old new = (rows : List (List ℕ)) (numbers : List ℕ) (spread : List ℕ → List ℕ)
+AddsIfClashing reached first set old new =
+    (rows : List (List ℕ)) (numbers : List ℕ) (spread : List ℕ → List ℕ)
     → IsReached rows (renumbered numbers (members_in spread first set)) reached
     → AreClashingAdded rows numbers spread (own_set spread first set) old new

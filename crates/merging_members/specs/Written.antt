@@ -61,7 +61,8 @@ AreOwn numbers spread n [] (r ∷ rs) = ⊥
 AreOwn numbers spread n (b ∷ bs) [] = ⊥
 
 -- further rows, which are those of these fields
-pub record AreAdded (numbers : List ℕ) (spread : List ℕ → List ℕ) (n : ℕ) (bs : List Below) (old new : List (List ℕ)) : Type 0 where
+pub record AreAdded (numbers : List ℕ) (spread : List ℕ → List ℕ) (n : ℕ) (bs : List Below)
+    (old new : List (List ℕ)) : Type 0 where
   pub rows : List (List ℕ)
   pub whole : new ≡ old ++ rows
   pub own : AreOwn numbers spread n bs rows

@@ -32,7 +32,8 @@ pub(crate) fn fields_in(set: &SelectionSet) -> usize
 /// The fields that stand in a selection, up to as many as can be counted: a field itself, with those below it.
 #[cycle(counting)]
 pub(crate) fn fields_from(selection: &Selection) -> usize
-    ensures { result ≡ capped (count_from (selection_of selection.now)) }
+    ensures { result ≡ capped
+        (count_from (selection_of selection.now)) }
 {
     match selection {
         Selection::Field(field) => match &field.selection_set {
@@ -61,7 +62,8 @@ pub fn fragment_starts(
     first: usize,
     fragments: &[Fragment],
 ) -> Result<Vec<usize>, AllocError>
-    requires { first + count_fragments (map fragment_of fragments.now) < 2 ^ 64 }
+    requires { first + count_fragments
+        (map fragment_of fragments.now) < 2 ^ 64 }
     ensures { IfOk result (λ starts.
         starts.items ≡ starts_from first (map fragment_of fragments.now)) }
 {

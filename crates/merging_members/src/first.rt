@@ -21,11 +21,13 @@ pub fn first_member<'d>(
     keys: &FieldSet,
     set: ClashingSet<'d>,
 ) -> Option<usize>
-    requires len { length table.now ≡ length (document_in source.now).fragments }
+    requires len { length table.now
+        ≡ length (document_in source.now).fragments }
     requires ranked { ∥ AreRanked (place_in (document_in source.now).fragments)
         (document_in source.now).fragments ∥₁ }
     requires inside { set.first + count_in (set_of set.set.now) ≤ length source.now.numbers.now }
-    ensures { FindsFirst source.now table.now keys.now set.entry result }
+    ensures { FindsFirst source.now
+        table.now keys.now set.entry result }
 {
     let walk = FragmentMembers {
         targets: source.targets,

@@ -25,10 +25,12 @@ pub(crate) fn start_of(starts: &[usize], number: usize) -> usize
 
 /// The set of a fragment, with the number of its first field.
 pub(crate) fn fragment_set<'d>(source: &NumberedDocument<'_, 'd>, target: usize) -> ClashingSet<'d>
-    requires there { target < length (document_in source.now).fragments }
+    requires there { target < length
+        (document_in source.now).fragments }
     ensures set { (f : Fragment) → slice_get (document_in source.now).fragments target ≡ Some f
         → set_of result.set.now ≡ f.selection_set }
-    ensures members { HasMembersAt source.now target result }
+    ensures members { HasMembersAt
+        source.now target result }
     ensures inside { result.first + count_in (set_of result.set.now)
         ≤ length source.now.numbers.now }
 {
@@ -44,9 +46,12 @@ fn learn_fragment(
     table: &[ReachedFields],
     number: usize,
 ) -> ReachedFields
-    requires there { number < length (document_in source.now).fragments }
-    requires len { length table.now ≡ length (document_in source.now).fragments }
-    ensures { LearnsOf source.now table.now number (λ ms. IsReached source.now.rows.now ms result) }
+    requires there { number < length
+        (document_in source.now).fragments }
+    requires len { length table.now
+        ≡ length (document_in source.now).fragments }
+    ensures { LearnsOf source.now table.now number
+        (λ ms. IsReached source.now.rows.now ms result) }
 {
     let walk = FragmentMembers {
         targets: source.targets,
@@ -60,9 +65,12 @@ fn learn_fragment(
 
 // Computes the members of a fragment, where those of the fragments that it spreads are known.
 fn learn(source: &NumberedDocument, table: &mut Vec<ReachedFields>, number: usize)
-    requires there { number < length (document_in source.now).fragments }
-    requires len { length table.old.items ≡ length (document_in source.now).fragments }
-    ensures len { length table.new.items ≡ length table.old.items }
+    requires there { number < length
+        (document_in source.now).fragments }
+    requires len { length table.old.items
+        ≡ length (document_in source.now).fragments }
+    ensures len { length table.new.items
+        ≡ length table.old.items }
     ensures others { (j : ℕ) → (j ≡ number → ⊥)
         → slice_get table.new.items j ≡ slice_get table.old.items j }
     ensures own { LearnsOf source.now table.old.items number (λ ms.

@@ -29,8 +29,10 @@ fn gather_set(
     first: usize,
     rows: &mut Vec<FieldSet>,
 ) -> Result<GatheredSet, AllocError>
-    requires inside { first + count_in (set_of set.now) ≤ length walk.now.numbers.now }
-    ensures next { IfOk result (λ gathered. gathered.next ≡ first + count_in (set_of set.now)) }
+    requires inside { first + count_in (set_of set.now)
+        ≤ length walk.now.numbers.now }
+    ensures next { IfOk result (λ gathered.
+        gathered.next ≡ first + count_in (set_of set.now)) }
     ensures reached { IfOk result (λ gathered.
         ReachesAll walk.now (λ spread. members_in spread first (set_of set.now)) gathered.reached) }
     ensures rows { OnOk result (AddsRows walk.now first
@@ -55,7 +57,8 @@ fn gather(
 ) -> Result<usize, AllocError>
     requires inside { number + count_from (selection_of selection.now)
         ≤ length walk.now.numbers.now }
-    ensures next { IfOk result (λ next. next ≡ number + count_from (selection_of selection.now)) }
+    ensures next { IfOk result (λ next. next ≡ number
+        + count_from (selection_of selection.now)) }
     ensures reached { OnOk result (Gains walk.now (λ spread.
         members_from spread number (selection_of selection.now)) reached.old reached.new) }
     ensures rows { OnOk result (AddsRows walk.now number
@@ -86,8 +89,10 @@ fn gather_field(
     number: usize,
     rows: &mut Vec<FieldSet>,
 ) -> Result<usize, AllocError>
-    requires inside { number + 1 + count_below (below_of below.now) ≤ length walk.now.numbers.now }
-    ensures next { IfOk result (λ next. next ≡ number + 1 + count_below (below_of below.now)) }
+    requires inside { number + 1 + count_below
+        (below_of below.now) ≤ length walk.now.numbers.now }
+    ensures next { IfOk result (λ next. next
+        ≡ number + 1 + count_below (below_of below.now)) }
     ensures rows { OnOk result (AddsRows walk.now number (below_of below.now ∷ belows
         (written_below (below_of below.now))) rows.old.items rows.new.items) }
 {

@@ -40,8 +40,10 @@ fn field_met(walk: &FragmentMembers, keys: &FieldSet, number: usize) -> Option<M
 
 // Tells whether a member of the fragment of a name passes.
 fn fragment_met(walk: &FragmentMembers, keys: &FieldSet, name: &str) -> Option<Met>
-    ensures met { MeetsFirst walk.now keys.now (λ spread. spread name.now) result }
-    ensures spread { MeetsSpread walk.now (λ test. test name.now) result }
+    ensures met { MeetsFirst walk.now keys.now
+        (λ spread. spread name.now) result }
+    ensures spread { MeetsSpread walk.now
+        (λ test. test name.now) result }
 {
     match walk.targets.get(name) {
         Some(target) => {
@@ -71,10 +73,12 @@ pub fn first_met(
     set: &SelectionSet,
     first: usize,
 ) -> Option<Met>
-    requires inside { first + count_in (set_of set.now) ≤ length walk.now.numbers.now }
+    requires inside { first + count_in (set_of set.now)
+        ≤ length walk.now.numbers.now }
     ensures met { MeetsFirst walk.now keys.now (λ spread.
         members_in spread first (set_of set.now)) result }
-    ensures spread { MeetsSpread walk.now (λ test. spreads_in test (set_of set.now)) result }
+    ensures spread { MeetsSpread walk.now
+        (λ test. spreads_in test (set_of set.now)) result }
 {
     match come_through(walk, keys, set, first) {
         Came::Met(met) => Some(met),
@@ -85,8 +89,10 @@ pub fn first_met(
 // Walks through a set up to the first member that passes.
 #[cycle(meeting)]
 fn come_through(walk: &FragmentMembers, keys: &FieldSet, set: &SelectionSet, first: usize) -> Came
-    requires inside { first + count_in (set_of set.now) ≤ length walk.now.numbers.now }
-    ensures past { IsPast (first + count_in (set_of set.now)) result }
+    requires inside { first + count_in (set_of set.now)
+        ≤ length walk.now.numbers.now }
+    ensures past { IsPast (first
+        + count_in (set_of set.now)) result }
     ensures met { MeetsFirst walk.now keys.now (λ spread.
         members_in spread first (set_of set.now)) (met_of result) }
     ensures spread { MeetsSpread walk.now (λ test.
@@ -107,7 +113,8 @@ fn come_through(walk: &FragmentMembers, keys: &FieldSet, set: &SelectionSet, fir
 fn come_past(walk: &FragmentMembers, keys: &FieldSet, selection: &Selection, number: usize) -> Came
     requires inside { number + count_from (selection_of selection.now)
         ≤ length walk.now.numbers.now }
-    ensures past { IsPast (number + count_from (selection_of selection.now)) result }
+    ensures past { IsPast (number
+        + count_from (selection_of selection.now)) result }
     ensures met { MeetsFirst walk.now keys.now (λ spread.
         members_from spread number (selection_of selection.now)) (met_of result) }
     ensures spread { MeetsSpread walk.now (λ test.

@@ -5,7 +5,7 @@ ghost use Rattle.gq_parser.specs.Tree as tree;
 ghost use Rattle.gq_parser.specs.Tree.{document_of};
 ghost use Rattle.merging_members.specs.Fragments.{place_in};
 ghost use Rattle.merging_members.specs.Members.{count_fields, members_of_fragment, fragment_starts};
-ghost use Rattle.merging_members.specs.Placed.{HasPlaceIn, ArePlacedIn, OwnHavePlaces, AreReadyIn, AreDone, IsNumbering};
+ghost use Rattle.merging_members.specs.Placed.{HasPlaceIn, HasFragments, ArePlacedIn, OwnHavePlaces, AreReadyIn, AreDone, IsNumbering};
 ghost use Rattle.merging_members.specs.Ranked.{IsOrder};
 ghost use Rattle.merging_members.specs.SetMembers.{IsFixed};
 
@@ -37,10 +37,14 @@ fn has_place(numbering: &Numbering, field: usize) -> bool
 
 // Gives a field the next place, unless it has one.
 fn place(numbering: &mut Numbering, field: usize) -> Result<(), AllocError>
-    requires there { field < length numbering.old.numbers.items }
-    ensures len { length numbering.new.numbers.items ≡ length numbering.old.numbers.items }
-    ensures own { OnOk result (HasPlaceIn numbering.new field) }
-    ensures kept { (a : ℕ) → HasPlaceIn numbering.old a → OnOk result (HasPlaceIn numbering.new a) }
+    requires there { field < length
+        numbering.old.numbers.items }
+    ensures len { length numbering.new.numbers.items
+        ≡ length numbering.old.numbers.items }
+    ensures own { OnOk result
+        (HasPlaceIn numbering.new field) }
+    ensures kept { (a : ℕ) → HasPlaceIn numbering.old a
+        → OnOk result (HasPlaceIn numbering.new a) }
     ensures placed { (d : tree.Document) → ArePlacedIn d numbering.old
         → OwnHavePlaces d numbering.old field → OnOk result (ArePlacedIn d numbering.new) }
 {
@@ -55,10 +59,14 @@ fn place(numbering: &mut Numbering, field: usize) -> Result<(), AllocError>
 
 // Gives the fields from `first` to before `end` the next places, from the last to the first.
 fn place_all(numbering: &mut Numbering, first: usize, end: usize) -> Result<(), AllocError>
-    requires there { end ≤ length numbering.old.numbers.items }
-    ensures len { length numbering.new.numbers.items ≡ length numbering.old.numbers.items }
-    ensures own { (a : ℕ) → first ≤ a → a < end → OnOk result (HasPlaceIn numbering.new a) }
-    ensures kept { (a : ℕ) → HasPlaceIn numbering.old a → OnOk result (HasPlaceIn numbering.new a) }
+    requires there { end ≤ length
+        numbering.old.numbers.items }
+    ensures len { length numbering.new.numbers.items
+        ≡ length numbering.old.numbers.items }
+    ensures own { (a : ℕ) → first ≤ a → a < end
+        → OnOk result (HasPlaceIn numbering.new a) }
+    ensures kept { (a : ℕ) → HasPlaceIn numbering.old a
+        → OnOk result (HasPlaceIn numbering.new a) }
     ensures placed { (d : tree.Document) → ArePlacedIn d numbering.old
         → AreReadyIn d numbering.old first end → OnOk result (ArePlacedIn d numbering.new) }
 {
@@ -76,15 +84,13 @@ fn place_fragments(
     fragments: &[usize],
 ) -> Result<(), AllocError>
     requires none { numbering.old.order.items ≡ [] }
-    requires few { length numbering.old.numbers.items ≤ 1024 }
+    requires few { length numbering.old.numbers.items
+        ≤ 1024 }
     requires counted { count_fields (document_of document.now)
         ≤ length numbering.old.numbers.items }
-    requires started { starts.now ≡ fragment_starts (document_of document.now) }
-    requires fragments { IsOrder fragments.now
-        (place_in (document_of document.now).fragments) (document_of document.now).fragments }
-    requires fixed { IsFixed (members_of_fragment (document_of document.now))
-        (document_of document.now) }
-    ensures len { length numbering.new.numbers.items ≡ length numbering.old.numbers.items }
+    requires fragments { HasFragments (document_of document.now) starts.now fragments.now }
+    ensures len { length numbering.new.numbers.items
+        ≡ length numbering.old.numbers.items }
     ensures done { OnOk result (AreDone (document_of document.now)
         fragments.now numbering.new.order.items numbering.new.numbers.items) }
 {
@@ -106,8 +112,10 @@ pub fn numbering_of(
     count: usize,
 ) -> Result<Numbering, AllocError>
     requires few { count ≤ 1024 }
-    requires counted { count ≡ count_fields (document_of document.now) }
-    requires started { starts.now ≡ fragment_starts (document_of document.now) }
+    requires counted { count ≡ count_fields
+        (document_of document.now) }
+    requires started { starts.now
+        ≡ fragment_starts (document_of document.now) }
     requires fragments { IsOrder fragments.now
         (place_in (document_of document.now).fragments) (document_of document.now).fragments }
     requires fixed { IsFixed (members_of_fragment (document_of document.now))

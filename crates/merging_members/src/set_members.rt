@@ -22,15 +22,18 @@ pub(crate) fn add_field(walk: &FragmentMembers, number: usize, reached: &mut Rea
 
 /// Returns what the fragment of a number has.
 pub(crate) fn known_at<'a>(walk: &FragmentMembers<'a, '_>, number: usize) -> &'a ReachedFields
-    requires there { number < length walk.now.fragments.now }
-    ensures { slice_get walk.now.fragments.now number ≡ Some result.now }
+    requires there { number < length
+        walk.now.fragments.now }
+    ensures { slice_get walk.now.fragments.now number
+        ≡ Some result.now }
 {
     &walk.fragments[number]
 }
 
 /// Adds what the fragment of a name has.
 pub(crate) fn add_fragment(walk: &FragmentMembers, name: &str, reached: &mut ReachedFields)
-    ensures { GainsAt walk.now name.now reached.old reached.new }
+    ensures { GainsAt walk.now name.now
+        reached.old reached.new }
 {
     match walk.targets.get(name) {
         Some(target) => reached.add_all(known_at(walk, *target)),
@@ -41,7 +44,8 @@ pub(crate) fn add_fragment(walk: &FragmentMembers, name: &str, reached: &mut Rea
 /// Returns what a set has whose first field has the number `first`, where what the fragments that it spreads have
 /// is known.
 pub fn reached_in(walk: &FragmentMembers, set: &SelectionSet, first: usize) -> ReachedFields
-    requires inside { first + count_in (set_of set.now) ≤ length walk.now.numbers.now }
+    requires inside { first + count_in (set_of set.now)
+        ≤ length walk.now.numbers.now }
     ensures { ReachesWhere walk.now (λ test. spreads_in test (set_of set.now))
         (λ spread. members_in spread first (set_of set.now)) result }
 {
@@ -58,9 +62,12 @@ fn enter_set(
     first: usize,
     reached: &mut ReachedFields,
 ) -> usize
-    requires inside { first + count_in (set_of set.now) ≤ length walk.now.numbers.now }
-    ensures next { result ≡ first + count_in (set_of set.now) }
-    ensures reached { GainsIn walk.now first (set_of set.now) reached.old reached.new }
+    requires inside { first + count_in (set_of set.now)
+        ≤ length walk.now.numbers.now }
+    ensures next { result ≡ first
+        + count_in (set_of set.now) }
+    ensures reached { GainsIn walk.now first
+        (set_of set.now) reached.old reached.new }
 {
     let mut next = first;
     for selection in &set.selections {
@@ -79,7 +86,8 @@ fn enter(
 ) -> usize
     requires inside { number + count_from (selection_of selection.now)
         ≤ length walk.now.numbers.now }
-    ensures next { result ≡ number + count_from (selection_of selection.now) }
+    ensures next { result ≡ number
+        + count_from (selection_of selection.now) }
     ensures reached { GainsFrom walk.now number
         (selection_of selection.now) reached.old reached.new }
 {

@@ -37,8 +37,10 @@ pub fn add_clashing<'d>(
     first: usize,
     clashing: &mut Vec<ClashingSet<'d>>,
 ) -> Result<usize, AllocError>
-    requires inside { first + count_in (set_of set.now) ≤ length walk.now.numbers.now }
-    ensures next { IfOk result (λ next. next ≡ first + count_in (set_of set.now)) }
+    requires inside { first + count_in (set_of set.now)
+        ≤ length walk.now.numbers.now }
+    ensures next { IfOk result
+        (λ next. next ≡ first + count_in (set_of set.now)) }
     ensures sets { OnOk result (AddsClashing walk.now (λ spread.
         sets_in spread first (set_of set.now)) clashing.old.items clashing.new.items) }
     ensures inside { AreInside (length walk.now.numbers.now) clashing.old.items
@@ -57,8 +59,8 @@ fn note<'d>(
 ) -> Result<(), AllocError>
     ensures sets { OnOk result
         (AddsIfClashing reached.now first (set_of set.now) clashing.old.items clashing.new.items) }
-    ensures inside { (many : ℕ) → first + count_in (set_of set.now) ≤ many → AreInside many clashing.old.items
-        → OnOk result (AreInside many clashing.new.items) }
+    ensures inside { (many : ℕ) → first + count_in (set_of set.now) ≤ many
+        → AreInside many clashing.old.items → OnOk result (AreInside many clashing.new.items) }
 {
     if reached.has_clash() {
         clashing.push(ClashingSet { set, first })?;
@@ -74,8 +76,10 @@ fn visit_set<'d>(
     first: usize,
     clashing: &mut Vec<ClashingSet<'d>>,
 ) -> Result<VisitedSet, AllocError>
-    requires inside { first + count_in (set_of set.now) ≤ length walk.now.numbers.now }
-    ensures next { IfOk result (λ visited. visited.next ≡ first + count_in (set_of set.now)) }
+    requires inside { first + count_in (set_of set.now)
+        ≤ length walk.now.numbers.now }
+    ensures next { IfOk result (λ visited.
+        visited.next ≡ first + count_in (set_of set.now)) }
     ensures reached { IfOk result (λ visited.
         ReachesAll walk.now (λ spread. members_in spread first (set_of set.now)) visited.reached) }
     ensures clashing { OnOk result (AddsClashing walk.now (λ spread.
@@ -103,11 +107,12 @@ fn visit<'d>(
 ) -> Result<usize, AllocError>
     requires inside { number + count_from (selection_of selection.now)
         ≤ length walk.now.numbers.now }
-    ensures next { IfOk result (λ next. next ≡ number + count_from (selection_of selection.now)) }
+    ensures next { IfOk result (λ next. next ≡ number
+        + count_from (selection_of selection.now)) }
     ensures reached { OnOk result (Gains walk.now (λ spread.
         members_from spread number (selection_of selection.now)) reached.old reached.new) }
-    ensures clashing { OnOk result (AddsClashing walk.now (λ spread. sets_from spread number (selection_of selection.now))
-        clashing.old.items clashing.new.items) }
+    ensures clashing { OnOk result (AddsClashing walk.now (λ spread. sets_from spread number
+        (selection_of selection.now)) clashing.old.items clashing.new.items) }
     ensures inside { AreInside (length walk.now.numbers.now) clashing.old.items
         → OnOk result (AreInside (length walk.now.numbers.now) clashing.new.items) }
 {
@@ -136,8 +141,10 @@ fn visit_below<'d>(
     first: usize,
     clashing: &mut Vec<ClashingSet<'d>>,
 ) -> Result<usize, AllocError>
-    requires inside { first + count_below (below_of below.now) ≤ length walk.now.numbers.now }
-    ensures next { IfOk result (λ next. next ≡ first + count_below (below_of below.now)) }
+    requires inside { first + count_below
+        (below_of below.now) ≤ length walk.now.numbers.now }
+    ensures next { IfOk result (λ next.
+        next ≡ first + count_below (below_of below.now)) }
     ensures clashing { OnOk result (AddsClashing walk.now (λ spread.
         sets_below spread first (below_of below.now)) clashing.old.items clashing.new.items) }
     ensures inside { AreInside (length walk.now.numbers.now) clashing.old.items

@@ -26,7 +26,8 @@ pub record MarkedKey (one_key : ℕ → ℕ → Bool) (members marks : List ℕ)
   pub mark : has marks one ≡ true
 
 -- a test tells whether there is one
-pub record TestsKey (one_key : ℕ → ℕ → Bool) (members marks : List ℕ) (n f : ℕ) (tested : Bool) : Type 0 where
+pub record TestsKey (one_key : ℕ → ℕ → Bool) (members marks : List ℕ) (n f : ℕ)
+    (tested : Bool) : Type 0 where
   pub found : tested ≡ true → MarkedKey one_key members marks n f
   pub none : tested ≡ false → MarkedKey one_key members marks n f → ⊥
 

@@ -4,7 +4,8 @@ use Rattle.merging_pairs.specs.Merging.{Fields}
 use Rattle.merging_pairs.specs.Numbered.{is_in}
 
 -- Of the first n fields of D, the field a has the number `to a` in E, and its members are those of a list.
-pub record IsRenumbered (D E : Fields ℕ) (n : ℕ) (to from : ℕ → ℕ) (members : ℕ → List ℕ) : Type 0 where
+pub record IsRenumbered (D E : Fields ℕ) (n : ℕ) (to from : ℕ → ℕ)
+    (members : ℕ → List ℕ) : Type 0 where
   pub there : (a : ℕ) → a < n → to a < n
   pub back : (a : ℕ) → a < n → from (to a) ≡ a
   pub one_key : (a b : ℕ) → a < n → b < n → E.one_key (to a) (to b) ≡ D.one_key a b

@@ -20,7 +20,8 @@ abbrev pub IsBelow : List (List ℕ) → Type 0
 IsBelow rows = (b a : ℕ) → entry rows b a ≡ true → a < b
 
 -- a test tells whether the pair fails
-pub record Tells {F : Type 0} (P : F → F → Type 0) (D : Fields F) (a b : F) (fails : Bool) : Type 0 where
+pub record Tells {F : Type 0} (P : F → F → Type 0) (D : Fields F) (a b : F)
+    (fails : Bool) : Type 0 where
   pub apart : fails ≡ true → a ≢ b
   pub one_key : fails ≡ true → D.one_key a b ≡ true
   pub breaks : fails ≡ true → P a b → ⊥
@@ -87,10 +88,12 @@ pub record TestsJoined (marks inner members : List ℕ) (a b : ℕ) (fails : Boo
 
 -- tells whether a pair fails, where `joined` tells whether its members do
 abbrev pub fails_with : MergeRecursion → Fields ℕ → List (List ℕ) → Bool → ℕ → ℕ → Bool
-fails_with rule D shapes joined a b = fails_itself rule D shapes a b || (asks_members rule D a b && joined)
+fails_with rule D shapes joined a b =
+    fails_itself rule D shapes a b || (asks_members rule D a b && joined)
 
 -- says what a test of a later field b says of an earlier one
-pub record TestsPair (rule : MergeRecursion) (D : Fields ℕ) (shapes : List (List ℕ)) (marks inner members : List ℕ) (a b : ℕ) (fails : Bool) : Type 0 where
+pub record TestsPair (rule : MergeRecursion) (D : Fields ℕ) (shapes : List (List ℕ))
+    (marks inner members : List ℕ) (a b : ℕ) (fails : Bool) : Type 0 where
   pub other_key : D.one_key a b ≡ false → fails ≡ false
   pub one_key : D.one_key a b ≡ true → (joined : Bool)
       × TestsJoined marks inner members a b joined × (fails ≡ fails_with rule D shapes joined a b)

@@ -49,14 +49,16 @@ impl FieldSet {
     /// Adds a field.
     pub fn insert(&mut self, field: usize)
         requires { field < 1024 }
-        ensures { (i : ℕ) → has self.new i ≡ (has self.old i || (i == field)) }
+        ensures { (i : ℕ) → has self.new i
+            ≡ (has self.old i || (i == field)) }
     {
         self.words[field / 64] |= 1 << (field % 64);
     }
 
     /// Adds all fields of another row.
     pub fn add_all(&mut self, other: &FieldSet)
-        ensures { (i : ℕ) → has self.new i ≡ (has self.old i || has other.now i) }
+        ensures { (i : ℕ) → has self.new i
+            ≡ (has self.old i || has other.now i) }
     {
         for k in 0..WORDS {
             self.words[k] |= other.words[k];
@@ -77,7 +79,8 @@ impl FieldSet {
 
     /// Tells whether the row has no field. Only such a row has none in common with itself.
     pub(crate) fn is_empty(&self) -> bool
-        ensures { MatchBool result (IsEmpty self.now) (IsEmpty self.now → ⊥) }
+        ensures { MatchBool result (IsEmpty self.now)
+            (IsEmpty self.now → ⊥) }
     {
         !self.meets(self)
     }

@@ -29,7 +29,8 @@ fn note_key(keys: &mut FieldSet, fields: &[Field], reached: &ReachedFields, f: u
     requires f { f < length fields.now }
     requires most { length fields.now ≤ 1024 }
     requires absent { has keys.old f ≡ false }
-    ensures others { (a : ℕ) → a ≢ f → has keys.new a ≡ has keys.old a }
+    ensures others { (a : ℕ) → a ≢ f
+        → has keys.new a ≡ has keys.old a }
     ensures own { TestsKey (fields_of fields.now).one_key reached.now.members
         reached.now.marks (length fields.now) f (has keys.new f) }
 {

@@ -14,8 +14,10 @@ use std::alloc::{AllocError, Global};
 pub fn failing_pairs(alloc: Global, fields: &[Field]) -> Result<Vec<FieldSet>, AllocError>
     requires most { length fields.now ≤ 1024 }
     requires order { AreInOrder fields.now }
-    ensures len { IfOk result (λ rows. length rows.items ≡ length fields.now) }
-    ensures below { IfOk result (λ rows. IsBelow rows.items) }
+    ensures len { IfOk result
+        (λ rows. length rows.items ≡ length fields.now) }
+    ensures below { IfOk result
+        (λ rows. IsBelow rows.items) }
     ensures tells { IfOk result (λ rows. TellsAll (Merges (fields_of fields.now))
         (fields_of fields.now) (length fields.now) rows.items) }
 {

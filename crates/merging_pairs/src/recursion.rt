@@ -57,7 +57,8 @@ impl Recursion<'_> {
     pub fn asks_members(&self, a: usize, b: usize) -> bool
         requires a { a < length self.now.fields.now }
         requires b { b < length self.now.fields.now }
-        ensures { result ≡ asks_members self.now.rule (fields_of self.now.fields.now) a b }
+        ensures { result ≡ asks_members self.now.rule
+            (fields_of self.now.fields.now) a b }
     {
         match self.rule {
             MergeRecursion::Shape => true,

@@ -19,7 +19,8 @@ pub struct ReachedFields {
 impl ReachedFields {
     /// Nothing in it.
     pub fn new() -> ReachedFields
-        ensures { (rows : List (List ℕ)) → IsReached rows [] result }
+        ensures { (rows : List (List ℕ))
+            → IsReached rows [] result }
     {
         ReachedFields {
             members: FieldSet::new(),

@@ -14,7 +14,8 @@ use std::alloc::{AllocError, Global};
 fn marks_of(rows: &[FieldSet], members: &FieldSet) -> FieldSet
     requires most { length rows.now ≤ 1024 }
     requires below { IsBelow rows.now }
-    requires members { (c : ℕ) → has members.now c ≡ true → c < length rows.now }
+    requires members { (c : ℕ) → has members.now c ≡ true
+        → c < length rows.now }
     ensures { AreMarks rows.now (has members.now) result }
 {
     let mut marks = FieldSet::new();
@@ -36,7 +37,8 @@ fn marks_of(rows: &[FieldSet], members: &FieldSet) -> FieldSet
 pub(crate) fn marks_of_field(rows: &[FieldSet], field: usize) -> FieldSet
     requires known { field < length rows.now }
     requires most { length rows.now ≤ 1024 }
-    ensures { AreMarks rows.now (is_in (field ∷ [])) result }
+    ensures { AreMarks rows.now
+        (is_in (field ∷ [])) result }
 {
     let mut marks = FieldSet::new();
     marks.add_all(&rows[field]);
@@ -54,7 +56,8 @@ fn joined_fails(fields: &[Field], marks: &FieldSet, inner: &FieldSet, a: usize, 
     requires a { a < length fields.now }
     requires b { b < length fields.now }
     requires most { length fields.now ≤ 1024 }
-    ensures { TestsJoined marks.now inner.now (members_at fields.now a) a b result }
+    ensures { TestsJoined marks.now inner.now
+        (members_at fields.now a) a b result }
 {
     inner.has(a) || inner.has(b) || marks.meets(&fields[a].members)
 }
@@ -73,7 +76,8 @@ pub(crate) fn is_one_key(fields: &[Field], a: usize, b: usize) -> bool
 fn pair_fails(recursion: &Recursion, marks: &FieldSet, inner: &FieldSet, a: usize, b: usize) -> bool
     requires a { a < length recursion.now.fields.now }
     requires b { b < length recursion.now.fields.now }
-    ensures { TestsFields recursion.now marks.now inner.now a b result }
+    ensures { TestsFields recursion.now
+        marks.now inner.now a b result }
 {
     let fields = recursion.fields;
     if !is_one_key(fields, a, b) {
@@ -104,8 +108,10 @@ fn next_row(recursion: &Recursion, marks: &FieldSet, inner: &FieldSet, b: usize)
 fn note_inner(inner: &mut FieldSet, marks: &FieldSet, members: &FieldSet, b: usize)
     requires small { b < 1024 }
     requires absent { has inner.old b ≡ false }
-    ensures others { (a : ℕ) → a ≢ b → has inner.new a ≡ has inner.old a }
-    ensures own { Meets marks.now members.now (has inner.new b) }
+    ensures others { (a : ℕ) → a ≢ b
+        → has inner.new a ≡ has inner.old a }
+    ensures own { Meets marks.now members.now
+        (has inner.new b) }
 {
     if marks.meets(members) {
         inner.insert(b);
@@ -130,9 +136,12 @@ pub(crate) fn table(
 ) -> Result<Vec<FieldSet>, AllocError>
     requires most { length fields.now ≤ 1024 }
     requires order { AreInOrder fields.now }
-    requires ready { IsReady rule (fields_of fields.now) (length fields.now) shapes.now }
-    ensures len { IfOk result (λ rows. length rows.items ≡ length fields.now) }
-    ensures below { IfOk result (λ rows. IsBelow rows.items) }
+    requires ready { IsReady rule (fields_of fields.now)
+        (length fields.now) shapes.now }
+    ensures len { IfOk result
+        (λ rows. length rows.items ≡ length fields.now) }
+    ensures below { IfOk result
+        (λ rows. IsBelow rows.items) }
     ensures tells { IfOk result (λ rows. TellsAll (Holds rule (fields_of fields.now))
         (fields_of fields.now) (length fields.now) rows.items) }
 {

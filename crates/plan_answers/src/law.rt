@@ -8,8 +8,8 @@ use load_queue::LocalSource;
 
 /// The headline for a plan. Each plan is of a document that keeps every rule, so the whole sentence holds of its answer.
 pub fn answers_of_plans<S: LocalSource>(plan: &Plan)
-    ensures { let p = plan_of plan.now in (old new : _) (text : _) (n : _) → ExecutesPlan S.may_tell old new p text n
-        → AnswersPlan S.may_tell old new p text n }
+    ensures { let p = plan_of plan.now in (old new : _) (text : _) (n : _)
+        → ExecutesPlan S.may_tell old new p text n → AnswersPlan S.may_tell old new p text n }
 {
     let _ = plan.operation();
 }

@@ -6,4 +6,5 @@ use Rattle.plan_program.specs.PlanPrograms.{prepared_program, object_program, ro
 
 -- the program of a plan whose objects have `levels` levels of fields
 abbrev pub program_with : PlanOf → ℕ → Program
-program_with plan levels = prepared_program plan.definitions (object_program plan levels) (root_prepared plan) []
+program_with plan levels =
+    prepared_program plan.definitions (object_program plan levels) (root_prepared plan) []

@@ -34,7 +34,8 @@ pub record IsAskedBy (g : GroupOf) (f : FieldOf) : Type 0 where
 -- The groups that the execution of a plan can meet, each with the type of the object that it is of: those of the root, and
 -- those of an object below a group that it meets.
 pub data CanBeMet (plan : PlanOf) : List ℕ → GroupOf → Type 0 where
-  of_root : {g : GroupOf} → IsOneOf g (collect plan (root_in plan.definitions) (selections_in plan.operation.selection_set)) → CanBeMet plan (root_in plan.definitions) g
+  of_root : {g : GroupOf} → IsOneOf g (collect plan (root_in plan.definitions)
+      (selections_in plan.operation.selection_set)) → CanBeMet plan (root_in plan.definitions) g
   inside : {ty object : List ℕ} {g h : GroupOf} {f : FieldOf} {d : Field}
       → CanBeMet plan ty g → IsAskedBy g f → field_in plan.definitions ty f.name ≡ Some d
       → MayStand plan.definitions (core_of d.of_type).text object
@@ -53,7 +54,8 @@ pub record HasFirst (g : GroupOf) : Type 0 where
   pub is : g.fields ≡ first ∷ others
 
 -- a literal that the field is given for an argument of its definition in the object type
-pub record IsGiven (plan : PlanOf) (ty : List ℕ) (f : FieldOf) (a : Argument) (v : Value) : Type 0 where
+pub record IsGiven (plan : PlanOf) (ty : List ℕ) (f : FieldOf) (a : Argument)
+    (v : Value) : Type 0 where
   pub definition : Field
   pub defined : field_in plan.definitions ty f.name ≡ Some definition
   pub name : List ℕ
@@ -91,10 +93,14 @@ pub record IsBound (b : BindingsOf) (ty name : List ℕ) : Type 0 where
 -- gives what a binding asks, with its loaders there
 abbrev pub asked_by_binding : TypeTree → ChildrenOf → List ValueOf → BindingOf → ValueFrom
 asked_by_binding t below values (by_column column) = cell column t
-asked_by_binding t below values (by_one loader key) = with_key (key_from values key) (λ k. first_row loader k below)
-asked_by_binding t below values (by_many loader key) = with_key (key_from values key) (λ k. all_rows loader k below)
-asked_by_binding t below values (by_each loader name) = each_asked loader below (input_named name values)
-asked_by_binding t below values (by_via loader key steps) = with_key (key_from values key) (λ k. joined_rows loader k steps below)
+asked_by_binding t below values (by_one loader key) =
+    with_key (key_from values key) (λ k. first_row loader k below)
+asked_by_binding t below values (by_many loader key) =
+    with_key (key_from values key) (λ k. all_rows loader k below)
+asked_by_binding t below values (by_each loader name) =
+    each_asked loader below (input_named name values)
+asked_by_binding t below values (by_via loader key steps) =
+    with_key (key_from values key) (λ k. joined_rows loader k steps below)
 
 -- The object type has a definition of the field, this is bound, and what the group asks is what the binding asks with the
 -- arguments' values.
@@ -103,7 +109,8 @@ pub record AsksItsBinding (plan : PlanOf) (ty : List ℕ) (g : GroupOf) (f : Fie
   pub defined : field_in plan.definitions ty f.name ≡ Some definition
   pub bound : IsBound plan.bindings ty f.name
   pub asks : (prepared plan ty g).asked ≡ with_arguments (arguments_of plan ty g)
-      (λ values. asked_by_binding definition.of_type (children_of definition.of_type f.place g.fields) values bound.binding)
+      (λ values. asked_by_binding definition.of_type
+      (children_of definition.of_type f.place g.fields) values bound.binding)
 
 -- a type has a definition of a field
 abbrev pub IsDefined : List Definition → List ℕ → List ℕ → Type 0

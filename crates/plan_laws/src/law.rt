@@ -20,7 +20,8 @@ ghost use Rattle.plan_program.specs.Groups.{FieldOf, GroupOf};
 pub fn collection_ends()
     ensures more { (plan : PlanOf) (ty : List ℕ) (left : ℕ)
         → length plan.fragments ≤ left → CollectsTheSame plan ty left }
-    ensures enters { (plan : PlanOf) (ty : List ℕ) → CollectsBySelections plan ty }
+    ensures enters { (plan : PlanOf) (ty : List ℕ)
+        → CollectsBySelections plan ty }
 {}
 
 /// More levels than a plan has change nothing: its operation has no path of more than 128 fields, fragments expanded, so its
@@ -46,8 +47,8 @@ pub fn fields_are_bound()
 pub fn met_fields_are_answered()
     ensures first { (plan : PlanOf) (ty : List ℕ) (g : GroupOf)
         → IsOverSchema plan → CanBeMet plan ty g → HasFirst g }
-    ensures defined { (plan : PlanOf) (ty : List ℕ) (g : GroupOf) (f : FieldOf) → IsOverSchema plan → IsMetBy plan ty g f
-        → IsDefined plan.definitions ty f.name }
+    ensures defined { (plan : PlanOf) (ty : List ℕ) (g : GroupOf) (f : FieldOf)
+        → IsOverSchema plan → IsMetBy plan ty g f → IsDefined plan.definitions ty f.name }
     ensures answered { (plan : PlanOf) (ty : List ℕ) (g : GroupOf) (f : FieldOf)
         → IsOverOne plan → IsMetBy plan ty g f → AsksItsBinding plan ty g f }
 {}
@@ -55,8 +56,8 @@ pub fn met_fields_are_answered()
 /// A literal that is given for an argument of a field that execution can meet is right at the argument's type, unless a
 /// variable in it has no value or null. So no other literal is a field error.
 pub fn literals_are_right()
-    ensures { (plan : PlanOf) (a : Argument) (v : Value) → IsOverSchema plan → CanHave plan a v → has_unset plan v ≡ false
-        → IsRight plan a.of_type v }
+    ensures { (plan : PlanOf) (a : Argument) (v : Value) → IsOverSchema plan
+        → CanHave plan a v → has_unset plan v ≡ false → IsRight plan a.of_type v }
 {}
 
 /// A server reads its bindings over its own schema, so each plan of its requests is over one schema, as

@@ -103,7 +103,8 @@ field_arguments plan given (Some f) = coerced_arguments plan given f.arguments
 
 abbrev pub first_arguments : PlanOf → List ℕ → List FieldOf → ArgumentsOf
 first_arguments plan ty [] = all_values []
-first_arguments plan ty (f ∷ fs) = field_arguments plan f.arguments (field_in plan.definitions ty f.name)
+first_arguments plan ty (f ∷ fs) =
+    field_arguments plan f.arguments (field_in plan.definitions ty f.name)
 
 -- the arguments of a group, by the definition of its field in the object type; all fields of a group have the same
 abbrev pub arguments_of : PlanOf → List ℕ → GroupOf → ArgumentsOf

@@ -13,7 +13,8 @@ collected_of c = record { groups = groups_of c.groups.items; entered = texts_of 
 
 -- gives what selections that are left collect
 abbrev pub collect_rest : PlanOf → List ℕ → Collected → Rest → Collected
-collect_rest plan ty so_far r = collect_all plan ty (entering plan ty r.enterable) so_far (map_selections r.selections.now)
+collect_rest plan ty so_far r =
+    collect_all plan ty (entering plan ty r.enterable) so_far (map_selections r.selections.now)
 
 abbrev pub collect_rest_if : PlanOf → List ℕ → Collected → Option Rest → Collected
 collect_rest_if plan ty so_far None = so_far
@@ -33,9 +34,12 @@ collect_rests plan ty so_far (r ∷ rs) = collect_rest plan ty (collect_rests pl
 -- gives what comes next collects, and then what is left; with nothing next, nothing is left
 abbrev pub collect_left : PlanOf → List ℕ → Collected → Option Rest → List Rest → Collected
 collect_left plan ty so_far None left = so_far
-collect_left plan ty so_far (Some r) left = collect_rests plan ty (collect_rest plan ty so_far r) left
+collect_left plan ty so_far (Some r) left =
+    collect_rests plan ty (collect_rest plan ty so_far r) left
 
 -- after some of rest was collected, what comes next and what is left then collect the same as before
 abbrev pub CollectsFirst : PlanOf → List ℕ → Rest → rust.CollectedFields
     → rust.CollectedFields → List Rest → List Rest → Option Rest → Type 0
-CollectsFirst plan ty rest old new left after next = collect_left plan ty (collected_of new) next after ≡ collect_left plan ty (collected_of old) (Some rest) left
+CollectsFirst plan ty rest old new left after next =
+    collect_left plan ty (collected_of new) next after
+    ≡ collect_left plan ty (collected_of old) (Some rest) left

@@ -76,14 +76,16 @@ key_if None = None
 key_if (Some i) = option_map (λ key. fixed key) (key_of_input i)
 
 abbrev pub part_from : List ValueOf → source.PartOf → PartFrom
-part_from values (source.argument_part name) = fixed_part (option_and_then text_of_input (input_named name values))
+part_from values (source.argument_part name) =
+    fixed_part (option_and_then text_of_input (input_named name values))
 part_from values (source.column_part column) = column_part column
 
 abbrev pub key_from : List ValueOf → source.KeyOf → Option KeyFrom
 key_from values (source.from_argument name) = key_if (input_named name values)
 key_from values (source.from_column column) = Some (of_column column)
 key_from values source.from_all = Some (fixed all)
-key_from values (source.from_pair one two) = Some (of_pair (part_from values one) (part_from values two))
+key_from values (source.from_pair one two) =
+    Some (of_pair (part_from values one) (part_from values two))
 
 abbrev pub keys_of : Inputs → List (Option KeyOf)
 keys_of no_input = []
@@ -93,14 +95,16 @@ keys_of (and_input i is) = key_of_input i ∷ keys_of is
 
 -- A loader that the bindings define. Bindings that are read of a text name no other; else the field is null.
 abbrev pub with_loader : PlanOf → ℕ → ValueFrom → ValueFrom
-with_loader plan loader asked = if nat_lt loader (length plan.bindings.loaders) then asked else known Null
+with_loader plan loader asked =
+    if nat_lt loader (length plan.bindings.loaders) then asked else known Null
 
 -- the later loaders of `via` are below `n`
 abbrev pub have_loaders : List StepOf → ℕ → Bool
 have_loaders steps n = list_all (λ (s : StepOf). nat_lt s.loader n) steps
 
 abbrev pub with_steps : PlanOf → List StepOf → ValueFrom → ValueFrom
-with_steps plan steps asked = if have_loaders steps (length plan.bindings.loaders) then asked else known Null
+with_steps plan steps asked =
+    if have_loaders steps (length plan.bindings.loaders) then asked else known Null
 
 -- no key gives null and makes no load
 abbrev pub with_key : Option KeyFrom → (KeyFrom → ValueFrom) → ValueFrom
@@ -120,11 +124,15 @@ abbrev pub bound_asked : PlanOf → TypeTree → ChildrenOf
     → List ValueOf → Option BindingOf → ValueFrom
 bound_asked plan t children values None = known Null
 bound_asked plan t children values (Some (by_column column)) = cell column t
-bound_asked plan t children values (Some (by_one loader key)) = with_loader plan loader (with_key (key_from values key) (λ k. first_row loader k children))
-bound_asked plan t children values (Some (by_many loader key)) = with_loader plan loader (with_key (key_from values key) (λ k. all_rows loader k children))
-bound_asked plan t children values (Some (by_each loader name)) = with_loader plan loader (each_asked loader children (input_named name values))
+bound_asked plan t children values (Some (by_one loader key)) =
+    with_loader plan loader (with_key (key_from values key) (λ k. first_row loader k children))
+bound_asked plan t children values (Some (by_many loader key)) =
+    with_loader plan loader (with_key (key_from values key) (λ k. all_rows loader k children))
+bound_asked plan t children values (Some (by_each loader name)) =
+    with_loader plan loader (each_asked loader children (input_named name values))
 bound_asked plan t children values (Some (by_via loader key steps)) =
-    with_loader plan loader (with_steps plan steps (with_key (key_from values key) (λ k. joined_rows loader k steps children)))
+    with_loader plan loader (with_steps plan steps
+    (with_key (key_from values key) (λ k. joined_rows loader k steps children)))
 
 -- ---- positions
 
@@ -133,7 +141,12 @@ item_type (Named p n non_null) = Named p n non_null
 item_type (ListOf p t non_null) = t
 
 abbrev pub children_of : TypeTree → Place → List FieldOf → ChildrenOf
-children_of t place fields = record { type_name = (core_of t).text; item_non_null = is_non_null (item_type t); place = place; fields = fields }
+children_of t place fields = record {
+  type_name = (core_of t).text;
+  item_non_null = is_non_null (item_type t);
+  place = place;
+  fields = fields;
+}
 
 -- an argument's field error is the field's fault
 abbrev pub with_arguments : ArgumentsOf → (List ValueOf → ValueFrom) → ValueFrom
@@ -146,11 +159,13 @@ position_of key place non_null = record { part = Key key; non_null = non_null; p
 -- gives what a group asks for by the definition of its field
 abbrev pub asked_by : PlanOf → List ℕ → FieldOf → GroupOf → Field → ValueFrom
 asked_by plan ty f g d =
-    with_arguments (arguments_of plan ty g) (λ values. bound_asked plan d.of_type (children_of d.of_type f.place g.fields) values (binding_in plan.bindings.fields ty f.name))
+    with_arguments (arguments_of plan ty g) (λ values. bound_asked plan d.of_type
+    (children_of d.of_type f.place g.fields) values (binding_in plan.bindings.fields ty f.name))
 
 -- A field that the object type has no definition of, which no valid plan has, is null.
 abbrev pub defined_asked : PlanOf → List ℕ → FieldOf → GroupOf → Option Field → PreparedOf
-defined_asked plan ty f g None = record { position = position_of g.key f.place false; asked = known Null }
+defined_asked plan ty f g None =
+    record { position = position_of g.key f.place false; asked = known Null }
 defined_asked plan ty f g (Some d) = record {
   position = position_of g.key f.place (is_non_null d.of_type);
   asked = asked_by plan ty f g d;
@@ -159,12 +174,16 @@ defined_asked plan ty f g (Some d) = record {
 -- `__typename` is the object type's name
 abbrev pub field_asked : PlanOf → List ℕ → FieldOf → GroupOf → PreparedOf
 field_asked plan ty f g =
-    if bytes_eq f.name (codes "__typename") then record { position = position_of g.key f.place true; asked = known (Value (Text ty)) }
+    if bytes_eq f.name (codes "__typename")
+    then record { position = position_of g.key f.place true; asked = known (Value (Text ty)) }
     else defined_asked plan ty f g (field_in plan.definitions ty f.name)
 
 -- the group of no field, which no collection has, is null
 abbrev pub first_asked : PlanOf → List ℕ → GroupOf → List FieldOf → PreparedOf
-first_asked plan ty g [] = record { position = position_of g.key (record { line = 1; column = 1 }) false; asked = known Null }
+first_asked plan ty g [] = record {
+  position = position_of g.key (record { line = 1; column = 1 }) false;
+  asked = known Null;
+}
 first_asked plan ty g (f ∷ fs) = field_asked plan ty f g
 
 -- errors stand at the first field of the group

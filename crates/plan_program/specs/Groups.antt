@@ -24,7 +24,8 @@ pub record GroupOf : Type 0 where
 abbrev pub with_field : List GroupOf → FieldOf → List GroupOf
 with_field [] f = record { key = f.key; fields = f ∷ [] } ∷ []
 with_field (g ∷ gs) f =
-    if bytes_eq f.key g.key then record { key = g.key; fields = g.fields ++ f ∷ [] } ∷ gs else g ∷ with_field gs f
+    if bytes_eq f.key g.key
+    then record { key = g.key; fields = g.fields ++ f ∷ [] } ∷ gs else g ∷ with_field gs f
 
 -- says what was collected: the groups, and the names of the fragments that were entered, of which none is entered
 -- again
@@ -37,7 +38,8 @@ nothing_collected = record { groups = []; entered = [] }
 
 -- the response key is the alias, or the name where there is none
 abbrev pub chosen_field : Place → Option (List ℕ) → List ℕ → List Argument → Below → FieldOf
-chosen_field place alias name given b = record { place = place; key = unwrap_or alias name; name = name; arguments = given; below = b }
+chosen_field place alias name given b =
+    record { place = place; key = unwrap_or alias name; name = name; arguments = given; below = b }
 
 -- one more field
 abbrev pub with_chosen : Collected → FieldOf → Collected
@@ -45,7 +47,8 @@ with_chosen so_far f = record { groups = with_field so_far.groups f; entered = s
 
 -- one more fragment, where it is entered
 abbrev pub with_entered_if : Bool → Collected → List ℕ → Collected
-with_entered_if entered so_far name = if entered then record { groups = so_far.groups; entered = so_far.entered ++ name ∷ [] } else so_far
+with_entered_if entered so_far name = if entered
+    then record { groups = so_far.groups; entered = so_far.entered ++ name ∷ [] } else so_far
 
 abbrev pub has_entered : Collected → List ℕ → Bool
 has_entered so_far name = list_any (bytes_eq name) so_far.entered
@@ -59,32 +62,40 @@ abbrev mutual
   pub collect_one : PlanOf → List ℕ → Entering → Collected → Selection → Collected
   collect_one plan ty enter so_far (Field place alias name given ds b) =
       if is_left_out plan ds then so_far
-      else record { groups = with_field so_far.groups (chosen_field place alias name given b); entered = so_far.entered }
+      else record {
+        groups = with_field so_far.groups (chosen_field place alias name given b);
+        entered = so_far.entered;
+      }
   collect_one plan ty enter so_far (Spread place name ds) =
       if is_left_out plan ds || has_entered so_far name then so_far
       else enter (record { groups = so_far.groups; entered = so_far.entered ++ name ∷ [] }) name
   collect_one plan ty enter so_far (Inline place condition ds set) =
-      if is_left_out plan ds || not (applies plan condition ty) then so_far else collect_set plan ty enter so_far set
+      if is_left_out plan ds || not (applies plan condition ty) then so_far
+      else collect_set plan ty enter so_far set
 
   pub collect_set : PlanOf → List ℕ → Entering → Collected → SelectionSet → Collected
   collect_set plan ty enter so_far (set_at place ss) = collect_all plan ty enter so_far ss
 
   pub collect_all : PlanOf → List ℕ → Entering → Collected → Selections → Collected
   collect_all plan ty enter so_far no_selection = so_far
-  collect_all plan ty enter so_far (and_selection s ss) = collect_all plan ty enter (collect_one plan ty enter so_far s) ss
+  collect_all plan ty enter so_far (and_selection s ss) =
+      collect_all plan ty enter (collect_one plan ty enter so_far s) ss
 
 abbrev pub enter_fragment : PlanOf → List ℕ → Entering → Collected → Option Fragment → Collected
 enter_fragment plan ty enter so_far None = so_far
-enter_fragment plan ty enter so_far (Some f) = if applies plan (Some f.condition) ty then collect_set plan ty enter so_far f.selection_set else so_far
+enter_fragment plan ty enter so_far (Some f) = if applies plan (Some f.condition) ty
+    then collect_set plan ty enter so_far f.selection_set else so_far
 
 -- the fragments of a plan, of which this number may still be entered one inside another
 abbrev pub entering : PlanOf → List ℕ → ℕ → Entering
 entering plan ty zero so_far name = so_far
-entering plan ty (suc left) so_far name = enter_fragment plan ty (entering plan ty left) so_far (fragment_in plan.fragments name)
+entering plan ty (suc left) so_far name =
+    enter_fragment plan ty (entering plan ty left) so_far (fragment_in plan.fragments name)
 
 -- no more fragments stand one inside another than there are, since none is entered twice
 abbrev pub collect_from : PlanOf → List ℕ → Collected → Selections → Collected
-collect_from plan ty so_far ss = collect_all plan ty (entering plan ty (length plan.fragments)) so_far ss
+collect_from plan ty so_far ss =
+    collect_all plan ty (entering plan ty (length plan.fragments)) so_far ss
 
 abbrev pub collect : PlanOf → List ℕ → Selections → List GroupOf
 collect plan ty ss = (collect_from plan ty nothing_collected ss).groups
@@ -99,4 +110,5 @@ selections_below (below set) = selections_in set
 -- gives the same for what several fields select, joined in order (MergeSelectionSets)
 abbrev pub collect_subfields : PlanOf → List ℕ → Collected → List FieldOf → Collected
 collect_subfields plan ty so_far [] = so_far
-collect_subfields plan ty so_far (f ∷ fs) = collect_subfields plan ty (collect_from plan ty so_far (selections_below f.below)) fs
+collect_subfields plan ty so_far (f ∷ fs) =
+    collect_subfields plan ty (collect_from plan ty so_far (selections_below f.below)) fs

@@ -21,7 +21,8 @@ use Rattle.plan_program.specs.Texts.{bad_value_message, no_column_message, no_ty
 -- ---- cells
 
 abbrev pub boolean_of : List ℕ → Option Leaf
-boolean_of t = if bytes_eq t (codes "true") then Some (Boolean true) else (if bytes_eq t (codes "false") then Some (Boolean false) else None)
+boolean_of t = if bytes_eq t (codes "true") then Some (Boolean true)
+    else (if bytes_eq t (codes "false") then Some (Boolean false) else None)
 
 -- an Int cell is an Int's text within signed 32 bits
 abbrev pub int_leaf : List ℕ → Option Leaf
@@ -35,7 +36,8 @@ abbrev pub named_leaf : List Definition → List ℕ → List ℕ → Option Lea
 named_leaf defs name t =
     if bytes_eq name (codes "Int") then int_leaf t
     else (if bytes_eq name (codes "Boolean") then boolean_of t
-    else text_if (bytes_eq name (codes "String") || (bytes_eq name (codes "ID") || has_value defs name t)) t)
+    else text_if
+    (bytes_eq name (codes "String") || (bytes_eq name (codes "ID") || has_value defs name t)) t)
 
 abbrev pub leaf_of : List Definition → TypeTree → List ℕ → Option Leaf
 leaf_of defs (Named p name non_null) t = named_leaf defs name t
@@ -65,18 +67,22 @@ typename = codes "__typename"
 abbrev pub resolved_type : List Definition → List ℕ → Option (List ℕ) → TypeOf
 resolved_type defs name None = type_fault (no_column_message typename)
 resolved_type defs name (Some []) = type_fault no_type_message
-resolved_type defs name (Some (c ∷ cs)) = if can_be defs name (c ∷ cs) then object_type (c ∷ cs) else type_fault (not_type_message (c ∷ cs))
+resolved_type defs name (Some (c ∷ cs)) = if can_be defs name (c ∷ cs) then object_type (c ∷ cs)
+    else type_fault (not_type_message (c ∷ cs))
 
 -- the object type of a row that stands for the type of this name (section 6.4.3, ResolveAbstractType)
 abbrev pub type_of_row : List Definition → List ℕ → RowOf → TypeOf
-type_of_row defs name row = if is_object_type defs name then object_type name else resolved_type defs name (cell_of row typename)
+type_of_row defs name row = if is_object_type defs name then object_type name
+    else resolved_type defs name (cell_of row typename)
 
 -- ---- positions
 
 -- the places of a list, from a number on
 abbrev pub places : Bool → Place → ℕ → List Program → Programs
 places non_null place n [] = End
-places non_null place n (p ∷ ps) = With (record { part = Item n; non_null = non_null; place = place }) p (places non_null place (suc n) ps)
+places non_null place n (p ∷ ps) =
+    With (record { part = Item n; non_null = non_null; place = place }) p
+    (places non_null place (suc n) ps)
 
 abbrev pub list_of : ChildrenOf → List Program → Program
 list_of children ps = Under Listed (places children.item_non_null children.place 0 ps)
@@ -95,7 +101,8 @@ typed_object objects children row (type_fault fault) = Is (Fault fault)
 typed_object objects children row (object_type ty) = objects ty children.fields row
 
 abbrev pub row_object : List Definition → Objects → ChildrenOf → RowOf → Program
-row_object defs objects children row = typed_object objects children row (type_of_row defs children.type_name row)
+row_object defs objects children row =
+    typed_object objects children row (type_of_row defs children.type_name row)
 
 -- ---- loads
 
@@ -140,7 +147,8 @@ read_pair loader (known_part (Some s)) (known_part (Some t)) next = read_key loa
 abbrev pub read_from : ℕ → KeyFrom → RowOf → (List RowOf → Program) → Program
 read_from loader (fixed key) row next = read_key loader key next
 read_from loader (of_column column) row next = read_cell loader column (cell_of row column) next
-read_from loader (of_pair one two) row next = read_pair loader (part_over one row) (part_over two row) next
+read_from loader (of_pair one two) row next =
+    read_pair loader (part_over one row) (part_over two row) next
 
 abbrev pub read_if : ℕ → (List RowOf → Program) → Option KeyOf → Program
 read_if loader next None = Is Null
@@ -162,7 +170,8 @@ module _ (defs : List Definition) (objects : Objects) where
   -- asks no further loader.
   abbrev pub joined_object : ChildrenOf → List StepOf → RowOf → Program
   joined_object children [] row = row_object defs objects children row
-  joined_object children (s ∷ ss) row = read_from s.loader (of_column s.column) row (first_of (joined_object children ss))
+  joined_object children (s ∷ ss) row =
+      read_from s.loader (of_column s.column) row (first_of (joined_object children ss))
 
   abbrev pub joined_objects : ChildrenOf → List StepOf → List RowOf → Program
   joined_objects children steps rs = list_of children (map (joined_object children steps) rs)
@@ -171,10 +180,13 @@ module _ (defs : List Definition) (objects : Objects) where
   abbrev pub asked_program : RowOf → ValueFrom → Program
   asked_program row (settled leaf_value) = Is leaf_value
   asked_program row (cell column t) = Is (cell_value defs column t (cell_of row column))
-  asked_program row (first_row loader key children) = read_from loader key row (first_object children)
+  asked_program row (first_row loader key children) =
+      read_from loader key row (first_object children)
   asked_program row (all_rows loader key children) = read_from loader key row (all_objects children)
-  asked_program row (each_row loader keys children) = list_of children (map (read_if loader (first_object children)) keys)
-  asked_program row (joined_rows loader key steps children) = read_from loader key row (joined_objects children steps)
+  asked_program row (each_row loader keys children) =
+      list_of children (map (read_if loader (first_object children)) keys)
+  asked_program row (joined_rows loader key steps children) =
+      read_from loader key row (joined_objects children steps)
 
   -- an object over a row
   abbrev pub prepared_program : List PreparedOf → RowOf → Program
@@ -184,7 +196,8 @@ module _ (defs : List Definition) (objects : Objects) where
 abbrev pub object_program : PlanOf → ℕ → Objects
 object_program plan zero ty fields row = Is Null
 object_program plan (suc levels) ty fields row =
-    prepared_program plan.definitions (object_program plan levels) (all_prepared plan ty (collect_subfields plan ty nothing_collected fields).groups) row
+    prepared_program plan.definitions (object_program plan levels)
+    (all_prepared plan ty (collect_subfields plan ty nothing_collected fields).groups) row
 
 -- gives how many levels of fields a valid document has at most
 abbrev pub most_levels : ℕ
@@ -192,8 +205,10 @@ most_levels = 128
 
 -- the prepared groups of the root
 abbrev pub root_prepared : PlanOf → List PreparedOf
-root_prepared plan = all_prepared plan (root_in plan.definitions) (collect plan (root_in plan.definitions) (selections_in plan.operation.selection_set))
+root_prepared plan = all_prepared plan (root_in plan.definitions)
+    (collect plan (root_in plan.definitions) (selections_in plan.operation.selection_set))
 
 -- The program of a plan: its root object, which has no row. Its fields are the first level.
 abbrev pub plan_program : PlanOf → Program
-plan_program plan = prepared_program plan.definitions (object_program plan most_levels) (root_prepared plan) []
+plan_program plan =
+    prepared_program plan.definitions (object_program plan most_levels) (root_prepared plan) []

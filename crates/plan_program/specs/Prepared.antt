@@ -42,7 +42,12 @@ key_from_seen (key.Column c) = of_column c.now
 key_from_seen (key.Pair one two) = of_pair (part_from_seen one) (part_from_seen two)
 
 abbrev pub children_seen : Children → ChildrenOf
-children_seen b = record { type_name = b.type_name.now; item_non_null = b.item_non_null; place = b.place; fields = fields_seen b.fields.items }
+children_seen b = record {
+  type_name = b.type_name.now;
+  item_non_null = b.item_non_null;
+  place = b.place;
+  fields = fields_seen b.fields.items;
+}
 
 abbrev pub keys_seen : List (Option Key) → List (Option KeyOf)
 keys_seen ks = map (λ (k : Option Key). option_map key_of k) ks
@@ -50,10 +55,14 @@ keys_seen ks = map (λ (k : Option Key). option_map key_of k) ks
 abbrev pub value_from_seen : rust-value.ValueFrom → ValueFrom
 value_from_seen (value.Known o) = known (leaf_value_seen o)
 value_from_seen (value.Cell column ty) = cell column.now (type_of ty.now)
-value_from_seen (value.First loader k b) = first_row loader (key_from_seen k) (children_seen (arc_value b))
-value_from_seen (value.All loader k b) = all_rows loader (key_from_seen k) (children_seen (arc_value b))
-value_from_seen (value.Each loader ks b) = each_row loader (keys_seen ks.items) (children_seen (arc_value b))
-value_from_seen (value.Joined loader k steps b) = joined_rows loader (key_from_seen k) (map step_of steps.now) (children_seen (arc_value b))
+value_from_seen (value.First loader k b) =
+    first_row loader (key_from_seen k) (children_seen (arc_value b))
+value_from_seen (value.All loader k b) =
+    all_rows loader (key_from_seen k) (children_seen (arc_value b))
+value_from_seen (value.Each loader ks b) =
+    each_row loader (keys_seen ks.items) (children_seen (arc_value b))
+value_from_seen (value.Joined loader k steps b) =
+    joined_rows loader (key_from_seen k) (map step_of steps.now) (children_seen (arc_value b))
 
 -- gives what a key asks for, where there is one
 abbrev pub by_key : Option rust-key.KeyFrom → (KeyFrom → ValueFrom) → ValueFrom
@@ -71,7 +80,8 @@ defined_by plan ty f fields d =
     (binding_in plan.bindings.fields ty f.name))
 
 abbrev pub prepared_seen : PreparedField → PreparedOf
-prepared_seen p = record { position = position_of p.key.now p.place p.non_null; asked = value_from_seen p.asked }
+prepared_seen p =
+    record { position = position_of p.key.now p.place p.non_null; asked = value_from_seen p.asked }
 
 abbrev pub all_prepared_seen : List PreparedField → List PreparedOf
 all_prepared_seen ps = map prepared_seen ps

@@ -23,7 +23,8 @@ is_digit_one_to_nine c = nat_le 49 c && nat_le c 57
 -- `0`, or digits of which the first isn't 0
 abbrev pub is_unsigned_text : List ℕ → Bool
 is_unsigned_text [] = false
-is_unsigned_text (c ∷ cs) = (is_digit_one_to_nine c && all_ascii_digits cs) || bytes_eq (c ∷ cs) (codes "0")
+is_unsigned_text (c ∷ cs) =
+    (is_digit_one_to_nine c && all_ascii_digits cs) || bytes_eq (c ∷ cs) (codes "0")
 
 -- the text of an Int (section 2.9.1): such digits, with a `-` before them or not
 abbrev pub is_int_text : List ℕ → Bool

@@ -71,7 +71,8 @@ enum CoercedArgument {
 // An input of its own.
 #[cycle(copied)]
 fn copy_input(input: &Input) -> Result<Input, AllocError>
-    ensures { IfOk result (λ copy. input_of copy ≡ input_of input.now) }
+    ensures { IfOk result
+        (λ copy. input_of copy ≡ input_of input.now) }
 {
     match input {
         Input::Null => Ok(Input::Null),
@@ -84,7 +85,8 @@ fn copy_input(input: &Input) -> Result<Input, AllocError>
 
 #[cycle(copied)]
 fn copy_all(inputs: &Vec<Input>) -> Result<Vec<Input>, AllocError>
-    ensures { IfOk result (λ copies. map input_of copies.items ≡ map input_of inputs.now.items) }
+    ensures { IfOk result (λ copies. map input_of
+        copies.items ≡ map input_of inputs.now.items) }
 {
     let mut copies = Vec::with_capacity(*inputs.allocator(), inputs.len())?;
     for input in inputs {
@@ -94,7 +96,8 @@ fn copy_all(inputs: &Vec<Input>) -> Result<Vec<Input>, AllocError>
 }
 
 fn null_input(ty: &TypeRef) -> Option<Input>
-    ensures { option_map input_of result ≡ null_input (is_non_null (type_of ty.now)) }
+    ensures { option_map input_of result
+        ≡ null_input (is_non_null (type_of ty.now)) }
 {
     (!ty.is_non_null()).then_some(Input::Null)
 }
@@ -211,7 +214,8 @@ fn list_value(
 }
 
 fn or_refused(input: Option<Input>) -> CoercedArgument
-    ensures { coerced_seen result ≡ or_refused (option_map input_of input) }
+    ensures { coerced_seen result
+        ≡ or_refused (option_map input_of input) }
 {
     match input {
         Some(input) => CoercedArgument::Present(input),
@@ -225,8 +229,8 @@ fn default_value(
     plan: &Plan,
     argument: &ArgDef,
 ) -> Result<CoercedArgument, AllocError>
-    ensures { IfOk result (λ value. coerced_seen value
-        ≡ default_value (plan_of plan.now) (argument_of argument.now).of_type (argument_of argument.now).default) }
+    ensures { IfOk result (λ value. coerced_seen value ≡ default_value (plan_of plan.now)
+        (argument_of argument.now).of_type (argument_of argument.now).default) }
 {
     match &argument.default {
         Some(literal) => {
@@ -250,8 +254,8 @@ fn by_variable(
     argument: &ArgDef,
     name: &str,
 ) -> Result<CoercedArgument, AllocError>
-    ensures { IfOk result (λ v. coerced_seen v
-        ≡ by_variable (plan_of plan.now) (argument_of argument.now) (value_in (plan_of plan.now).variables name.now)) }
+    ensures { IfOk result (λ v. coerced_seen v ≡ by_variable (plan_of plan.now)
+        (argument_of argument.now) (value_in (plan_of plan.now).variables name.now)) }
 {
     match plan.variable(name) {
         Some(value) => Ok(or_refused(value_of_variable(&argument.of_type, value)?)),
@@ -305,8 +309,8 @@ pub(crate) fn coerced_arguments(
     given: &[Argument],
     arguments: &[ArgDef],
 ) -> Result<Args, ArgFault>
-    ensures ok { IfOk result (λ a.
-        coerced_arguments (plan_of plan.now) (arguments_seen given.now) (arguments_defined arguments.now) ≡ all_values (values_of a)) }
+    ensures ok { IfOk result (λ a. coerced_arguments (plan_of plan.now)
+        (arguments_seen given.now) (arguments_defined arguments.now) ≡ all_values (values_of a)) }
     ensures fault { IfErr result (λ fault. Refuses fault (coerced_arguments
         (plan_of plan.now) (arguments_seen given.now) (arguments_defined arguments.now))) }
 {

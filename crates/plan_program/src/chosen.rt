@@ -13,7 +13,8 @@ use gq_parser::{Argument, Directive, Literal, TypeCondition, Value};
 use gq_schema::Input;
 
 fn is_true_input(input: &Input) -> bool
-    ensures { result ≡ is_true_input (Some (input_of input.now)) }
+    ensures { result ≡ is_true_input
+        (Some (input_of input.now)) }
 {
     match input {
         Input::Bool(value) => *value,
@@ -25,7 +26,8 @@ fn is_true_input(input: &Input) -> bool
 }
 
 fn is_true_variable(plan: &Plan, name: &str) -> bool
-    ensures { result ≡ is_true_input (value_in (plan_of plan.now).variables name.now) }
+    ensures { result ≡ is_true_input
+        (value_in (plan_of plan.now).variables name.now) }
 {
     match plan.variable(name) {
         Some(input) => is_true_input(input),
@@ -34,7 +36,8 @@ fn is_true_variable(plan: &Plan, name: &str) -> bool
 }
 
 fn is_true(plan: &Plan, literal: &Literal) -> bool
-    ensures { result ≡ is_true (plan_of plan.now) (literal_of literal.now) }
+    ensures { result ≡ is_true (plan_of plan.now)
+        (literal_of literal.now) }
 {
     match &literal.value {
         Value::Boolean(value) => *value,
@@ -64,7 +67,8 @@ pub fn given_to<'p>(given: &'p [Argument], name: &str) -> Option<&'p Literal>
 
 // Tells whether the argument `if` is true.
 fn holds(plan: &Plan, directive: &Directive) -> bool
-    ensures { result ≡ holds (plan_of plan.now) (directive_of directive.now) }
+    ensures { result ≡ holds (plan_of plan.now)
+        (directive_of directive.now) }
 {
     match given_to(&directive.arguments, "if") {
         Some(literal) => is_true(plan, literal),
@@ -73,7 +77,8 @@ fn holds(plan: &Plan, directive: &Directive) -> bool
 }
 
 fn leaves_out(plan: &Plan, directive: &Directive) -> bool
-    ensures { result ≡ leaves_out (plan_of plan.now) (directive_of directive.now) }
+    ensures { result ≡ leaves_out (plan_of plan.now)
+        (directive_of directive.now) }
 {
     if directive.name.as_str() == "skip" {
         return holds(plan, directive);
@@ -86,7 +91,8 @@ fn leaves_out(plan: &Plan, directive: &Directive) -> bool
 
 /// Tells whether `@skip` is true or `@include` isn't (sections 3.13.1 and 3.13.2).
 pub fn is_left_out(plan: &Plan, directives: &[Directive]) -> bool
-    ensures { result ≡ is_left_out (plan_of plan.now) (directives_of directives.now) }
+    ensures { result ≡ is_left_out (plan_of plan.now)
+        (directives_of directives.now) }
 {
     for directive in directives {
         if leaves_out(plan, directive) {
@@ -99,14 +105,16 @@ pub fn is_left_out(plan: &Plan, directives: &[Directive]) -> bool
 /// Tells whether fragments on a type apply to an object type (section 6.3.2,
 /// DoesFragmentTypeApply).
 pub fn applies(plan: &Plan, condition: &TypeCondition, ty: &str) -> bool
-    ensures { result ≡ applies (plan_of plan.now) (Some (condition_of condition.now)) ty.now }
+    ensures { result ≡ applies (plan_of plan.now)
+        (Some (condition_of condition.now)) ty.now }
 {
     plan.schema().can_be(condition.name.as_str(), ty)
 }
 
 /// Does the same of an inline fragment, which may have no type.
 pub fn applies_inline(plan: &Plan, condition: &Option<TypeCondition>, ty: &str) -> bool
-    ensures { result ≡ applies (plan_of plan.now) (condition_if condition.now) ty.now }
+    ensures { result ≡ applies (plan_of plan.now)
+        (condition_if condition.now) ty.now }
 {
     match condition {
         Some(condition) => applies(plan, condition, ty),

@@ -57,8 +57,8 @@ fn collect_one<'p>(
 ) -> Result<Option<Rest<'p>>, AllocError>
     ensures collected { IfOk result (Collects (plan_of plan.now) ty.now
         enterable (selection_of selection.now) so_far.old so_far.new) }
-    ensures steps { let fs = (plan_of plan.now).fragments in
-        IfOk result (λ i. steps_if fs i < steps_one (steps_inside fs enterable) (selection_of selection.now)) }
+    ensures steps { let fs = (plan_of plan.now).fragments in IfOk result
+        (λ i. steps_if fs i < steps_one (steps_inside fs enterable) (selection_of selection.now)) }
 {
     match selection {
         Selection::Field(field) => {
@@ -101,8 +101,8 @@ fn collect_first<'p>(
     left: &mut Vec<Rest<'p>>,
     so_far: &mut CollectedFields<'p>,
 ) -> Result<Option<Rest<'p>>, AllocError>
-    ensures collected { IfOk result (CollectsFirst (plan_of plan.now) ty.now rest.entry so_far.old so_far.new
-        left.old.items left.new.items) }
+    ensures collected { IfOk result (CollectsFirst
+        (plan_of plan.now) ty.now rest.entry so_far.old so_far.new left.old.items left.new.items) }
     ensures steps { IfOk result
         (TakesStep (plan_of plan.now).fragments left.old.items rest.entry left.new.items) }
 {

@@ -14,8 +14,10 @@ const MANY_GROUPS: usize = 8;
 
 /// The place of the group of a key, found by the table if it has the keys.
 pub fn place_of<'p>(groups: &[Group<'p>], table: &IndexSet<&'p str>, key: &'p str) -> Option<usize>
-    requires { AreTabled (texts_of table.now.keys) (keys_in groups.now) }
-    ensures { result ≡ position (bytes_eq key.now) (keys_in groups.now) }
+    requires { AreTabled (texts_of table.now.keys)
+        (keys_in groups.now) }
+    ensures { result ≡ position
+        (bytes_eq key.now) (keys_in groups.now) }
 {
     if !table.is_empty() {
         return table.get_index_of(key);
@@ -31,9 +33,12 @@ pub fn place_of<'p>(groups: &[Group<'p>], table: &IndexSet<&'p str>, key: &'p st
 // Puts the keys of groups into an empty table. When out of memory, it is empty again.
 fn fill<'p>(table: &mut IndexSet<&'p str>, groups: &[Group<'p>]) -> Result<(), AllocError>
     requires empty { texts_of table.old.keys ≡ [] }
-    requires apart { insert_all bytes_eq [] (keys_in groups.now) ≡ keys_in groups.now }
-    ensures ok { OnOk result (texts_of table.new.keys ≡ keys_in groups.now) }
-    ensures err { OnErr result (texts_of table.new.keys ≡ []) }
+    requires apart { insert_all bytes_eq []
+        (keys_in groups.now) ≡ keys_in groups.now }
+    ensures ok { OnOk result
+        (texts_of table.new.keys ≡ keys_in groups.now) }
+    ensures err { OnErr result
+        (texts_of table.new.keys ≡ []) }
 {
     for group in groups {
         match table.insert(group.key) {
@@ -53,8 +58,10 @@ pub fn note_key<'p>(
     table: &mut IndexSet<&'p str>,
     key: &'p str,
 ) -> Result<(), AllocError>
-    requires found { AreFound (texts_of table.old.keys) (keys_in groups.now) }
-    requires absent { position (bytes_eq key.now) (keys_in groups.now) ≡ None }
+    requires found { AreFound (texts_of table.old.keys)
+        (keys_in groups.now) }
+    requires absent { position (bytes_eq key.now)
+        (keys_in groups.now) ≡ None }
     ensures ok { OnOk result
         (AreFound (texts_of table.new.keys) (keys_in groups.now ++ key.now ∷ [])) }
     ensures err { OnErr result (AreFound (texts_of table.new.keys) (keys_in groups.now)) }

@@ -29,7 +29,8 @@ use std::sync::Arc;
 
 // The text that an argument's value is in a key.
 fn text_of_input(alloc: Global, input: &Input) -> Result<Option<Text>, AllocError>
-    ensures { IfOk result (λ text. text ≡ text_of_input (input_of input.now)) }
+    ensures { IfOk result (λ text.
+        text ≡ text_of_input (input_of input.now)) }
 {
     match input {
         Input::Text(text) => Ok(Some(Text::from_str(alloc, text.as_str())?)),
@@ -42,7 +43,8 @@ fn text_of_input(alloc: Global, input: &Input) -> Result<Option<Text>, AllocErro
 
 // The key that an argument's value is.
 fn key_of_input(alloc: Global, input: &Input) -> Result<Option<Key>, AllocError>
-    ensures { IfOk result (λ key. option_map key_of key ≡ key_of_input (input_of input.now)) }
+    ensures { IfOk result (λ key. option_map key_of key
+        ≡ key_of_input (input_of input.now)) }
 {
     match text_of_input(alloc, input)? {
         Some(text) => Ok(Some(Key::Text(text))),
@@ -178,8 +180,8 @@ fn joined_rows<'p>(
     steps: &'p [ViaLoader],
     children: Children<'p>,
 ) -> Result<ValueFrom<'p>, AllocError>
-    ensures { IfOk result (λ a. value_from_seen a
-        ≡ by_key key.entry (λ k. joined_rows loader k (map step_of steps.now) (children_seen children.entry))) }
+    ensures { IfOk result (λ a. value_from_seen a ≡ by_key key.entry
+        (λ k. joined_rows loader k (map step_of steps.now) (children_seen children.entry))) }
 {
     match key {
         Some(key) => Ok(ValueFrom::Joined {
@@ -199,8 +201,8 @@ fn prepare_each<'p>(
     children: Children<'p>,
     input: Option<&Input>,
 ) -> Result<ValueFrom<'p>, AllocError>
-    ensures { IfOk result (λ asked. value_from_seen asked
-        ≡ each_asked loader (children_seen children.entry) (option_map input_of (option_copied input.entry))) }
+    ensures { IfOk result (λ asked. value_from_seen asked ≡ each_asked loader
+        (children_seen children.entry) (option_map input_of (option_copied input.entry))) }
 {
     match input {
         Some(Input::List(inputs)) => {
@@ -221,7 +223,8 @@ fn prepare_each<'p>(
 
 // Tells whether the later loaders of `via` are below `loaders`.
 fn have_loaders(steps: &[ViaLoader], loaders: usize) -> bool
-    ensures { result ≡ have_loaders (map step_of steps.now) loaders }
+    ensures { result ≡ have_loaders
+        (map step_of steps.now) loaders }
 {
     steps.iter().all(|step| step.loader < loaders)
 }
@@ -253,8 +256,8 @@ fn prepare_bound<'p>(
     args: &Args,
     binding: &'p Binding,
 ) -> Result<ValueFrom<'p>, AllocError>
-    ensures { IfOk result (λ a. value_from_seen a
-        ≡ bound_by (plan_of plan.now) (type_of ty.now) (children_seen children.entry) (values_of args.now) binding.now) }
+    ensures { IfOk result (λ a. value_from_seen a ≡ bound_by (plan_of plan.now)
+        (type_of ty.now) (children_seen children.entry) (values_of args.now) binding.now) }
 {
     match binding {
         Binding::Column(column) => Ok(ValueFrom::Cell {
@@ -288,7 +291,8 @@ fn prepare_bound<'p>(
 
 // Tells whether a `!` ends the type of the items, or of the one that it is where it is no list.
 fn is_item_non_null(ty: &TypeRef) -> bool
-    ensures { result ≡ is_non_null (item_type (type_of ty.now)) }
+    ensures { result ≡ is_non_null
+        (item_type (type_of ty.now)) }
 {
     match ty {
         TypeRef::Named { non_null, .. } => *non_null,
@@ -317,8 +321,8 @@ fn prepare_defined<'p>(
     first: &'p Field,
     fields: Vec<&'p Field>,
 ) -> Result<ValueFrom<'p>, AllocError>
-    ensures { IfOk result (λ a. value_from_seen a
-        ≡ defined_by (plan_of plan.now) ty.now (field_seen first.now) (fields_seen fields.entry.items) (field_of definition.now)) }
+    ensures { IfOk result (λ a. value_from_seen a ≡ defined_by (plan_of plan.now) ty.now
+        (field_seen first.now) (fields_seen fields.entry.items) (field_of definition.now)) }
 {
     let args = match coerced_arguments(alloc, plan, &first.arguments, &definition.arguments) {
         Ok(args) => args,

@@ -66,6 +66,7 @@ pub data MakesRoom (old : List Entry) (bytes more : ℕ) (new : List Entry) (aft
       → new ≡ [] → after ≡ 0 → MakesRoom old bytes more new after
 
 -- one document more, somewhere
-pub record Adds (old : List Entry) (bytes : ℕ) (text : String Global) (kept : KeptParts) (new : List Entry) (after : ℕ) : Type 0 where
+pub record Adds (old : List Entry) (bytes : ℕ) (text : String Global) (kept : KeptParts)
+    (new : List Entry) (after : ℕ) : Type 0 where
   pub entries : IsPermutation ((text, kept) ∷ old) new
   pub count : after ≡ bytes + length (string_bytes text)

@@ -24,12 +24,14 @@ values_of (Some d) = d
 pub record IsPlanned (s : ServerOf) (request : RequestOf) (plan : PlanOf) : Type 0 where
   pub definitions : plan.definitions ≡ tree_of s.definitions
   pub bindings : plan.bindings ≡ s.bindings
-  pub planned : IsPlanOf (tree_of s.definitions) request.query request.operation_name (values_of request.variables) plan
+  pub planned : IsPlanOf (tree_of s.definitions) request.query request.operation_name
+      (values_of request.variables) plan
 
 -- the first fault of a request over a server; that memory ran out is none
 pub record IsFaulty (s : ServerOf) (request : RequestOf) (fault : RequestFault) : Type 0 where
   pub reported : is_want_of_memory fault ≡ false
-  pub faulty : IsRequestFault (tree_of s.definitions) request.query request.operation_name (values_of request.variables) fault
+  pub faulty : IsRequestFault (tree_of s.definitions) request.query request.operation_name
+      (values_of request.variables) fault
 
 abbrev pub refusal_text : List ℕ → Option Place → List ℕ
 refusal_text message place = json_text (refusal_json message place)

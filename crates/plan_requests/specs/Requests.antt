@@ -27,12 +27,14 @@ name_given name = option_map (λ n. n.now) name
 
 -- The query is a document that is valid, and the plan is that of the operation that is asked for, with these values given for
 -- its variables.
-pub record IsPlanOf (defs : List Definition) (query : List ℕ) (name : Option (List ℕ)) (given : Data) (p : PlanOf) : Type 0 where
+pub record IsPlanOf (defs : List Definition) (query : List ℕ) (name : Option (List ℕ))
+    (given : Data) (p : PlanOf) : Type 0 where
   pub document : Document
   pub says : IsDocumentOf query document
   pub valid : IsValid defs document
   pub fragments : p.fragments ≡ document.fragments
-  pub prepared : prepared defs document.operations name given ≡ Ok (record { operation = p.operation; variables = p.variables })
+  pub prepared : prepared defs document.operations name given
+      ≡ Ok (record { operation = p.operation; variables = p.variables })
 
 -- The query is a document that is not valid, for this.
 pub record IsInvalid (defs : List Definition) (query : List ℕ) (e : CheckFault) : Type 0 where
@@ -41,7 +43,8 @@ pub record IsInvalid (defs : List Definition) (query : List ℕ) (e : CheckFault
   pub fault : IsCheckFault (IsVerdict defs document) e
 
 -- The query is a document that is valid, and its operation can't be prepared, for this.
-pub record IsUnprepared (defs : List Definition) (query : List ℕ) (name : Option (List ℕ)) (given : Data) (e : PrepareFault) : Type 0 where
+pub record IsUnprepared (defs : List Definition) (query : List ℕ) (name : Option (List ℕ))
+    (given : Data) (e : PrepareFault) : Type 0 where
   pub document : Document
   pub says : IsDocumentOf query document
   pub valid : IsValid defs document

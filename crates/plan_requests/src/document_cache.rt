@@ -65,7 +65,8 @@ fn new_document(
     server: &Server,
     query: &str,
 ) -> Result<PreparedDocument, RequestFault>
-    ensures ok { IfOk result (IsKept server.now.definitions query.now) }
+    ensures ok { IfOk result
+        (IsKept server.now.definitions query.now) }
     ensures err { (name : Option (List ℕ)) (given : Data)
         → IfErr result (IsRequestFault (tree_of server.now.definitions) query.now name given) }
 {
@@ -83,7 +84,8 @@ fn new_document(
 fn make_room(documents: &mut HashMap<String, PreparedDocument>, bytes: &mut usize, more: usize)
     requires fits { more ≤ longest }
     requires short { bytes.old ≤ most_bytes }
-    ensures { MakesRoom documents.old.entries bytes.old more documents.new.entries bytes.new }
+    ensures { MakesRoom documents.old.entries bytes.old
+        more documents.new.entries bytes.new }
 {
     if documents.len() >= MOST_TEXTS || more > MOST_BYTES - *bytes {
         documents.clear();
@@ -98,7 +100,8 @@ fn add(
     text: String,
     kept: PreparedDocument,
 ) -> Result<(), AllocError>
-    requires new { get_by_text documents.old (string_bytes text) ≡ None }
+    requires new { get_by_text documents.old
+        (string_bytes text) ≡ None }
     requires short { bytes.old ≤ most_bytes }
     requires long { length (string_bytes text) ≤ longest }
     ensures ok { OnOk result
@@ -187,7 +190,8 @@ impl DocumentCache {
         variables: &Value,
     ) -> Result<Plan, RequestFault>
         ensures schema { IfOk result (λ plan. plan.definitions ≡ self.now.server.definitions) }
-        ensures bindings { IfOk result (λ plan. plan.bindings ≡ self.now.server.bindings) }
+        ensures bindings { IfOk result (λ plan.
+            plan.bindings ≡ self.now.server.bindings) }
         ensures ok { IfOk result (λ p. IsPlanOf (tree_of self.now.server.definitions) query.now
             (name_given operation_name.entry) (view variables.now) (plan_of p)) }
         ensures err { IfErr result (IsRequestFault (tree_of self.now.server.definitions)

@@ -61,7 +61,8 @@ impl RequestFault {
 
     /// The message that a client reads.
     pub fn message(&self, alloc: Global) -> Result<String, AllocError>
-        ensures { IfOk result (λ message. string_bytes message ≡ request_message self.now) }
+        ensures { IfOk result (λ message. string_bytes
+            message ≡ request_message self.now) }
     {
         match self {
             RequestFault::Parse(fault) => String::from_str(alloc, parse_message(fault)),

@@ -43,7 +43,8 @@ impl ArrayPlan {
     ///
     /// Only when out of memory; then this is to be dropped.
     pub fn push(&mut self, plan: RequestPlan) -> Result<(), AllocError>
-        ensures { OnOk result (AddsPlan self.old plan self.new) }
+        ensures { OnOk result
+            (AddsPlan self.old plan self.new) }
     {
         match plan {
             RequestPlan::Refused(text) => self.refusals.push(Some(text))?,
@@ -57,22 +58,26 @@ impl ArrayPlan {
 
     /// The text that refuses each value, in order. A value without one has a plan, the next of [`plans`](ArrayPlan::plans).
     pub fn refusals(&self) -> &[Option<String>]
-        ensures { map (option_map string_bytes) result.now ≡ refusals_of self.now }
+        ensures { map (option_map string_bytes) result.now
+            ≡ refusals_of self.now }
     {
         &self.refusals
     }
 
     /// The plans of the values that aren't refused, in order.
     pub fn plans(&self) -> &[Plan]
-        ensures { map plan_of result.now ≡ plans_of self.now }
+        ensures { map plan_of result.now
+            ≡ plans_of self.now }
     {
         &self.plans
     }
 
     /// The refusals and the plans, as [`refusals`](ArrayPlan::refusals) and [`plans`](ArrayPlan::plans) show them.
     pub fn into_parts(self) -> (Vec<Option<String>>, Vec<Plan>)
-        ensures refusals { map (option_map string_bytes) result.0.items ≡ refusals_of self }
-        ensures plans { map plan_of result.1.items ≡ plans_of self }
+        ensures refusals { map (option_map string_bytes)
+            result.0.items ≡ refusals_of self }
+        ensures plans { map plan_of result.1.items
+            ≡ plans_of self }
     {
         (self.refusals, self.plans)
     }

@@ -16,7 +16,8 @@ use std::alloc::{AllocError, Global};
 ///
 /// Only when out of memory, also where that is the fault.
 pub(crate) fn refusal(alloc: Global, fault: &RequestFault) -> Result<String, AllocError>
-    ensures { IfOk result (λ text. RefusesFault fault.now (string_bytes text)) }
+    ensures { IfOk result (λ text.
+        RefusesFault fault.now (string_bytes text)) }
 {
     if fault.is_want_of_memory() {
         return Err(AllocError);
@@ -31,7 +32,8 @@ pub(crate) fn refusal(alloc: Global, fault: &RequestFault) -> Result<String, All
 ///
 /// Only when out of memory.
 pub fn not_a_request(alloc: Global) -> Result<String, AllocError>
-    ensures { IfOk result (λ text. string_bytes text ≡ not_a_request) }
+    ensures { IfOk result
+        (λ text. string_bytes text ≡ not_a_request) }
 {
     write_refusal(alloc, "not a request", None)
 }

@@ -52,8 +52,10 @@ pub(crate) fn check_query(
     server: &Server,
     query: &str,
 ) -> Result<CheckedDocument, RequestFault>
-    ensures definitions { IfOk result (λ c. c.definitions ≡ server.now.definitions) }
-    ensures says { IfOk result (λ c. IsDocumentOf query.now (document_of c.document)) }
+    ensures definitions { IfOk result
+        (λ c. c.definitions ≡ server.now.definitions) }
+    ensures says { IfOk result (λ c.
+        IsDocumentOf query.now (document_of c.document)) }
     ensures valid { IfOk result (λ c.
         IsValid (tree_of server.now.definitions) (document_of c.document)) }
     ensures err { (name : Option (List ℕ)) (given : Data)
@@ -78,13 +80,16 @@ impl Server {
     /// that would have been found later.
     pub fn read(alloc: Global, schema: &str, bindings: &str) -> Result<Server, SchemaFault>
         // The result is the server that the texts say.
-        ensures made { IfOk result (IsServer schema.now bindings.now) }
+        ensures made { IfOk result
+            (IsServer schema.now bindings.now) }
 
         // A server that the texts say is made.
-        ensures only { (s : ServerOf) → IsServer schema.now bindings.now s → MakesServer s result }
+        ensures only { (s : ServerOf) → IsServer schema.now
+            bindings.now s → MakesServer s result }
 
         // Otherwise the first fault is reported.
-        ensures fault { IfErr result (IsServerFault schema.now bindings.now) }
+        ensures fault { IfErr result
+            (IsServerFault schema.now bindings.now) }
     {
         let schema = match Schema::read(alloc, schema) {
             Ok(schema) => schema,
@@ -102,7 +107,8 @@ impl Server {
 
     /// The schema.
     pub fn schema(&self) -> &Arc<Schema>
-        ensures { arc_value result.now ≡ self.now.definitions }
+        ensures { arc_value result.now
+            ≡ self.now.definitions }
     {
         &self.schema
     }
@@ -116,7 +122,8 @@ impl Server {
 
     /// Returns how many loaders the bindings have. They are numbered from 0 in the order of their lines.
     pub fn loaders(&self) -> usize
-        ensures { result ≡ length self.now.bindings.loaders }
+        ensures { result ≡ length
+            self.now.bindings.loaders }
     {
         self.bindings.loaders().len()
     }
@@ -135,8 +142,10 @@ impl Server {
         operation_name: Option<&str>,
         variables: &Value,
     ) -> Result<Plan, RequestFault>
-        ensures schema { IfOk result (λ plan. plan.definitions ≡ self.now.definitions) }
-        ensures bindings { IfOk result (λ plan. plan.bindings ≡ self.now.bindings) }
+        ensures schema { IfOk result (λ plan.
+            plan.definitions ≡ self.now.definitions) }
+        ensures bindings { IfOk result
+            (λ plan. plan.bindings ≡ self.now.bindings) }
         ensures ok { IfOk result (λ plan. IsPlanOf (tree_of self.now.definitions) query.now
             (name_given operation_name.entry) (view variables.now) (plan_of plan)) }
         ensures err { IfErr result (IsRequestFault (tree_of self.now.definitions)

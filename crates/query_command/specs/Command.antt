@@ -5,22 +5,37 @@ use Rattle.clap.specs.declared.builder.action.ArgAction.TheVariants.{Append, Set
 use Rattle.clap.specs.declared.builder.value_parser.ValueParser.TheVariants as parser
 
 abbrev pub schema_rule : Rule
-schema_rule = record (new_rule (codes "schema")) { long = Some (codes "schema"); value_names = 1; required = true }
+schema_rule = record (new_rule (codes "schema"))
+    { long = Some (codes "schema"); value_names = 1; required = true }
 
 abbrev pub bindings_rule : Rule
-bindings_rule = record (new_rule (codes "bindings")) { long = Some (codes "bindings"); value_names = 1; required = true }
+bindings_rule = record (new_rule (codes "bindings"))
+    { long = Some (codes "bindings"); value_names = 1; required = true }
 
 abbrev pub workers_rule : Rule
-workers_rule = record (new_rule (codes "workers")) { long = Some (codes "workers"); value_names = 1; parser = Some (parser.Signed (pos 1) (pos 16)) }
+workers_rule = record (new_rule (codes "workers")) {
+  long = Some (codes "workers");
+  value_names = 1;
+  parser = Some (parser.Signed (pos 1) (pos 16));
+}
 
 abbrev pub max_batch_rule : Rule
-max_batch_rule = record (new_rule (codes "max-batch")) { long = Some (codes "max-batch"); value_names = 1; parser = Some (parser.Signed (pos 1) (pos 65535)) }
+max_batch_rule = record (new_rule (codes "max-batch")) {
+  long = Some (codes "max-batch");
+  value_names = 1;
+  parser = Some (parser.Signed (pos 1) (pos 65535));
+}
 
 abbrev pub max_answer_rule : Rule
-max_answer_rule = record (new_rule (codes "max-answer")) { long = Some (codes "max-answer"); value_names = 1; parser = Some (parser.Signed (pos 1) (pos 4294967295)) }
+max_answer_rule = record (new_rule (codes "max-answer")) {
+  long = Some (codes "max-answer");
+  value_names = 1;
+  parser = Some (parser.Signed (pos 1) (pos 4294967295));
+}
 
 abbrev pub explain_rule : Rule
-explain_rule = record (new_rule (codes "explain")) { long = Some (codes "explain"); action = Some SetTrue }
+explain_rule =
+    record (new_rule (codes "explain")) { long = Some (codes "explain"); action = Some SetTrue }
 
 abbrev pub trace_rule : Rule
 trace_rule = record (new_rule (codes "trace")) { long = Some (codes "trace"); value_names = 1 }
@@ -33,11 +48,14 @@ table_rule = record (new_rule (codes "NAME=F")) { action = Some Append }
 
 -- the program without its name, which tells its version
 abbrev pub unnamed : App
-unnamed = let a : App = new_app (codes "query_cli") in record a { top = record a.top { no_binary_name = true; has_version = true } }
+unnamed = let a : App = new_app (codes "query_cli") in
+    record a { top = record a.top { no_binary_name = true; has_version = true } }
 
 -- the options
 abbrev pub options : App
-options = with_rule (with_rule (with_rule (with_rule (with_rule (with_rule (with_rule unnamed schema_rule) bindings_rule) workers_rule) max_batch_rule) max_answer_rule) explain_rule) trace_rule
+options =
+    with_rule (with_rule (with_rule (with_rule (with_rule (with_rule (with_rule unnamed schema_rule)
+    bindings_rule) workers_rule) max_batch_rule) max_answer_rule) explain_rule) trace_rule
 
 -- two files, three numbers, a flag and a file of a trace if wanted, a file of requests, and any number of tables
 abbrev pub command_line : App

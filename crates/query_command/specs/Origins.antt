@@ -50,10 +50,12 @@ origin_of_world world.NoMemory = None
 abbrev pub origin_of_serve : ServeFault → Option Origin
 origin_of_serve serve.LineTooLong = in_file file.Requests location.Whole
 origin_of_serve serve.ReadFault = in_file file.Requests location.Whole
-origin_of_serve serve.WriteFault = Some (record { subject = subject.Output; location = location.Whole })
+origin_of_serve serve.WriteFault =
+    Some (record { subject = subject.Output; location = location.Whole })
 origin_of_serve serve.NoMemory = None
 origin_of_serve serve.BadCount = None
-origin_of_serve serve.TraceFault = Some (record { subject = subject.Trace; location = location.Whole })
+origin_of_serve serve.TraceFault =
+    Some (record { subject = subject.Trace; location = location.Whole })
 
 -- gives where a fault is by itself; of a table and of a file the end alone can't tell
 abbrev pub origin_of : RunEnd → Option Origin
@@ -68,17 +70,20 @@ origin_of (stop.Serve fault) = origin_of_serve fault
 -- the file that couldn't be opened or created, or the place of a fault in what was read
 abbrev pub origin_of_opening : OpenFault → Option Origin
 origin_of_opening (opening.Unread input reason) = in_file input (location.Reason reason)
-origin_of_opening (opening.Table place fault (Some reason)) = in_file (file.Table place) (location.Reason reason)
+origin_of_opening (opening.Table place fault (Some reason)) =
+    in_file (file.Table place) (location.Reason reason)
 origin_of_opening (opening.Table place fault None) = in_file (file.Table place) location.Whole
 origin_of_opening (opening.World fault) = origin_of_world fault
-origin_of_opening (opening.Uncreated reason) = Some (record { subject = subject.Trace; location = location.Reason reason })
+origin_of_opening (opening.Uncreated reason) =
+    Some (record { subject = subject.Trace; location = location.Reason reason })
 origin_of_opening opening.NoMemory = None
 
 -- the path of a file of the words
 abbrev pub path_of : CommandWords → InputFile → List ℕ
 path_of words file.Schema = string_bytes words.files.schema
 path_of words file.Bindings = string_bytes words.files.bindings
-path_of words (file.Table place) = option_map_or (λ t. string_bytes t.file) (slice_get words.files.tables.items place) []
+path_of words (file.Table place) =
+    option_map_or (λ t. string_bytes t.file) (slice_get words.files.tables.items place) []
 path_of words file.Requests = string_bytes words.requests
 
 -- the path of the trace's file, empty where nothing is traced

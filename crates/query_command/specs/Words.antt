@@ -31,12 +31,15 @@ pub record AreTables (words : List (List ℕ)) (tables : List TableFile) : Type 
 
 -- the tables that the words name; none where one has no `=`
 abbrev pub NamesTables : List (List ℕ) → Option (Vec TableFile) → Type 0
-NamesTables words found = MatchOption found (Any HasNoEquals words) (λ tables. AreTables words tables.items)
+NamesTables words found =
+    MatchOption found (Any HasNoEquals words) (λ tables. AreTables words tables.items)
 
 -- the text of a number in decimal, where there is one that fits
 abbrev pub IsNumber : Option (List ℕ) → Option ℕ → Type 0
 IsNumber None n = n ≡ None
-IsNumber (Some text) n = SomeIff n (IsNumeral 10 (without_leading_plus text) × (digits_value 10 (without_leading_plus text) < 2 ^ 32)) (digits_value 10 (without_leading_plus text))
+IsNumber (Some text) n = SomeIff n (IsNumeral 10 (without_leading_plus text)
+    × (digits_value 10 (without_leading_plus text) < 2 ^ 32))
+    (digits_value 10 (without_leading_plus text))
 
 -- tells whether `clap` has set a flag
 abbrev pub IsFlag : Option (List ℕ) → Bool → Type 0
@@ -106,8 +109,10 @@ IsRefusedWith kinds stop = (kind : ErrorKind) × IsAmong kind kinds × Refuses k
 abbrev pub IsRefused : List (List ℕ) → RunEnd → Type 0
 IsRefused texts stop.Served = ⊥
 IsRefused texts (stop.Help text) = IsRefusedWith (fault_of command_line texts) (stop.Help text)
-IsRefused texts (stop.Command text) = IsRefusedWith (fault_of command_line texts) (stop.Command text)
-    ⊎ ((fault_of command_line texts ≡ []) × IsBadTable (matches_of command_line texts) (string_bytes text))
+IsRefused texts (stop.Command text) =
+    IsRefusedWith (fault_of command_line texts) (stop.Command text)
+    ⊎ ((fault_of command_line texts ≡ [])
+    × IsBadTable (matches_of command_line texts) (string_bytes text))
 IsRefused texts (stop.World fault) = ⊥
 IsRefused texts (stop.Table fault) = ⊥
 IsRefused texts stop.File = ⊥

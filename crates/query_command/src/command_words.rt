@@ -103,7 +103,8 @@ fn table_file(alloc: Global, word: &str) -> Result<Option<TableFile>, AllocError
 
 // The tables that words name, where each has a `=`.
 fn table_files(alloc: Global, words: &[&str]) -> Result<Option<Vec<TableFile>>, AllocError>
-    ensures { IfOk result (NamesTables (map (λ w. w.now) words.now)) }
+    ensures { IfOk result
+        (NamesTables (map (λ w. w.now) words.now)) }
 {
     let mut tables = Vec::new(alloc);
     for word in words {
@@ -127,8 +128,10 @@ fn tables_of(alloc: Global, matches: &ArgMatches<'_>) -> Result<Option<Vec<Table
 
 // The parts of what `clap` reads.
 fn words_of(alloc: Global, matches: &ArgMatches<'_>) -> Result<CommandWords, RunEnd>
-    ensures ok { IfOk result (IsWords (rows_of (found_of matches.now))) }
-    ensures err { IfErr result (IsUnread (rows_of (found_of matches.now))) }
+    ensures ok { IfOk result
+        (IsWords (rows_of (found_of matches.now))) }
+    ensures err { IfErr result
+        (IsUnread (rows_of (found_of matches.now))) }
 {
     let Some(tables) = tables_of(alloc, matches)? else {
         return Err(RunEnd::Command(String::from_str(alloc, "bad table")?));
@@ -158,8 +161,10 @@ impl CommandWords {
     /// `Help` with the text of `clap` where help or the version is asked for; `Command` with the text of `clap` where it refuses the words,
     /// or with `bad table` where it takes them and the word of a table has no `=`; and `Serve` for want of memory.
     pub fn read(alloc: Global, words: &[String]) -> Result<CommandWords, RunEnd>
-        ensures ok { IfOk result (IsRead (map string_bytes words.now)) }
-        ensures err { IfErr result (IsRefused (map string_bytes words.now)) }
+        ensures ok { IfOk result
+            (IsRead (map string_bytes words.now)) }
+        ensures err { IfErr result
+            (IsRefused (map string_bytes words.now)) }
     {
         let command = command(alloc)?;
         match command.try_get_matches_from(words) {

@@ -260,7 +260,8 @@ fn written_reason(alloc: Global, file: &str, reason: io::Error) -> Result<String
 
 // The file, and where in it.
 fn location_text(alloc: Global, file: &str, location: FaultLocation) -> Result<String, AllocError>
-    ensures { IfOk result (λ text. IsWritten file.now location (string_bytes text)) }
+    ensures { IfOk result (λ text.
+        IsWritten file.now location (string_bytes text)) }
 {
     match location {
         FaultLocation::Whole => String::from_str(alloc, file),
@@ -272,7 +273,8 @@ fn location_text(alloc: Global, file: &str, location: FaultLocation) -> Result<S
 
 // Returns what is said of a fault, where it is asked for and memory allows.
 fn explanation(alloc: Global, words: &CommandWords, origin: Option<Origin>) -> Option<String>
-    ensures { IfSome result (λ text. Explains words.now origin (string_bytes text)) }
+    ensures { IfSome result (λ text.
+        Explains words.now origin (string_bytes text)) }
 {
     if !words.explain {
         return None;

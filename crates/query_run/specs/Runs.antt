@@ -47,14 +47,16 @@ IsSampleRun d end = ((world : WorldOf) × IsSample world × IsServed (within Non
 abbrev pub IsServedTo : Option (String Global) → Holdings
     → Option ℕ → ServiceOf → DevicesOf → RunEnd → Type 0
 IsServedTo None written workers service d end = IsServedBy workers service d end
-IsServedTo (Some path) written workers service d end = IsTracedTo (written (string_bytes path)) workers service d end
+IsServedTo (Some path) written workers service d end =
+    IsTracedTo (written (string_bytes path)) workers service d end
 
 abbrev pub IsServedFor : CommandWords → Holdings → ServiceOf → DevicesOf → RunEnd → Type 0
 IsServedFor words written service d end = IsServedTo words.trace written words.workers service d end
 
 -- The request lines of a file were served over the world of the other files, with the limits and the trace of the words. As far as it is
 -- known what the files hold, the world is of all that they hold, and so are the lines.
-pub record AreFilesServed (holds written : Holdings) (words : CommandWords) (old new : Option (List ℕ)) (end : RunEnd) : Type 0 where
+pub record AreFilesServed (holds written : Holdings) (words : CommandWords)
+    (old new : Option (List ℕ)) (end : RunEnd) : Type 0 where
   pub world : WorldOf
   pub from : IsWorldFrom holds words.files world
   pub devices : DevicesOf
@@ -63,7 +65,8 @@ pub record AreFilesServed (holds written : Holdings) (words : CommandWords) (old
   pub served : IsServedFor words written (within words.max_answer world) devices end
 
 -- no world or no request lines were to be had of the files, and nothing was written
-pub record AreFilesUnserved (holds : Holdings) (words : CommandWords) (old new : Option (List ℕ)) (end : RunEnd) : Type 0 where
+pub record AreFilesUnserved (holds : Holdings) (words : CommandWords) (old new : Option (List ℕ))
+    (end : RunEnd) : Type 0 where
   pub fault : OpenFault
   pub unmade : IsUnmadeFrom holds words.files fault ⊎ IsUnread Requests fault
   pub told : end ≡ stop_of fault
@@ -76,7 +79,8 @@ IsFilesRun holds written words old new end = AreFilesServed holds written words 
 
 -- no file is written but one that the words name for a trace
 abbrev pub WritesTrace : CommandWords → Holdings → Holdings → Type 0
-WritesTrace words before after = (after ≡ before) ⊎ ((path : String Global) × (words.trace ≡ Some path) × WritesNoOther (string_bytes path) before after)
+WritesTrace words before after = (after ≡ before) ⊎ ((path : String Global)
+    × (words.trace ≡ Some path) × WritesNoOther (string_bytes path) before after)
 
 -- the help was written with a line feed, or a front of it went out
 abbrev pub IsShown : List ℕ → Option (List ℕ) → Option (List ℕ) → RunEnd → Type 0
@@ -98,7 +102,8 @@ EndsAsRefused refusal old new end = (end ≡ refusal) × Keeps old new
 -- a run of words: of the files that they name, where they are read, or else of what is said of them
 abbrev pub IsWordsRun : Holdings → Holdings → List (List ℕ)
     → Option (List ℕ) → Option (List ℕ) → RunEnd → Type 0
-IsWordsRun holds written texts old new end = ((words : CommandWords) × IsRead texts words × IsFilesRun holds written words old new end)
+IsWordsRun holds written texts old new end =
+    ((words : CommandWords) × IsRead texts words × IsFilesRun holds written words old new end)
     ⊎ ((refusal : RunEnd) × IsRefused texts refusal × EndsAsRefused refusal old new end)
 
 -- Without words the sample world is served from the reader. Else nothing is read of it.
@@ -116,12 +121,14 @@ unknown path = None
 -- lines were served with the workers and the trace of a run's words
 abbrev pub ServesFor : {R G : Type 0} → Holdings → RunContext R G
     → Service → DevicesOf → LocatedRunEnd → Type 0
-ServesFor written run service d end = IsServedFor run.words.now written (service_of service) d end.stop
+ServesFor written run service d end =
+    IsServedFor run.words.now written (service_of service) d end.stop
 
 -- a run of words that are read, to a writer whose contents a function says
 abbrev pub RunsFiles : {R G W : Type 0} → Holdings → Holdings → RunContext R G
     → (W → Option (List ℕ)) → CountedDevice W → CountedDevice W → LocatedRunEnd → Type 0
-RunsFiles holds written run contents old new end = IsFilesRun holds written run.words.now (contents (device_of old)) (contents (device_of new)) end.stop
+RunsFiles holds written run contents old new end = IsFilesRun holds written run.words.now
+    (contents (device_of old)) (contents (device_of new)) end.stop
 
 -- a run of the words of a program
 abbrev pub RunsIn : Holdings → Holdings → List (String Global) → DevicesOf → End → Type 0
@@ -137,7 +144,8 @@ WritesOnlyTrace texts before after = (after ≡ before)
 -- says where the fault of serving is, or why the file of the trace can't be created
 abbrev pub IsPlacedTrace : LocatedRunEnd → Type 0
 IsPlacedTrace end = (end.origin ≡ origin_of end.stop)
-    ⊎ ((fault : OpenFault) × IsUncreated fault × (end.stop ≡ stop_of fault) × (end.origin ≡ origin_of_opening fault))
+    ⊎ ((fault : OpenFault) × IsUncreated fault × (end.stop ≡ stop_of fault)
+    × (end.origin ≡ origin_of_opening fault))
 
 -- a file of the words can't be opened or created, or the files of the world give none
 abbrev pub IsUnopenedOf : CommandWords → OpenFault → Type 0
@@ -146,7 +154,8 @@ IsUnopenedOf words fault = IsLocated words.files fault ⊎ IsUnread Requests fau
 -- says where the fault is: what the end itself says, or what is known of the files that were to be opened
 abbrev pub IsPlaced : CommandWords → LocatedRunEnd → Type 0
 IsPlaced words end = (end.origin ≡ origin_of end.stop)
-    ⊎ ((fault : OpenFault) × IsUnopenedOf words fault × (end.stop ≡ stop_of fault) × (end.origin ≡ origin_of_opening fault))
+    ⊎ ((fault : OpenFault) × IsUnopenedOf words fault × (end.stop ≡ stop_of fault)
+    × (end.origin ≡ origin_of_opening fault))
 
 -- says what is said besides: the words asked for it, and it names the file of the fault and where in it that is, as far as that is known
 abbrev pub SaysWhere : List (List ℕ) → RunEnd → List ℕ → Type 0
@@ -156,7 +165,8 @@ SaysWhere texts stop text = (words : CommandWords) × (end : LocatedRunEnd)
 
 -- says why the program has no words
 abbrev pub IsWordless : RunEnd → Type 0
-IsWordless (stop.Command text) = string_bytes text ≡ codes "error: invalid UTF-8 was detected in one or more arguments"
+IsWordless (stop.Command text) =
+    string_bytes text ≡ codes "error: invalid UTF-8 was detected in one or more arguments"
 IsWordless (stop.Serve fault) = fault ≡ serve.NoMemory
 IsWordless (stop.Help text) = ⊥
 IsWordless stop.Served = ⊥

@@ -47,11 +47,13 @@ traced_by client device = record { client = client; device = device }
 abbrev pub IsTracedFrom : Option ℕ → ServiceOf → TraceDevice
     → TraceDevice → DevicesOf → RunEnd → Type 0
 IsTracedFrom workers service first last d end =
-    ((client : ClientOf SourceOf) × (later : ClientOf SourceOf) × IsTracedBy workers service (traced_by client first) (traced_by later last) d end)
+    ((client : ClientOf SourceOf) × (later : ClientOf SourceOf)
+    × IsTracedBy workers service (traced_by client first) (traced_by later last) d end)
     ⊎ ((end ≡ stop.Serve serve.NoMemory) × IsUntouched d × (last ≡ first))
 
 -- A file was created for the trace, which was empty then, and once it is closed it holds all that was traced, as far as that is known.
-pub record HasTrace (held : Option (List ℕ)) (workers : Option ℕ) (service : ServiceOf) (d : DevicesOf) (end : RunEnd) : Type 0 where
+pub record HasTrace (held : Option (List ℕ)) (workers : Option ℕ) (service : ServiceOf)
+    (d : DevicesOf) (end : RunEnd) : Type 0 where
   pub first : TraceDevice
   pub last : TraceDevice
   pub served : IsTracedFrom workers service first last d end
@@ -77,9 +79,11 @@ TracesFor workers contents old new d end = (s : ServiceOf) → IsClientOf s old.
 abbrev pub TracesService : {R G T : Type 0} → (T → Option (List ℕ))
     → RunContext R G → Service → CountedDevice T → DevicesOf → TracedRun T → Type 0
 TracesService contents run service trace d traced =
-    IsTracedFrom run.words.now.workers (service_of service) (trace_device contents trace) (trace_device contents traced.trace) d traced.stop
+    IsTracedFrom run.words.now.workers (service_of service) (trace_device contents trace)
+    (trace_device contents traced.trace) d traced.stop
 
 -- they were traced to a file, which holds this then
 abbrev pub TracesTo : {R G : Type 0} → Option (List ℕ)
     → RunContext R G → Service → DevicesOf → LocatedRunEnd → Type 0
-TracesTo held run service d end = IsTracedTo held run.words.now.workers (service_of service) d end.stop
+TracesTo held run service d end =
+    IsTracedTo held run.words.now.workers (service_of service) d end.stop

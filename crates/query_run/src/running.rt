@@ -169,7 +169,8 @@ fn trace_requests<
     ensures run { TracesTo (D.written folder.new path.now) run.now service.now
         (devices I.remaining W.contents reader.old reader.new writer.old writer.new) result }
     ensures placed { IsPlacedTrace result }
-    ensures others { WritesNoOther path.now (D.written folder.old) (D.written folder.new) }
+    ensures others { WritesNoOther path.now
+        (D.written folder.old) (D.written folder.new) }
 {
     let file = match create_trace(folder, path) {
         Ok(file) => file,
@@ -203,7 +204,8 @@ fn serve_requests<
     ensures run { ServesFor (D.written folder.new) run.now service.now
         (devices I.remaining W.contents reader.old reader.new writer.old writer.new) result }
     ensures placed { IsPlacedTrace result }
-    ensures written { WritesTrace run.now.words.now (D.written folder.old) (D.written folder.new) }
+    ensures written { WritesTrace run.now.words.now
+        (D.written folder.old) (D.written folder.new) }
 {
     match &run.words.trace {
         Some(path) => trace_requests(run, folder, path.as_str(), service, reader, writer),
@@ -227,7 +229,8 @@ fn run_files<R: Threads + Wait + AllocGlobal + Sync, D: Folder, G: Gate + Copy, 
     ensures run { RunsFiles (D.holds folder.old) (D.written folder.new)
         run.now W.contents writer.old writer.new result }
     ensures placed { IsPlaced run.now.words.now result }
-    ensures written { WritesTrace run.now.words.now (D.written folder.old) (D.written folder.new) }
+    ensures written { WritesTrace run.now.words.now
+        (D.written folder.old) (D.written folder.new) }
 {
     let world = match open_world(run.rt.alloc(), folder, &run.words.files) {
         Ok(world) => world,

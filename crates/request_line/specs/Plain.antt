@@ -29,7 +29,8 @@ array_items depth ts = converted of_items (json.items (json.value depth) (length
 
 -- the other members of an object, in the same way
 abbrev pub object_members : ℕ → List Token → Option (Members × List Token)
-object_members depth ts = converted (λ ms. of_members ms no_members) (json.members (json.value depth) (length ts) ts)
+object_members depth ts =
+    converted (λ ms. of_members ms no_members) (json.members (json.value depth) (length ts) ts)
 
 -- these members have this query, this operation name and these variables
 pub record Says (found : Members) (parts : RequestMembers) : Type 0 where

@@ -27,7 +27,8 @@ pub enum Line<'v> {
 
 // Returns what the values of an array ask, in order.
 fn requests(alloc: Global, values: &[Value]) -> Result<Vec<Option<Request<'_>>>, AllocError>
-    ensures { IfOk result (λ found. requests_of found.items ≡ asked_each (items_view values.now)) }
+    ensures { IfOk result (λ found. requests_of found.items
+        ≡ asked_each (items_view values.now)) }
 {
     values.iter().map(Request::of_value).collect(alloc)
 }

@@ -25,7 +25,8 @@ pub(crate) enum MemberValue<'l> {
 impl<'l> MemberValue<'l> {
     /// The text of a string.
     pub(crate) fn as_str(&self) -> Option<&'l str>
-        ensures { option_map (λ s. s.now) result ≡ as_str (value_seen self.now) }
+        ensures { option_map (λ s. s.now) result
+            ≡ as_str (value_seen self.now) }
     {
         match self {
             MemberValue::String(text) => Some(*text),
@@ -47,7 +48,8 @@ impl<'l> MemberValue<'l> {
 
     /// Does the same as a value of its own.
     pub(crate) fn into_value(self, alloc: Global) -> Result<Value, AllocError>
-        ensures { IfOk result (λ value. view value ≡ value_seen self.entry) }
+        ensures { IfOk result
+            (λ value. view value ≡ value_seen self.entry) }
     {
         match self {
             MemberValue::Null => Ok(Value::Null),

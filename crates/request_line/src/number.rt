@@ -9,7 +9,8 @@ use serde_json::Number;
 
 // Returns what a numeral after a minus writes. `-0` is a float.
 fn negative(numeral: &Numeral<'_>) -> Option<Number>
-    ensures { option_map number_view result ≡ number_from true numeral.now }
+    ensures { option_map number_view result
+        ≡ number_from true numeral.now }
 {
     if let Some(n) = numeral.to_i64(true) {
         if n < 0 {
@@ -21,7 +22,8 @@ fn negative(numeral: &Numeral<'_>) -> Option<Number>
 
 // Returns what a numeral without a sign writes.
 fn unsigned(numeral: &Numeral<'_>) -> Option<Number>
-    ensures { option_map number_view result ≡ number_from false numeral.now }
+    ensures { option_map number_view result
+        ≡ number_from false numeral.now }
 {
     match numeral.to_u64() {
         Some(n) => Some(Number::from(n)),
@@ -30,7 +32,8 @@ fn unsigned(numeral: &Numeral<'_>) -> Option<Number>
 }
 
 fn has_minus(bytes: &[u8]) -> bool
-    ensures value { result ≡ (slice_index bytes.now 0 == 45) }
+    ensures value { result ≡ (slice_index bytes.now 0
+        == 45) }
     ensures some { IsTrue result → 0 < length bytes.now }
 {
     !bytes.is_empty() && bytes[0] == b'-'
@@ -38,7 +41,8 @@ fn has_minus(bytes: &[u8]) -> bool
 
 /// The number that the text of a token writes: an integer of 64 bits, or else the nearest float. `None` is beyond a float's range.
 pub(crate) fn read_number(text: &str) -> Option<Number>
-    ensures { option_map number_view result ≡ number_of text.now }
+    ensures { option_map number_view result
+        ≡ number_of text.now }
 {
     let bytes = text.as_bytes();
     if has_minus(bytes) {

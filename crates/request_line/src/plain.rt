@@ -86,7 +86,8 @@ fn read_members<'l>(
     alloc: Global,
     reader: &mut Reader<'l>,
 ) -> Result<Option<RequestMembers<'l>>, AllocError>
-    ensures { IfOk result (λ read. IfSome read (ReadsMembers reader.old reader.new)) }
+    ensures { IfOk result (λ read.
+        IfSome read (ReadsMembers reader.old reader.new)) }
 {
     let mut parts = RequestMembers::new();
     loop {
@@ -114,7 +115,8 @@ pub(crate) fn read_plain<'l>(
     scratch: &'l mut Scratch,
     value: &'l mut Value,
 ) -> Result<Option<Line<'l>>, AllocError>
-    ensures { IfOk result (λ read. IfSome read (IsReading text.now)) }
+    ensures { IfOk result
+        (λ read. IfSome read (IsReading text.now)) }
 {
     let mut reader = Reader::new(text, scratch)?;
     let Some(Token::BeginObject) = reader.next() else {

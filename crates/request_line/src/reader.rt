@@ -38,7 +38,8 @@ fn read_plain_line<'l>(
     scratch: &'l mut Scratch,
     variables: &'l mut Value,
 ) -> Result<Option<Line<'l>>, AllocError>
-    ensures { IfOk result (λ read. IfSome read (IsReading line.now)) }
+    ensures { IfOk result
+        (λ read. IfSome read (IsReading line.now)) }
 {
     match str::from_utf8(line) {
         Ok(text) => read_plain(alloc, text, scratch, variables),

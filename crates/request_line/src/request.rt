@@ -36,7 +36,8 @@ impl<'v> Request<'v> {
     /// The request that a value is: an object with a string `query` and, if wanted, `operationName`, a string or null, and
     /// `variables`. Other members are ignored; of a repeated member the last counts. `None` is no request.
     pub fn of_value(value: &'v Value) -> Option<Request<'v>>
-        ensures { option_map request_of result ≡ asked (view value.entry.now) }
+        ensures { option_map request_of result
+            ≡ asked (view value.entry.now) }
     {
         let query = value.get("query").and_then(Value::as_str)?;
         let operation_name = operation_name(value)?;

@@ -13,7 +13,8 @@ use Rattle.load_queue.specs.Loaders.{LoaderOf}
 abbrev pub HaveLoaders : {S : Type 0} → List (LoaderOf S) → List OrderOf → Type 0
 HaveLoaders loaders orders = All (λ (o : OrderOf). o.loader < length loaders) orders
 
-module _ {S : Type 0} (may : S → List KeyOf → AnswerOf → Type 0) (loaders : List (LoaderOf S)) (shelf : Shelf) where
+module _ {S : Type 0} (may : S → List KeyOf → AnswerOf → Type 0)
+    (loaders : List (LoaderOf S)) (shelf : Shelf) where
   -- the receipt shows, on this shelf, a reply to the order
   abbrev pub Shows : OrderOf → Receipt → Type 0
   Shows order receipt = IsOn shelf receipt × IsReplyTo may loaders order (shown receipt)

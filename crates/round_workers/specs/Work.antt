@@ -20,7 +20,9 @@ CanShare loaders hand workers = (0 < workers)
     × (workers ≤ hand.parts) × HaveLoaders loaders hand.all
 
 -- more orders were taken, and at Ok the receipts show replies to these, in order
-pub record Worked {S : Type 0} (may : S → List KeyOf → AnswerOf → Type 0) (loaders : List (LoaderOf S)) (shelf : Shelf) (old new : Hand) (result : Result (Vec Receipt) AllocError) : Type 0 where
+pub record Worked {S : Type 0} (may : S → List KeyOf → AnswerOf → Type 0)
+    (loaders : List (LoaderOf S)) (shelf : Shelf) (old new : Hand)
+    (result : Result (Vec Receipt) AllocError) : Type 0 where
   pub parts : new.parts ≡ old.parts
   pub all : new.all ≡ old.all
   pub more : List OrderOf

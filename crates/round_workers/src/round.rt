@@ -54,7 +54,8 @@ fn work<S: Source, R: Wait>(
 ) -> Result<Vec<Receipt>, AllocError>
     requires desk { IsPassOf bench.now.desk.now worker.old }
     requires part { 0 < (view worker.old).parts }
-    requires loaders { HaveLoaders bench.now.loaders.now (view worker.old).all }
+    requires loaders { HaveLoaders bench.now.loaders.now
+        (view worker.old).all }
     ensures desk { IsPassOf bench.now.desk.now worker.new }
     ensures worked { Worked S.may_answer bench.now.loaders.now
         bench.now.shelf.now (view worker.old) (view worker.new) result }
@@ -79,8 +80,10 @@ fn share<S: Source, R: Threads + Wait + Sync>(
     workers: usize,
 ) -> Result<Vec<Receipt>, AllocError>
     requires desk { IsPassOf bench.now.desk.now worker.old }
-    requires part { (0 < workers) × (workers ≤ (view worker.old).parts) }
-    requires loaders { HaveLoaders bench.now.loaders.now (view worker.old).all }
+    requires part { (0 < workers)
+        × (workers ≤ (view worker.old).parts) }
+    requires loaders { HaveLoaders bench.now.loaders.now
+        (view worker.old).all }
     ensures desk { IsPassOf bench.now.desk.now worker.new }
     ensures worked { Worked S.may_answer bench.now.loaders.now
         bench.now.shelf.now (view worker.old) (view worker.new) result }
@@ -90,53 +93,23 @@ fn share<S: Source, R: Threads + Wait + Sync>(
     }
     let half = workers / 2;
     let rest = workers - half;
-    let Bench {
-        alloc,
-        loaders,
-        shelf,
-        desk,
-    } = *bench;
-    let mut other = desk.another::<Halves>(worker);
+    let mut other = bench.desk.another::<Halves>(worker);
     let (mine, theirs) = join_mut(
         rt,
         &mut || -> Result<Vec<Receipt>, AllocError>
-            requires { IsSync R.row × IsSync S.row × IsPassOf desk.now worker.now
-                × CanShare loaders.now (view worker.now) rest }
-            ensures { WorkedAt S.may_answer loaders.entry.now shelf.entry.now
-                desk.entry.now worker.entry.now worker.exit.now result }
-        {
-            share(
-                rt,
-                &Bench {
-                    alloc,
-                    loaders,
-                    shelf,
-                    desk,
-                },
-                worker,
-                rest,
-            )
-        },
+            requires { IsSync R.row × IsSync S.row × IsPassOf bench.now.desk.now worker.now
+                × CanShare bench.now.loaders.now (view worker.now) rest }
+            ensures { WorkedAt S.may_answer bench.entry.now.loaders.now bench.entry.now.shelf.now
+                bench.entry.now.desk.now worker.entry.now worker.exit.now result }
+        { share(rt, bench, worker, rest) },
         &mut || -> Result<Vec<Receipt>, AllocError>
-            requires { IsSync R.row × IsSync S.row × IsPassOf desk.now other
-                × CanShare loaders.now (view other) half }
-            ensures { WorkedAt S.may_answer loaders.entry.now shelf.entry.now
-                desk.entry.now other.entry other.exit result }
-        {
-            share(
-                rt,
-                &Bench {
-                    alloc,
-                    loaders,
-                    shelf,
-                    desk,
-                },
-                &mut other,
-                half,
-            )
-        },
+            requires { IsSync R.row × IsSync S.row × IsPassOf bench.now.desk.now other
+                × CanShare bench.now.loaders.now (view other) half }
+            ensures { WorkedAt S.may_answer bench.entry.now.loaders.now bench.entry.now.shelf.now
+                bench.entry.now.desk.now other.entry other.exit result }
+        { share(rt, bench, &mut other, half) },
     );
-    desk.absorb::<Halves>(worker, other);
+    bench.desk.absorb::<Halves>(worker, other);
     join_receipts(mine, theirs)
 }
 
@@ -157,9 +130,12 @@ fn join_receipts(
 
 // Puts all orders into the queue.
 fn put_all<R: Wait>(rt: &R, desk: &Desk, worker: &mut Worker, orders: Vec<Order>)
-    requires desk { IsPassOf desk.now worker.old × (view worker.old ≡ hand 16 [] []) }
-    requires room { ruled_capacity desk.now ≡ length orders.items }
-    ensures { IsPassOf desk.now worker.new × (view worker.new ≡ hand 16 orders.items []) }
+    requires desk { IsPassOf desk.now worker.old
+        × (view worker.old ≡ hand 16 [] []) }
+    requires room { ruled_capacity desk.now
+        ≡ length orders.items }
+    ensures { IsPassOf desk.now worker.new
+        × (view worker.new ≡ hand 16 orders.items []) }
 {
     for order in orders {
         match desk.push_as::<Put, R>(rt, worker, order) {
@@ -190,10 +166,12 @@ pub fn run_round<S: Source, R: Threads + Wait + Sync>(
     workers: usize,
 ) -> Result<Vec<Receipt>, AllocError>
     requires workers { (0 < workers) × (workers ≤ 16) }
-    requires loaders { HaveLoaders loaders.now orders.items }
+    requires loaders { HaveLoaders
+        loaders.now orders.items }
     ensures answered { IfOk result (λ v.
         AllAnswered S.may_answer loaders.now shelf.now orders.items v.items) }
-    ensures shelved { IfOk result (λ v. All (IsOn shelf.now) v.items) }
+    ensures shelved { IfOk result
+        (λ v. All (IsOn shelf.now) v.items) }
 {
     if orders.is_empty() {
         return Ok(Vec::new(alloc));

@@ -5,6 +5,7 @@ use Rattle.std.proofs.lemmas.List.Elements.{All-head, All-tail, All-nil, All-con
 use Rattle.std.proofs.lemmas.List.Sorted.{IsPermutation-refl}
 use Rattle.std.specs.Prelude.{All}
 use Rattle.load_memory.specs.Keys.{KeyOf}
+use Rattle.load_memory.specs.Pairs.{MemoryOf}
 use Rattle.load_memory.specs.Replies.{ReplyOf}
 use Rattle.load_memory.proofs.ReplyPairs.{All-of_map}
 use Rattle.load_queue.specs.Answers.{AnswerOf}
@@ -30,7 +31,7 @@ use Rattle.rounds_by_hand.specs.declared.hand.Advance.TheVariants as did
 use Rattle.rounds_by_hand.specs.declared.pending.Pending.{Pending}
 use Rattle.rounds_by_hand.specs.declared.pending.Pending.TheVariants.{Out, In}
 use Rattle.rounds_by_hand.specs.Pending.{order_in, is_in, IsAnswered}
-use Rattle.rounds_by_hand.specs.Hands.{FarOf, handed, out, over, IsOutWith, HasGone, GoesFrom, TellsFrom, StopsFrom}
+use Rattle.rounds_by_hand.specs.Hands.{FarOf, handed, out, over, IsOutWith, HoldsFar, HasGone, GoesFrom, StepsFrom, TellsFrom, StopsFrom}
 
 -- orders of which none is answered
 pub none-answered : (may : ℕ → List KeyOf → AnswerOf → Type 0) (ps : List Pending) → All (λ one. is_in one ≡ false) ps → All (IsAnswered may) ps
@@ -117,3 +118,14 @@ module _ {S : Type 0} where
     pub stops-weaker : (from more : SessionOf S → Type 0) (now : SessionOf S) (plans others : List P) → others ≡ plans → ((begun : SessionOf S) → from begun → more begun)
         → StopsFrom program text_of may more now others → StopsFrom program text_of may from now plans
     stops-weaker from more now plans others e to tells = λ begun h. subst (λ ps. StopsAnswering may (state_of begun) (state_of now) (joint program text_of ps)) e (tells begun (to begun h))
+
+  module _ {P E : Type 0} (program : P → Program) (text_of : P → AnsweredOf → List ℕ) (loaders : P → ℕ) (fits : P → E → MemoryOf → Type 0) (may : S → List KeyOf → AnswerOf → Type 0) where
+    -- a step from sessions on which more holds, and of plans that are the same
+    pub steps-weaker : (from more : SessionOf S → Type 0) (now : SessionOf S) (plans others : List P) (far : FarOf P E) (did : Advance) → others ≡ plans → ((begun : SessionOf S) → from begun → more begun)
+        → StepsFrom program text_of may loaders fits more now others far did → StepsFrom program text_of may loaders fits from now plans far did
+    steps-weaker from more now plans others far did e to steps = record {
+      holds = subst (λ ps. HoldsFar program text_of loaders fits now ps far) e steps.holds;
+      step = steps.step;
+      went = goes-weaker program text_of may from more now plans others far e to steps.went;
+      tells = tells-weaker program text_of may from more now plans others did e to steps.tells;
+    }

@@ -76,7 +76,8 @@ module _ {P E : Type 0} where
   IsStep far Waiting = ⊥
   IsStep far Over = ⊥
 
-module _ {S P : Type 0} (program : P → Program) (text_of : P → AnsweredOf → List ℕ) (may : S → List KeyOf → AnswerOf → Type 0) where
+module _ {S P : Type 0} (program : P → Program) (text_of : P → AnsweredOf → List ℕ)
+    (may : S → List KeyOf → AnswerOf → Type 0) where
   -- from whichever session they were begun: the answers have the headline
   abbrev pub TellsFrom : (SessionOf S → Type 0) → SessionOf S → List P → Advance → Type 0
   TellsFrom from now plans (Finished answers) =
@@ -109,7 +110,8 @@ module _ {S P E : Type 0} where
   module _ (program : P → Program) (text_of : P → AnsweredOf → List ℕ) where
     -- A round is out, the latest of the session. Its orders are the batches of all that is needed and missing, and each that is answered
     -- has an outcome for each key.
-    pub record IsOutWith (s : StateOf S) (run : RunAllOf P E) (pending : List Pending) : Type 0 where
+    pub record IsOutWith (s : StateOf S) (run : RunAllOf P E)
+        (pending : List Pending) : Type 0 where
       pub stage : run.stage ≡ stage.Out
       pub latest : IsAsked (joint program text_of run.plans) s
       pub orders : map order_in pending ≡ orders_in s (joint program text_of run.plans)
@@ -128,6 +130,18 @@ module _ {S P E : Type 0} where
         pub enough : All (λ plan. loaders plan ≤ length session.loaders) plans
         pub round : HoldsFar session plans far
 
+      -- What a step keeps: what holds between calls, the plans, and how many loaders the session has.
+      pub record KeepsHand (old new : HandOf S P E) : Type 0 where
+        pub holds : Holds new.session new.plans new.far
+        pub plans : new.plans ≡ old.plans
+        pub count : length new.session.loaders ≡ length old.session.loaders
+
+      -- An answer to an order keeps more: the session is as it was.
+      pub record KeepsSession (old new : HandOf S P E) : Type 0 where
+        pub holds : Holds new.session new.plans new.far
+        pub plans : new.plans ≡ old.plans
+        pub session : new.session ≡ old.session
+
     module _ (may : S → List KeyOf → AnswerOf → Type 0) where
       -- the session as it is, by how far they are
       abbrev pub HasGone : SessionOf S → SessionOf S → List P → FarOf P E → Type 0
@@ -135,7 +149,8 @@ module _ {S P E : Type 0} where
       HasGone begun now plans (out run pending) =
           (run.plans ≡ plans) × IsRunAll program text_of may (state_of begun) (state_of now) run
           × All (IsAnswered (may_at may now.loaders)) pending
-      HasGone begun now plans over = StopsAnswering may (state_of begun) (state_of now) (joint program text_of plans)
+      HasGone begun now plans over =
+          StopsAnswering may (state_of begun) (state_of now) (joint program text_of plans)
 
       -- They were begun on this session, as it was then. Since then nothing but their rounds was made in it, and each order was answered as
       -- its source may answer it.
@@ -146,12 +161,23 @@ module _ {S P E : Type 0} where
       abbrev pub GoesFrom : (SessionOf S → Type 0) → SessionOf S → List P → FarOf P E → Type 0
       GoesFrom from now plans far = (begun : SessionOf S) → from begun → HasGone begun now plans far
 
+      -- what a step makes: what holds between calls, and from whichever session they were begun, they have gone so far, and the
+      -- answers have the headline
+      pub record StepsFrom (loaders : P → ℕ) (fits : P → E → MemoryOf → Type 0)
+          (from : SessionOf S → Type 0) (now : SessionOf S) (plans : List P)
+          (far : FarOf P E) (advance : Advance) : Type 0 where
+        pub holds : HoldsFar loaders fits now plans far
+        pub step : IsStep far advance
+        pub went : GoesFrom from now plans far
+        pub tells : TellsFrom program text_of may from now plans advance
+
       -- says the same of the calls of a hand
       abbrev pub GoesOn : HandOf S P E → HandOf S P E → Type 0
       GoesOn old new = GoesFrom (λ begun. IsUnderway begun old) new.session new.plans new.far
 
       abbrev pub AnswersFrom : HandOf S P E → HandOf S P E → Advance → Type 0
-      AnswersFrom old new advance = TellsFrom program text_of may (λ begun. IsUnderway begun old) new.session new.plans advance
+      AnswersFrom old new advance = TellsFrom program text_of may
+          (λ begun. IsUnderway begun old) new.session new.plans advance
 
       -- says the same where an order is answered, if the answer is one that the order's source may give
       abbrev pub GoesOnIfMay : Result (Vec Item) FetchFault
@@ -169,24 +195,26 @@ module _ {S P E : Type 0} where
       -- gives what a step does, from whichever session the run was begun on
       module _ (old : SessionOf S) (run : RunAllOf P E) (new : SessionOf S) where
         -- says where no round is out
-        abbrev pub RunGoes : FarOf P E → Type 0
-        RunGoes far = GoesFrom (λ begun. IsRunAll program text_of may (state_of begun) (state_of old) run) new run.plans far
-
-        abbrev pub RunTells : Advance → Type 0
-        RunTells advance = TellsFrom program text_of may (λ begun. IsRunAll program text_of may (state_of begun) (state_of old) run) new run.plans advance
+        abbrev pub RunSteps : (P → ℕ) → (P → E → MemoryOf → Type 0) → FarOf P E → Advance → Type 0
+        RunSteps loaders fits far advance =
+            StepsFrom loaders fits
+            (λ begun. IsRunAll program text_of may (state_of begun) (state_of old) run)
+            new run.plans far advance
 
         abbrev pub RunStops : Type 0
-        RunStops = StopsFrom program text_of may (λ begun. IsRunAll program text_of may (state_of begun) (state_of old) run) new run.plans
+        RunStops = StopsFrom program text_of may (λ begun.
+            IsRunAll program text_of may (state_of begun) (state_of old) run) new run.plans
 
-        -- a step to a round that is out, with its orders
-        abbrev pub OutGoes : List Pending → FarOf P E → Type 0
-        OutGoes pending far = GoesFrom (λ begun. HasGone begun old run.plans (out run pending)) new run.plans far
-
-        abbrev pub OutTells : List Pending → Advance → Type 0
-        OutTells pending advance = TellsFrom program text_of may (λ begun. HasGone begun old run.plans (out run pending)) new run.plans advance
+        -- says where a round is out, with its orders
+        abbrev pub OutSteps : (P → ℕ) → (P → E → MemoryOf → Type 0)
+            → List Pending → FarOf P E → Advance → Type 0
+        OutSteps loaders fits pending far advance =
+            StepsFrom loaders fits (λ begun. HasGone begun old run.plans (out run pending))
+            new run.plans far advance
 
         abbrev pub OutStops : List Pending → Type 0
-        OutStops pending = StopsFrom program text_of may (λ begun. HasGone begun old run.plans (out run pending)) new run.plans
+        OutStops pending = StopsFrom program text_of may
+            (λ begun. HasGone begun old run.plans (out run pending)) new run.plans
 
         -- says where each order of the round is answered as its source may answer it: the round is stored
         abbrev pub GoesOnIfAnswered : List Pending → RunAllOf P E → Type 0

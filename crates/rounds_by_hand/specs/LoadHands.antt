@@ -72,7 +72,8 @@ IsLoadStep far Over = ⊥
 
 module _ {S : Type 0} where
   abbrev pub load_hand_of : SessionOf S → ℕ → List KeyOf → LoadFarOf → LoadHandOf S
-  load_hand_of session loader keys far = record { session = session; loader = loader; keys = keys; far = far }
+  load_hand_of session loader keys far =
+      record { session = session; loader = loader; keys = keys; far = far }
 
   -- says what a call did; a load has at most one round
   abbrev pub AdvancesLoad : LoadHandOf S → LoadHandOf S → LoadAdvance → Type 0
@@ -95,18 +96,21 @@ module _ {S : Type 0} where
 
   -- A load's round is out, the latest of the session. Its orders are the batches of those keys that aren't known, and each that is answered
   -- has an outcome for each key.
-  pub record IsLoadOutWith (s : StateOf S) (loader : ℕ) (keys : List KeyOf) (pending : List Pending) : Type 0 where
+  pub record IsLoadOutWith (s : StateOf S) (loader : ℕ) (keys : List KeyOf)
+      (pending : List Pending) : Type 0 where
     pub latest : IsLoadOut s loader keys
     pub orders : map order_in pending ≡ orders_at s loader keys
     pub answers : All (IsAnswered any_answer) pending
 
   abbrev pub HoldsLoadFar : SessionOf S → ℕ → List KeyOf → LoadFarOf → Type 0
   HoldsLoadFar session loader keys handed = Unit {0}
-  HoldsLoadFar session loader keys (out pending) = IsLoadOutWith (state_of session) loader keys pending
+  HoldsLoadFar session loader keys (out pending) =
+      IsLoadOutWith (state_of session) loader keys pending
   HoldsLoadFar session loader keys over = Unit {0}
 
   -- No public clause names it. What holds between calls: the session has the loader, and the round that is out is of its keys.
-  pub record HoldsLoad (session : SessionOf S) (loader : ℕ) (keys : List KeyOf) (far : LoadFarOf) : Type 0 where
+  pub record HoldsLoad (session : SessionOf S) (loader : ℕ) (keys : List KeyOf)
+      (far : LoadFarOf) : Type 0 where
     pub within : loader < length session.loaders
     pub round : HoldsLoadFar session loader keys far
 
@@ -118,8 +122,10 @@ module _ {S : Type 0} where
     -- the session as it is, by how far the load is
     abbrev pub HasGoneLoad : SessionOf S → SessionOf S → ℕ → List KeyOf → LoadFarOf → Type 0
     HasGoneLoad begun now loader keys handed = now ≡ begun
-    HasGoneLoad begun now loader keys (out pending) = IsLoading (state_of begun) (state_of now) loader keys × AreAnsweredIn now pending
-    HasGoneLoad begun now loader keys over = IsStopped may (state_of begun) (state_of now) (asked_for (state_of begun) loader keys)
+    HasGoneLoad begun now loader keys (out pending) =
+        IsLoading (state_of begun) (state_of now) loader keys × AreAnsweredIn now pending
+    HasGoneLoad begun now loader keys over =
+        IsStopped may (state_of begun) (state_of now) (asked_for (state_of begun) loader keys)
 
     -- The load was begun on this session, as it was then. Since then nothing but its round was made in it, and each order was answered as
     -- its source may answer it.
@@ -139,7 +145,8 @@ module _ {S : Type 0} where
     -- the keys were loaded, from whichever session the load was begun on: all that was done in it is a call that loads them
     abbrev pub LoadsKeys : LoadHandOf S → LoadHandOf S → LoadAdvance → Type 0
     LoadsKeys old new (Loaded outcomes) =
-        (begun : SessionOf S) → IsLoadUnderway begun old → IsCallOf may (Loading old.loader old.keys (map outcome_of outcomes.items)) begun new.session
+        (begun : SessionOf S) → IsLoadUnderway begun old → IsCallOf may
+        (Loading old.loader old.keys (map outcome_of outcomes.items)) begun new.session
     LoadsKeys old new Round = Unit {0}
     LoadsKeys old new Waiting = Unit {0}
     LoadsKeys old new Over = Unit {0}
@@ -152,17 +159,28 @@ module _ {S : Type 0} where
 
     -- says what a step does where nothing is done yet
     abbrev pub BegunLoadTells : SessionOf S → SessionOf S → ℕ → List KeyOf → LoadAdvance → Type 0
-    BegunLoadTells old new loader keys (Loaded outcomes) = IsLoaded may (state_of old) (state_of new) loader keys (map outcome_of outcomes.items)
+    BegunLoadTells old new loader keys (Loaded outcomes) =
+        IsLoaded may (state_of old) (state_of new) loader keys (map outcome_of outcomes.items)
     BegunLoadTells old new loader keys Round = Unit {0}
     BegunLoadTells old new loader keys Waiting = Unit {0}
     BegunLoadTells old new loader keys Over = Unit {0}
+
+    -- what beginning a load makes: what holds between calls, how far the load is, and what its outcomes are
+    pub record HasBegunLoad (old new : SessionOf S) (loader : ℕ) (keys : List KeyOf)
+        (far : LoadFarOf) (advance : LoadAdvance) : Type 0 where
+      pub holds : HoldsLoad new loader keys far
+      pub step : IsLoadStep far advance
+      pub went : HasGoneLoad old new loader keys far
+      pub tells : BegunLoadTells old new loader keys advance
 
     -- gives what a step does where the round is out, from whichever session the load was begun on
     module _ (old new : SessionOf S) (loader : ℕ) (keys : List KeyOf) (pending : List Pending) where
       abbrev pub OutLoads : Vec Outcome → Type 0
       OutLoads outcomes =
-          (begun : SessionOf S) → HasGoneLoad begun old loader keys (out pending) → IsLoaded may (state_of begun) (state_of new) loader keys (map outcome_of outcomes.items)
+          (begun : SessionOf S) → HasGoneLoad begun old loader keys (out pending)
+          → IsLoaded may (state_of begun) (state_of new) loader keys (map outcome_of outcomes.items)
 
       abbrev pub OutLoadStops : Type 0
       OutLoadStops =
-          (begun : SessionOf S) → HasGoneLoad begun old loader keys (out pending) → IsStopped may (state_of begun) (state_of new) (asked_for (state_of begun) loader keys)
+          (begun : SessionOf S) → HasGoneLoad begun old loader keys (out pending)
+          → IsStopped may (state_of begun) (state_of new) (asked_for (state_of begun) loader keys)

@@ -1,5 +1,5 @@
 -- Orders of a round that is out, some of which are answered.
-use Rattle.std.specs.Prelude.{◌≡◌, ℕ, All, Bool, true, false, List, map, length, slice_get, Option, Some, None, Result}
+use Rattle.std.specs.Prelude.{◌≡◌, ◌≤◌, ◌↔◌, ℕ, All, Bool, true, false, List, map, length, slice_get, Option, Some, None, Result, IsErrOf}
 use Rattle.std.specs.List.{slice_set}
 use Rattle.std.specs.Global.{Vec}
 use Rattle.load_memory.specs.Keys.{KeyOf}
@@ -12,6 +12,8 @@ use Rattle.load_queue.specs.Loaders.{LoaderOf}
 use Rattle.load_queue.specs.Orders.{OrderOf, order_of}
 use Rattle.load_queue.specs.declared.source.FetchFault.{FetchFault}
 use Rattle.execution.specs.Rounds.{AreReplies}
+use Rattle.rounds_by_hand.specs.declared.fault.TakeFault.{TakeFault}
+use Rattle.rounds_by_hand.specs.declared.fault.TakeFault.TheVariants.{NoSuchOrder, Answered, NoMemory}
 use Rattle.rounds_by_hand.specs.declared.pending.Pending.{Pending}
 use Rattle.rounds_by_hand.specs.declared.pending.Pending.TheVariants.{Out, In}
 
@@ -51,7 +53,8 @@ AreRepliesIfAnswered may pending replies = All (IsAnswered may) pending
     → AreRepliesTo may pending replies
 
 -- the order of this number, which was out, has got the reply that follows from an answer; the others are as they were
-pub record TakesAnswer (old : List Pending) (number : ℕ) (answer : Result (Vec Item) FetchFault) (new : List Pending) : Type 0 where
+pub record TakesAnswer (old : List Pending) (number : ℕ) (answer : Result (Vec Item) FetchFault)
+    (new : List Pending) : Type 0 where
   pub order : OrderOf
   pub reply : Reply
   pub was : slice_get old number ≡ Some (Out order)
@@ -59,6 +62,16 @@ pub record TakesAnswer (old : List Pending) (number : ℕ) (answer : Result (Vec
   pub keys : (reply_of reply).keys ≡ order.keys
   pub outcomes : Follow (reply_of reply).outcomes answer (length order.keys)
   pub put : new ≡ slice_set old number (In reply)
+
+-- Why an answer to the order of this number isn't taken: there is no such order, or it was answered already, and nothing changes then;
+-- or memory ran out, and it is over.
+pub record RefusesAnswer {H T : Type 0} (pending : List Pending) (number : ℕ) (old new : H)
+    (IsOver : Type 0) (result : Result T TakeFault) : Type 0 where
+  pub no_order : IsErrOf result NoSuchOrder ↔ (length pending ≤ number)
+  pub answered : IsErrOf result Answered ↔ (is_in_at (slice_get pending number) ≡ true)
+  pub none : IsErrOf result NoSuchOrder → new ≡ old
+  pub kept : IsErrOf result Answered → new ≡ old
+  pub over : IsErrOf result NoMemory → IsOver
 
 -- the answer is one that the source of the order's loader may give
 abbrev pub MayAnswer : {S : Type 0} → (S → List KeyOf → AnswerOf → Type 0)

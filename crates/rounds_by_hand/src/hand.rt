@@ -1,5 +1,5 @@
 //! Answers to several plans, in rounds by hand, with the session in which they are answered.
-ghost use Rattle.std.specs.Prelude.{◌≡◌, ◌≤◌, ◌↔◌, length, slice_get, true, IfOk, IfSome, OnOk, OnErr, IsErrOf};
+ghost use Rattle.std.specs.Prelude.{◌≡◌, slice_get, IfOk, IfSome, OnOk, OnErr};
 
 use crate::fault::TakeFault;
 use crate::pending::{Pending, are_in, take_answer};
@@ -95,8 +95,8 @@ impl<'p, S, P, E> Hand<'p, S, P, E> {
 }
 
 impl<'p, S: LocalSource, P: Execute<'p, E>, E: Drop> Hand<'p, S, P, E> {
-    ghost use Rattle.rounds_by_hand.specs.Hands.{Advances, AsksAndAdvances, AnswersFrom, GoesOn, GoesOnIfMay, GivesUp, Holds, IsOver, pending_in};
-    ghost use Rattle.rounds_by_hand.specs.Pending.{TakesAnswer, is_in_at};
+    ghost use Rattle.rounds_by_hand.specs.Hands.{Advances, AsksAndAdvances, AnswersFrom, GoesOn, GoesOnIfMay, GivesUp, Holds, IsOver, KeepsHand, KeepsSession, pending_in};
+    ghost use Rattle.rounds_by_hand.specs.Pending.{RefusesAnswer, TakesAnswer};
 
     /// Stores the round that is out, if each of its orders is answered, and goes on over what is known: returns the answers, or makes the
     /// next round. The first call begins, and forgets failed batches.
@@ -107,15 +107,15 @@ impl<'p, S: LocalSource, P: Execute<'p, E>, E: Drop> Hand<'p, S, P, E> {
     pub fn advance(&mut self) -> Result<Advance, AllocError>
         requires { Holds P.program P.text_of P.loaders P.fits
             self.old.session self.old.plans self.old.far }
-        ensures holds { Holds P.program P.text_of P.loaders
-            P.fits self.new.session self.new.plans self.new.far }
-        ensures advanced { IfOk result (Advances self.old self.new) }
+        ensures kept { KeepsHand P.program P.text_of P.loaders
+            P.fits self.old self.new }
+        ensures advanced { IfOk result
+            (Advances self.old self.new) }
         ensures over { OnErr result (IsOver self.new.far) }
-        ensures underway { GoesOn P.program P.text_of S.may_tell self.old self.new }
+        ensures underway { GoesOn P.program
+            P.text_of S.may_tell self.old self.new }
         ensures answers { IfOk result
             (AnswersFrom P.program P.text_of S.may_tell self.old self.new) }
-        ensures plans { self.new.plans ≡ self.old.plans }
-        ensures loaders { length self.new.session.loaders ≡ length self.old.session.loaders }
     {
         if !are_in(self.orders()) {
             return Ok(Advance::Waiting);
@@ -132,15 +132,15 @@ impl<'p, S: LocalSource, P: Execute<'p, E>, E: Drop> Hand<'p, S, P, E> {
     pub fn ask_and_advance(&mut self) -> Result<Advance, AllocError>
         requires { Holds P.program P.text_of P.loaders P.fits
             self.old.session self.old.plans self.old.far }
-        ensures holds { Holds P.program P.text_of P.loaders
-            P.fits self.new.session self.new.plans self.new.far }
-        ensures advanced { IfOk result (AsksAndAdvances self.old self.new) }
+        ensures kept { KeepsHand P.program P.text_of P.loaders
+            P.fits self.old self.new }
+        ensures advanced { IfOk result
+            (AsksAndAdvances self.old self.new) }
         ensures over { OnErr result (IsOver self.new.far) }
-        ensures underway { GoesOn P.program P.text_of S.may_tell self.old self.new }
+        ensures underway { GoesOn P.program
+            P.text_of S.may_tell self.old self.new }
         ensures answers { IfOk result
             (AnswersFrom P.program P.text_of S.may_tell self.old self.new) }
-        ensures plans { self.new.plans ≡ self.old.plans }
-        ensures loaders { length self.new.session.loaders ≡ length self.old.session.loaders }
     {
         let (far, advance) = match mem::replace(&mut self.far, Far::Over) {
             Far::Over => (Far::Over, Advance::Over),
@@ -165,23 +165,16 @@ impl<'p, S: LocalSource, P: Execute<'p, E>, E: Drop> Hand<'p, S, P, E> {
     ) -> Result<(), TakeFault>
         requires { Holds P.program P.text_of P.loaders P.fits
             self.old.session self.old.plans self.old.far }
-        ensures holds { Holds P.program P.text_of P.loaders
-            P.fits self.new.session self.new.plans self.new.far }
-        ensures no_order { IsErrOf result TakeFault.NoSuchOrder
-            ↔ (length (pending_in self.old.far) ≤ number) }
-        ensures answered { IsErrOf result TakeFault.Answered
-            ↔ (is_in_at (slice_get (pending_in self.old.far) number) ≡ true) }
-        ensures none { IsErrOf result TakeFault.NoSuchOrder → self.new ≡ self.old }
-        ensures kept { IsErrOf result TakeFault.Answered → self.new ≡ self.old }
-        ensures over { IsErrOf result TakeFault.NoMemory → IsOver self.new.far }
+        ensures kept { KeepsSession P.program P.text_of P.loaders
+            P.fits self.old self.new }
+        ensures refused { RefusesAnswer (pending_in self.old.far) number
+            self.old self.new (IsOver self.new.far) result }
         ensures taken { OnOk result
             (TakesAnswer (pending_in self.old.far) number answer (pending_in self.new.far)) }
         // It is still as the sources may answer, if this answer is.
         ensures underway { OnOk result (IfSome (slice_get (pending_in self.old.far) number)
             (GoesOnIfMay P.program P.text_of S.may_tell answer self.old self.new)) }
         ensures stopped { OnErr result (GoesOn P.program P.text_of S.may_tell self.old self.new) }
-        ensures session { self.new.session ≡ self.old.session }
-        ensures plans { self.new.plans ≡ self.old.plans }
     {
         let Far::Out(_, pending) = &mut self.far else {
             return Err(TakeFault::NoSuchOrder);
@@ -201,7 +194,8 @@ impl<'p, S: LocalSource, P: Execute<'p, E>, E: Drop> Hand<'p, S, P, E> {
     /// as not stored.
     pub fn into_session(self) -> Session<S>
         ensures session { result ≡ self.entry.session }
-        ensures stopped { GivesUp P.program P.text_of S.may_tell self.entry result }
+        ensures stopped { GivesUp P.program
+            P.text_of S.may_tell self.entry result }
     {
         self.session
     }

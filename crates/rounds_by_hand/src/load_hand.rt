@@ -1,5 +1,5 @@
 //! Keys of a loader that are loaded by hand, with the session in which they are loaded.
-ghost use Rattle.std.specs.Prelude.{◌≡◌, ◌≤◌, ◌<◌, ◌↔◌, length, map, slice_get, true, IfOk, IfSome, OnOk, OnErr, IsErrOf};
+ghost use Rattle.std.specs.Prelude.{◌≡◌, ◌<◌, length, map, slice_get, IfOk, IfSome, OnOk, OnErr};
 ghost use Rattle.load_memory.specs.Keys.{key_of};
 ghost use Rattle.load_queue.specs.Loaders.{AreOnRecord};
 
@@ -72,7 +72,8 @@ impl<S> LoadHand<S> {
     /// A load of these keys of a loader in the session, of which nothing is done. It takes no memory.
     pub fn new(session: Session<S>, loader: usize, keys: Vec<Key>) -> LoadHand<S>
         requires { loader < length session.loaders }
-        ensures { result ≡ load_hand_of session loader (map key_of keys.items) handed }
+        ensures { result ≡ load_hand_of session loader
+            (map key_of keys.items) handed }
     {
         LoadHand {
             session,
@@ -84,7 +85,8 @@ impl<S> LoadHand<S> {
 
     /// The orders of the round that is out, each with its reply once it is answered. There are none where no round is out.
     pub fn orders(&self) -> &[Pending]
-        ensures { result.now ≡ load_pending_in self.now.far }
+        ensures { result.now
+            ≡ load_pending_in self.now.far }
     {
         match &self.far {
             LoadFar::Out(pending) => pending,
@@ -103,7 +105,7 @@ impl<S> LoadHand<S> {
 impl<S: LocalSource> LoadHand<S> {
     ghost use Rattle.rounds_by_hand.specs.LoadHands.{AdvancesLoad, AsksAndAdvancesLoad, GivesUpLoad, IsSameLoad, LoadGoesOn, LoadGoesOnIfMay, LoadsKeys};
     ghost use Rattle.rounds_by_hand.specs.LoadHands.{load_pending_in, over};
-    ghost use Rattle.rounds_by_hand.specs.Pending.{TakesAnswer, is_in_at};
+    ghost use Rattle.rounds_by_hand.specs.Pending.{RefusesAnswer, TakesAnswer};
 
     /// Stores the round that is out, if each of its orders is answered, and returns the outcomes. The first call begins: it forgets failed
     /// batches, and returns the outcomes if all keys are known; else the round that asks for the others is out.
@@ -112,10 +114,13 @@ impl<S: LocalSource> LoadHand<S> {
     ///
     /// Only when out of memory: a round that was out is lost, or it is stored and its outcomes aren't copied. The load is over then.
     pub fn advance(&mut self) -> Result<LoadAdvance, AllocError>
-        ensures advanced { IfOk result (AdvancesLoad self.old self.new) }
+        ensures advanced { IfOk result
+            (AdvancesLoad self.old self.new) }
         ensures over { OnErr result (self.new.far ≡ over) }
-        ensures underway { LoadGoesOn S.may_tell self.old self.new }
-        ensures loaded { IfOk result (LoadsKeys S.may_tell self.old self.new) }
+        ensures underway { LoadGoesOn
+            S.may_tell self.old self.new }
+        ensures loaded { IfOk result
+            (LoadsKeys S.may_tell self.old self.new) }
         ensures same { IsSameLoad self.old self.new }
         ensures recorded { AreOnRecord self.old.session.loaders self.new.session.loaders }
     {
@@ -132,10 +137,13 @@ impl<S: LocalSource> LoadHand<S> {
     ///
     /// Those of [`advance`](LoadHand::advance).
     pub fn ask_and_advance(&mut self) -> Result<LoadAdvance, AllocError>
-        ensures advanced { IfOk result (AsksAndAdvancesLoad self.old self.new) }
+        ensures advanced { IfOk result
+            (AsksAndAdvancesLoad self.old self.new) }
         ensures over { OnErr result (self.new.far ≡ over) }
-        ensures underway { LoadGoesOn S.may_tell self.old self.new }
-        ensures loaded { IfOk result (LoadsKeys S.may_tell self.old self.new) }
+        ensures underway { LoadGoesOn
+            S.may_tell self.old self.new }
+        ensures loaded { IfOk result
+            (LoadsKeys S.may_tell self.old self.new) }
         ensures same { IsSameLoad self.old self.new }
         ensures recorded { AreOnRecord self.old.session.loaders self.new.session.loaders }
     {
@@ -165,20 +173,17 @@ impl<S: LocalSource> LoadHand<S> {
         number: usize,
         answer: Result<Vec<Item>, FetchFault>,
     ) -> Result<(), TakeFault>
-        ensures no_order { IsErrOf result TakeFault.NoSuchOrder
-            ↔ (length (load_pending_in self.old.far) ≤ number) }
-        ensures answered { IsErrOf result TakeFault.Answered
-            ↔ (is_in_at (slice_get (load_pending_in self.old.far) number) ≡ true) }
-        ensures none { IsErrOf result TakeFault.NoSuchOrder → self.new ≡ self.old }
-        ensures kept { IsErrOf result TakeFault.Answered → self.new ≡ self.old }
-        ensures over { IsErrOf result TakeFault.NoMemory → self.new.far ≡ over }
+        ensures refused { RefusesAnswer (load_pending_in self.old.far) number
+            self.old self.new (self.new.far ≡ over) result }
         ensures taken { OnOk result (TakesAnswer (load_pending_in self.old.far)
             number answer (load_pending_in self.new.far)) }
         // It is still as the sources may answer, if this answer is.
         ensures underway { OnOk result (IfSome (slice_get (load_pending_in self.old.far) number)
             (LoadGoesOnIfMay S.may_tell answer self.old self.new)) }
-        ensures stopped { OnErr result (LoadGoesOn S.may_tell self.old self.new) }
-        ensures session { self.new.session ≡ self.old.session }
+        ensures stopped { OnErr result
+            (LoadGoesOn S.may_tell self.old self.new) }
+        ensures session { self.new.session
+            ≡ self.old.session }
         ensures same { IsSameLoad self.old self.new }
     {
         let LoadFar::Out(pending) = &mut self.far else {
@@ -198,7 +203,8 @@ impl<S: LocalSource> LoadHand<S> {
     /// Gives the session back, whatever is done. A round that is out is lost, and its batches stay in the log as not stored.
     pub fn into_session(self) -> Session<S>
         ensures session { result ≡ self.session }
-        ensures stopped { GivesUpLoad S.may_tell self result }
+        ensures stopped { GivesUpLoad
+            S.may_tell self result }
     {
         self.session
     }

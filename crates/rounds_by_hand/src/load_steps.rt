@@ -1,10 +1,10 @@
 //! Steps of a load by hand: what a call does, on its parts.
-ghost use Rattle.std.specs.Prelude.{◌≡◌, ◌<◌, length, map, IfOk, OnErr};
+ghost use Rattle.std.specs.Prelude.{◌<◌, length, map, IfOk, OnErr};
 ghost use Rattle.load_memory.specs.Keys.{key_of};
 ghost use Rattle.load_queue.specs.Loaders.{AreOnRecord};
 ghost use Rattle.load_rounds.specs.Sessions.{state_of};
 ghost use Rattle.load_rounds.specs.Histories.{IsCallOf, StoppedLoading};
-ghost use Rattle.rounds_by_hand.specs.LoadHands.{load_far_of, BegunLoadTells, HasGoneLoad, HoldsLoad, IsLoadOutWith, IsLoadStep, OutLoads, OutLoadStops};
+ghost use Rattle.rounds_by_hand.specs.LoadHands.{load_far_of, HasBegunLoad, IsLoadOutWith, OutLoads, OutLoadStops};
 
 use crate::load_hand::{LoadAdvance, LoadFar};
 use crate::pending::{Pending, all_out, replies_to};
@@ -20,16 +20,12 @@ pub(crate) fn begin_keys<S: LocalSource>(
     keys: &[Key],
 ) -> Result<(LoadFar, LoadAdvance), AllocError>
     requires { loader < length session.old.loaders }
-    ensures holds { IfOk result (λ gone.
-        HoldsLoad session.new loader (map key_of keys.now) (load_far_of gone.0)) }
-    ensures step { IfOk result (λ gone. IsLoadStep (load_far_of gone.0) gone.1) }
-    ensures went { IfOk result (λ gone. HasGoneLoad S.may_tell session.old
-        session.new loader (map key_of keys.now) (load_far_of gone.0)) }
-    ensures tells { IfOk result (λ gone.
-        BegunLoadTells S.may_tell session.old session.new loader (map key_of keys.now) gone.1) }
+    ensures gone { IfOk result (λ gone. HasBegunLoad S.may_tell session.old session.new
+        loader (map key_of keys.now) (load_far_of gone.0) gone.1) }
     ensures stopped { OnErr result (IsCallOf S.may_tell
         (StoppedLoading loader (map key_of keys.now)) session.old session.new) }
-    ensures recorded { AreOnRecord session.old.loaders session.new.loaders }
+    ensures recorded { AreOnRecord
+        session.old.loaders session.new.loaders }
 {
     match session.begin_load(loader, keys) {
         Ok(NextLoad::Loaded(outcomes)) => Ok((LoadFar::Over, LoadAdvance::Loaded(outcomes))),
@@ -47,12 +43,14 @@ pub(crate) fn finish_keys<S: LocalSource>(
     pending: Vec<Pending>,
 ) -> Result<Vec<Outcome>, AllocError>
     requires within { loader < length session.old.loaders }
-    requires out { IsLoadOutWith (state_of session.old) loader (map key_of keys.now) pending.items }
+    requires out { IsLoadOutWith (state_of session.old)
+        loader (map key_of keys.now) pending.items }
     ensures loaded { IfOk result
         (OutLoads S.may_tell session.old session.new loader (map key_of keys.now) pending.items) }
     ensures stopped { OnErr result (OutLoadStops S.may_tell session.old
         session.new loader (map key_of keys.now) pending.items) }
-    ensures recorded { AreOnRecord session.old.loaders session.new.loaders }
+    ensures recorded { AreOnRecord
+        session.old.loaders session.new.loaders }
 {
     let replies = replies_to(pending, session.loaders())?;
     session.end_load(loader, keys, replies)

@@ -23,8 +23,10 @@ pub enum Pending {
 
 /// The orders of a round, none of which is answered yet.
 pub(crate) fn all_out(orders: Vec<Order>) -> Result<Vec<Pending>, AllocError>
-    ensures orders { IfOk result (λ pending. map order_in pending.items ≡ orders.items) }
-    ensures out { IfOk result (λ pending. All (λ one. is_in one ≡ false) pending.items) }
+    ensures orders { IfOk result (λ pending.
+        map order_in pending.items ≡ orders.items) }
+    ensures out { IfOk result (λ pending.
+        All (λ one. is_in one ≡ false) pending.items) }
 {
     let mut pending = Vec::with_capacity(*orders.allocator(), orders.len())?;
     for order in orders {
@@ -68,7 +70,8 @@ pub(crate) fn replies_to<S: LocalSource>(
     pending: Vec<Pending>,
     loaders: &[Loader<S>],
 ) -> Result<Vec<Reply>, AllocError>
-    requires { All (λ one. (order_in one).loader < length loaders.now) pending.items }
+    requires { All (λ one. (order_in one).loader
+        < length loaders.now) pending.items }
     ensures any { All (IsAnswered any_answer) pending.items
         → IfOk result (λ rs. AreRepliesTo (may_at any_tell loaders.now) pending.items rs.items) }
     ensures told { IfOk result (λ rs.
@@ -88,11 +91,14 @@ pub(crate) fn take_answer(
     number: usize,
     answer: Result<Vec<Item>, FetchFault>,
 ) -> Result<(), TakeFault>
-    ensures no_order { IsErrOf result TakeFault.NoSuchOrder ↔ (length pending.old.items ≤ number) }
+    ensures no_order { IsErrOf result TakeFault.NoSuchOrder
+        ↔ (length pending.old.items ≤ number) }
     ensures answered { IsErrOf result TakeFault.Answered
         ↔ (is_in_at (slice_get pending.old.items number) ≡ true) }
-    ensures none { IsErrOf result TakeFault.NoSuchOrder → pending.new.items ≡ pending.old.items }
-    ensures kept { IsErrOf result TakeFault.Answered → pending.new.items ≡ pending.old.items }
+    ensures none { IsErrOf result TakeFault.NoSuchOrder
+        → pending.new.items ≡ pending.old.items }
+    ensures kept { IsErrOf result TakeFault.Answered
+        → pending.new.items ≡ pending.old.items }
     ensures taken { OnOk result (TakesAnswer pending.old.items number answer pending.new.items) }
 {
     if number >= pending.len() {

@@ -1,9 +1,9 @@
 //! Steps of a hand: what a call does, on its parts.
 ghost use Rattle.std.specs.Prelude.{◌≡◌, ◌≤◌, All, length, IfOk, OnErr};
 ghost use Rattle.load_rounds.specs.Sessions.{SessionOf, state_of, memory_of};
-ghost use Rattle.load_rounds.specs.SharedRuns.{FitsRun, FitsLater, KeepsFitting};
-ghost use Rattle.rounds_by_hand.specs.Hands.{far_of, IsOutWith, IsStep, HoldsFar, GoesFrom, StopsFrom, TellsFrom};
-ghost use Rattle.rounds_by_hand.specs.Hands.{RunGoes, RunTells, RunStops, OutGoes, OutTells, OutStops, GoesOnIfAnswered};
+ghost use Rattle.load_rounds.specs.SharedRuns.{CanGoOnAll, FitsRun, FitsLater, KeepsFitting};
+ghost use Rattle.rounds_by_hand.specs.Hands.{far_of, IsOutWith, StepsFrom, StopsFrom};
+ghost use Rattle.rounds_by_hand.specs.Hands.{RunSteps, RunStops, OutSteps, OutStops, GoesOnIfAnswered};
 
 use crate::hand::{Advance, Far};
 use crate::pending::{Pending, all_out, replies_to};
@@ -17,19 +17,15 @@ fn go_on<'p, E: Drop, P: Execute<'p, E>, S: LocalSource>(
     session: &mut Session<S>,
     run: AllRoundsByHand<'p, P, E>,
 ) -> Result<(Far<'p, P, E>, Advance), AllocError>
-    requires ready { run.stage ≡ Stage.Ready }
-    requires enough { All (λ plan. P.loaders plan ≤ length session.old.loaders) run.plans }
-    requires fits { FitsRun P.program P.text_of P.loaders P.fits run (memory_of session.old) }
-    ensures holds { IfOk result (λ gone.
-        HoldsFar P.program P.text_of P.loaders P.fits session.new run.entry.plans (far_of gone.0)) }
-    ensures step { IfOk result (λ gone. IsStep (far_of gone.0) gone.1) }
-    ensures went { IfOk result (λ gone.
-        RunGoes P.program P.text_of S.may_tell session.old run.entry session.new (far_of gone.0)) }
-    ensures tells { IfOk result (λ gone.
-        RunTells P.program P.text_of S.may_tell session.old run.entry session.new gone.1) }
+    requires can { CanGoOnAll P.loaders run session.old }
+    requires fits { FitsRun P.program P.text_of
+        P.loaders P.fits run (memory_of session.old) }
+    ensures gone { IfOk result (λ gone. RunSteps P.program P.text_of S.may_tell session.old
+        run.entry session.new P.loaders P.fits (far_of gone.0) gone.1) }
     ensures stopped { OnErr result
         (RunStops P.program P.text_of S.may_tell session.old run.entry session.new) }
-    ensures loaders { length session.new.loaders ≡ length session.old.loaders }
+    ensures loaders { length session.new.loaders
+        ≡ length session.old.loaders }
 {
     let mut run = run;
     match run.next_round(session)? {
@@ -43,17 +39,14 @@ pub(crate) fn begin<'p, E: Drop, P: Execute<'p, E>, S: LocalSource>(
     session: &mut Session<S>,
     plans: &'p [P],
 ) -> Result<(Far<'p, P, E>, Advance), AllocError>
-    requires enough { All (λ plan. P.loaders plan ≤ length session.old.loaders) plans.now }
-    ensures holds { IfOk result (λ gone.
-        HoldsFar P.program P.text_of P.loaders P.fits session.new plans.now (far_of gone.0)) }
-    ensures step { IfOk result (λ gone. IsStep (far_of gone.0) gone.1) }
-    ensures went { IfOk result (λ gone. GoesFrom P.program P.text_of S.may_tell
-        (λ begun. session.old ≡ begun) session.new plans.now (far_of gone.0)) }
-    ensures tells { IfOk result (λ gone. TellsFrom P.program P.text_of
-        S.may_tell (λ begun. session.old ≡ begun) session.new plans.now gone.1) }
+    requires enough { All (λ plan. P.loaders plan
+        ≤ length session.old.loaders) plans.now }
+    ensures gone { IfOk result (λ gone. StepsFrom P.program P.text_of S.may_tell P.loaders P.fits
+        (λ begun. session.old ≡ begun) session.new plans.now (far_of gone.0) gone.1) }
     ensures stopped { OnErr result (StopsFrom P.program P.text_of
         S.may_tell (λ begun. session.old ≡ begun) session.new plans.now) }
-    ensures loaders { length session.new.loaders ≡ length session.old.loaders }
+    ensures loaders { length session.new.loaders
+        ≡ length session.old.loaders }
 {
     let run = session.begin_all(plans)?;
     go_on(session, run)
@@ -65,14 +58,18 @@ fn store<'p, E: Drop, P: Execute<'p, E>, S: LocalSource>(
     run: AllRoundsByHand<'p, P, E>,
     pending: Vec<Pending>,
 ) -> Result<AllRoundsByHand<'p, P, E>, AllocError>
-    requires { IsOutWith P.program P.text_of (state_of session.old) run pending.items }
-    ensures ready { IfOk result (λ later. later ≡ record run.entry { stage = Stage.Ready }) }
+    requires { IsOutWith P.program P.text_of
+        (state_of session.old) run pending.items }
+    ensures ready { IfOk result (λ later.
+        later ≡ record run.entry { stage = Stage.Ready }) }
     ensures fits { IfOk result (λ later. KeepsFitting P.program P.text_of P.loaders
         P.fits run.entry later (memory_of session.old) (memory_of session.new)) }
     ensures ran { IfOk result (GoesOnIfAnswered P.program P.text_of
         S.may_tell session.old run.entry session.new pending.items) }
-    ensures lost { OnErr result (state_of session.new ≡ state_of session.old) }
-    ensures loaders { length session.new.loaders ≡ length session.old.loaders }
+    ensures lost { OnErr result
+        (state_of session.new ≡ state_of session.old) }
+    ensures loaders { length session.new.loaders
+        ≡ length session.old.loaders }
 {
     let mut run = run;
     let replies = replies_to(pending, session.loaders())?;
@@ -86,19 +83,18 @@ pub(crate) fn finish_round<'p, E: Drop, P: Execute<'p, E>, S: LocalSource>(
     run: AllRoundsByHand<'p, P, E>,
     pending: Vec<Pending>,
 ) -> Result<(Far<'p, P, E>, Advance), AllocError>
-    requires enough { All (λ plan. P.loaders plan ≤ length session.old.loaders) run.plans }
-    requires out { IsOutWith P.program P.text_of (state_of session.old) run pending.items }
-    requires fits { FitsLater P.program P.text_of P.loaders P.fits run (memory_of session.old) }
-    ensures holds { IfOk result (λ gone.
-        HoldsFar P.program P.text_of P.loaders P.fits session.new run.entry.plans (far_of gone.0)) }
-    ensures step { IfOk result (λ gone. IsStep (far_of gone.0) gone.1) }
-    ensures went { IfOk result (λ gone. OutGoes P.program P.text_of S.may_tell
-        session.old run.entry session.new pending.items (far_of gone.0)) }
-    ensures tells { IfOk result (λ gone. OutTells P.program P.text_of
-        S.may_tell session.old run.entry session.new pending.items gone.1) }
+    requires enough { All (λ plan. P.loaders plan
+        ≤ length session.old.loaders) run.plans }
+    requires out { IsOutWith P.program P.text_of
+        (state_of session.old) run pending.items }
+    requires fits { FitsLater P.program P.text_of
+        P.loaders P.fits run (memory_of session.old) }
+    ensures gone { IfOk result (λ gone. OutSteps P.program P.text_of S.may_tell session.old
+        run.entry session.new P.loaders P.fits pending.items (far_of gone.0) gone.1) }
     ensures stopped { OnErr result
         (OutStops P.program P.text_of S.may_tell session.old run.entry session.new pending.items) }
-    ensures loaders { length session.new.loaders ≡ length session.old.loaders }
+    ensures loaders { length session.new.loaders
+        ≡ length session.old.loaders }
 {
     let run = store(session, run, pending)?;
     go_on(session, run)

@@ -108,7 +108,9 @@ KeepsIfRefused old new done = IfErr done (λ e. e ≢ fault.NoMemory → new ≡
 -- the items of a reply are taken for an order, which has a key for each number of rows
 abbrev pub TakesRows : ℕ → List ℕ → List ItemOf → HostClient
     → HostClient → Result (Unit {0}) Fault → Type 0
-TakesRows order rows items old new done = OnOk done (HasCount order (length rows) old × TakesReply order items old new) × KeepsIfRefused old new done
+TakesRows order rows items old new done =
+    OnOk done (HasCount order (length rows) old × TakesReply order items old new)
+    × KeepsIfRefused old new done
 
 -- a batch is taken to have failed
 abbrev pub TakesFailed : ℕ → List ℕ → HostClient → HostClient → Result (Unit {0}) Fault → Type 0
@@ -130,7 +132,8 @@ Becomes becomes old new done = OnOk done (OnClient becomes old new)
 -- says the same, and what the call tells of it is written as a number
 abbrev pub Tells : (Bool → ClientOf HandedIn → ClientOf HandedIn → Type 0)
     → ℕ → HostClient → HostClient → Result (Unit {0}) Fault → Type 0
-Tells becomes told old new done = Becomes (λ c d. (b : Bool) × (told ≡ number_of b) × becomes b c d) old new done
+Tells becomes told old new done =
+    Becomes (λ c d. (b : Bool) × (told ≡ number_of b) × becomes b c d) old new done
 
 -- an item is added for a key, and whether it was added is told
 abbrev pub Primes : ℕ → KeyOf → List ItemOf → ℕ → HostClient
@@ -150,13 +153,15 @@ TellsCleared loader key told = Tells (Clears loader key) told
 -- The text is that of the answer, which is the answer of what was asked: in a session of a client of its server, whose loaders were asked
 -- exactly the batches of a lawful log.
 abbrev pub CopiesAnswer : List ℕ → HostClient → Result (Unit {0}) Fault → Type 0
-CopiesAnswer text (Answered a) done = OnOk done ((text ≡ a.text) × IsAnswerOf a.client.server a.asked text a.rounds)
+CopiesAnswer text (Answered a) done =
+    OnOk done ((text ≡ a.text) × IsAnswerOf a.client.server a.asked text a.rounds)
 CopiesAnswer text client done = done ≡ Err fault.Idle
 
 -- The outcomes are those of the keys that were asked for, one for each, in order: as a call of `load_many` gives them in a session of a
 -- client of its server.
 abbrev pub CopiesOutcomes : List OutcomeOf → HostClient → Result (Unit {0}) Fault → Type 0
-CopiesOutcomes outcomes (Loaded d) done = OnOk done ((outcomes ≡ d.outcomes) × AreOutcomesOf d.client.server d.asked outcomes)
+CopiesOutcomes outcomes (Loaded d) done =
+    OnOk done ((outcomes ≡ d.outcomes) × AreOutcomesOf d.client.server d.asked outcomes)
 CopiesOutcomes outcomes client done = done ≡ Err fault.Idle
 
 abbrev pub CopiesOrders : List OrderOf → HostClient → Result (Unit {0}) Fault → Type 0

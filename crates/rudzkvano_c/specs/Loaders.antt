@@ -16,7 +16,10 @@ abbrev pub CopiesLoaders : List ℕ → List (List ℕ) → ServerOf → Result 
 CopiesLoaders kinds texts s done = OnOk done (AreLoaders s kinds texts)
 
 abbrev pub HasLoaderSizes : ServerOf → LoaderSizes → Type 0
-HasLoaderSizes s sizes = sizes ≡ record { loaders = length s.bindings.loaders; bytes = size_of (flat_map texts_of s.bindings.loaders) }
+HasLoaderSizes s sizes = sizes ≡ record {
+  loaders = length s.bindings.loaders;
+  bytes = size_of (flat_map texts_of s.bindings.loaders);
+}
 
 abbrev pub TellsLoaderSizes : LoaderSizes → ServerOf → Result (Unit {0}) Fault → Type 0
 TellsLoaderSizes sizes s done = OnOk done (HasLoaderSizes s sizes)

@@ -40,7 +40,8 @@ AreNoOutcomesIn (object.Server s) e = e ≡ fault.BadHandle
 abbrev pub CopiesRows : List ℕ → List ℕ → List (List ℕ)
     → HostClient → Result (Unit {0}) Fault → Type 0
 CopiesRows counts widths texts (Loaded d) done =
-    OnOk done ((outcomes_said counts widths texts (all_faults d.outcomes) ≡ d.outcomes) × AreOutcomesOf d.client.server d.asked d.outcomes)
+    OnOk done ((outcomes_said counts widths texts (all_faults d.outcomes) ≡ d.outcomes)
+    × AreOutcomesOf d.client.server d.asked d.outcomes)
 CopiesRows counts widths texts client done = done ≡ Err fault.Idle
 
 -- the texts are the client's faults

@@ -14,7 +14,8 @@ use Rattle.rudzkvano_c.specs.declared.keys.LogSizes.{LogSizes}
 
 -- the log of a client's loader is that
 abbrev pub HasLog : BatchLog → HostClient → ℕ → Type 0
-HasLog l client loader = LogHolds (λ log. AreBatches log l.rounds.items l.stored.items l.keys) client loader
+HasLog l client loader =
+    LogHolds (λ log. AreBatches log l.rounds.items l.stored.items l.keys) client loader
 
 -- an object that is no client has no log
 abbrev pub IsLogOf : Object → ℕ → Result BatchLog Fault → Type 0
@@ -26,12 +27,18 @@ IsLogOf (Client c) loader (Err e) = Unit {0}
 -- the buffers say the log of a client's loader
 abbrev pub CopiesLog : ℕ → List ℕ → List ℕ → List (List KeyOf)
     → HostClient → Result (Unit {0}) Fault → Type 0
-CopiesLog loader rounds stored keys client done = OnOk done (LogHolds (λ log. AreBatches log rounds stored keys) client loader)
+CopiesLog loader rounds stored keys client done =
+    OnOk done (LogHolds (λ log. AreBatches log rounds stored keys) client loader)
 
 -- a batch of each entry, with its keys and their texts
 abbrev pub log_sizes : List AskedOf → LogSizes
 log_sizes log = let lists = map keys_in log in
-    record { batches = length log; keys = length (written.keys_in lists); texts = length (written.all_texts lists); bytes = written.size_of (written.all_texts lists) }
+    record {
+      batches = length log;
+      keys = length (written.keys_in lists);
+      texts = length (written.all_texts lists);
+      bytes = written.size_of (written.all_texts lists);
+    }
 
 abbrev pub HasLogSizes : HostClient → ℕ → LogSizes → Type 0
 HasLogSizes client loader sizes = LogHolds (λ log. sizes ≡ log_sizes log) client loader

@@ -19,7 +19,14 @@ no_sizes = record { orders = 0; keys = 0; texts = 0; bytes = 0; answer = 0; roun
 
 abbrev pub sizes_of : List OrderOf → Sizes
 sizes_of orders = let lists = map keys_of orders in
-    record { orders = length orders; keys = length (keys_in lists); texts = length (all_texts lists); bytes = size_of (all_texts lists); answer = 0; rounds = 0 }
+    record {
+      orders = length orders;
+      keys = length (keys_in lists);
+      texts = length (all_texts lists);
+      bytes = size_of (all_texts lists);
+      answer = 0;
+      rounds = 0;
+    }
 
 -- those of the orders of the round that is out, or those of the answer
 abbrev pub sizes_in : HostClient → Sizes

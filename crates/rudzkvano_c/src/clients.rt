@@ -13,7 +13,8 @@ use std::alloc::Global;
 
 // A client of the server of a handle.
 fn client_object(alloc: Global, server: &mut Handle, limits: &[u32]) -> Result<Object, Fault>
-    ensures made { IsMadeOf (MakesClient limits.now) server.old.held result }
+    ensures made { IsMadeOf
+        (MakesClient limits.now) server.old.held result }
     ensures kept { server.new.held ≡ server.old.held }
 {
     let Some(object) = server.take(alloc) else {
@@ -80,7 +81,8 @@ pub extern "C" fn rz_limit_answers(alloc: Global, client: &mut Handle, most: usi
 }
 
 fn restart(object: &mut Object) -> Result<(), Fault>
-    ensures { MakesObject (Becomes (λ c d. d ≡ begun c)) object.old object.new result }
+    ensures { MakesObject (Becomes (λ c d. d ≡ begun c))
+        object.old object.new result }
 {
     match object {
         Object::Client(client) => client.restart(),
@@ -95,7 +97,8 @@ fn restart(object: &mut Object) -> Result<(), Fault>
 /// The client as these calls of `server` make it (`Becomes`); what is under way stays as it is
 #[unsafe(no_mangle)]
 pub extern "C" fn rz_restart(alloc: Global, client: &mut Handle) -> i32
-    ensures { Makes (Becomes (λ c d. d ≡ begun c)) client.old.held client.new.held result }
+    ensures { Makes (Becomes (λ c d. d ≡ begun c))
+        client.old.held client.new.held result }
 {
     let Some(mut object) = client.take(alloc) else {
         return Fault::BadHandle.code();

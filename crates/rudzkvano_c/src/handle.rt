@@ -51,7 +51,8 @@ impl Handle {
 
     /// Takes out what it holds. Then it holds nothing. `alloc` takes no bytes: C passes nothing for it.
     pub fn take(&mut self, alloc: Global) -> Option<Box<Object>>
-        ensures taken { option_map (λ b. b.value) result ≡ self.old.held }
+        ensures taken { option_map (λ b. b.value) result
+            ≡ self.old.held }
         ensures empty { self.new.held ≡ None }
     {
         mem::replace(self, Handle::of(Slot::vacant()))
@@ -61,7 +62,8 @@ impl Handle {
 
     /// Holds this in a box of its own. What it held before is freed.
     pub fn put_new(&mut self, alloc: Global, object: Object) -> Result<(), Fault>
-        ensures put { OnOk result (self.new.held ≡ Some object) }
+        ensures put { OnOk result
+            (self.new.held ≡ Some object) }
         ensures kept { IfErr result (λ fault.
             (fault ≡ Fault.NoMemory) × (self.new.held ≡ self.old.held)) }
     {
@@ -74,7 +76,8 @@ impl Handle {
 
     /// Holds what was made, in a box of its own, unless nothing was.
     pub fn put_made(&mut self, alloc: Global, made: Result<Object, Fault>) -> Result<(), Fault>
-        ensures { Puts made self.old.held self.new.held result }
+        ensures { Puts made self.old.held
+            self.new.held result }
     {
         match made {
             Ok(object) => self.put_new(alloc, object),

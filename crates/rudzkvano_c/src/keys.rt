@@ -77,8 +77,8 @@ pub extern "C" fn rz_prime(
     bytes: &[u8],
     primed: &mut u32,
 ) -> i32
-    ensures { Makes (Primes loader (key_in key_ends.now key_bytes.now) (one_in columns rows ends.now bytes.now) primed.new)
-        client.old.held client.new.held result }
+    ensures { Makes (Primes loader (key_in key_ends.now key_bytes.now) (one_in columns
+        rows ends.now bytes.now) primed.new) client.old.held client.new.held result }
 {
     let Some(mut object) = client.take(alloc) else {
         return Fault::BadHandle.code();
@@ -164,7 +164,8 @@ fn clear_all(object: &mut Object, loader: usize) -> Result<(), Fault>
 /// The client as these calls of `server` make it (`Becomes`); what is under way stays as it is
 #[unsafe(no_mangle)]
 pub extern "C" fn rz_clear_all(alloc: Global, client: &mut Handle, loader: usize) -> i32
-    ensures { Makes (Becomes (Calls (ClearingAll loader))) client.old.held client.new.held result }
+    ensures { Makes (Becomes (Calls (ClearingAll loader)))
+        client.old.held client.new.held result }
 {
     let Some(mut object) = client.take(alloc) else {
         return Fault::BadHandle.code();
@@ -202,7 +203,8 @@ fn tell_log_sizes(
     loader: usize,
     sizes: &mut LogSizes,
 ) -> Result<(), Fault>
-    ensures { CopiesObject (TellsLogSizes loader sizes.new) object.now result }
+    ensures { CopiesObject
+        (TellsLogSizes loader sizes.new) object.now result }
 {
     match object {
         Object::Client(client) => {
@@ -226,7 +228,8 @@ pub extern "C" fn rz_log_sizes(
     loader: usize,
     sizes: &mut LogSizes,
 ) -> i32
-    ensures sizes { Copies (TellsLogSizes loader sizes.new) client.old.held result }
+    ensures sizes { Copies (TellsLogSizes loader sizes.new)
+        client.old.held result }
     ensures kept { client.new.held ≡ client.old.held }
 {
     let Some(object) = client.take(alloc) else {
@@ -255,8 +258,8 @@ pub extern "C" fn rz_log(
     ends: &mut [u32],
     bytes: &mut [u8],
 ) -> i32
-    ensures copied { Copies (CopiesLog loader rounds.new stored.new (lists_said keys.new texts.new (cut bytes.new 0 ends.new)))
-        client.old.held result }
+    ensures copied { Copies (CopiesLog loader rounds.new stored.new
+        (lists_said keys.new texts.new (cut bytes.new 0 ends.new))) client.old.held result }
     ensures kept { client.new.held ≡ client.old.held }
 {
     let Some(object) = client.take(alloc) else {

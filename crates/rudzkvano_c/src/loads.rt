@@ -25,7 +25,8 @@ pub struct LoadSizes {
 }
 
 fn begin_load(alloc: Global, object: &mut Object, keys: &FlatKeys<'_>) -> Result<(), Fault>
-    ensures { MakesObject (BeginsLoad (flat_keys keys.now)) object.old object.new result }
+    ensures { MakesObject (BeginsLoad (flat_keys keys.now))
+        object.old object.new result }
 {
     match object {
         Object::Client(client) => client.begin_load(alloc, keys),
@@ -67,8 +68,10 @@ pub extern "C" fn rz_begin_load(
 
 // The outcomes of the keys that a client loaded last.
 fn outcomes_of(object: &Object) -> Result<&FlatOutcomes, Fault>
-    ensures outcomes { IfOk result (λ outcomes. AreOutcomesIn object.now outcomes.now) }
-    ensures none { IfErr result (AreNoOutcomesIn object.now) }
+    ensures outcomes { IfOk result (λ outcomes.
+        AreOutcomesIn object.now outcomes.now) }
+    ensures none { IfErr result
+        (AreNoOutcomesIn object.now) }
 {
     match object {
         Object::Client(HostClient::Loaded(loaded)) => Ok(loaded.outcomes()),
@@ -92,7 +95,8 @@ fn sizes_of(outcomes: &FlatOutcomes) -> LoadSizes
 }
 
 fn tell_load_sizes(object: &Object, sizes: &mut LoadSizes) -> Result<(), Fault>
-    ensures { CopiesObject (TellsLoadSizes sizes.new) object.now result }
+    ensures { CopiesObject
+        (TellsLoadSizes sizes.new) object.now result }
 {
     *sizes = sizes_of(outcomes_of(object)?);
     Ok(())
@@ -106,7 +110,8 @@ fn tell_load_sizes(object: &Object, sizes: &mut LoadSizes) -> Result<(), Fault>
 /// `TellsLogSizes`)
 #[unsafe(no_mangle)]
 pub extern "C" fn rz_load_sizes(alloc: Global, client: &mut Handle, sizes: &mut LoadSizes) -> i32
-    ensures sizes { Copies (TellsLoadSizes sizes.new) client.old.held result }
+    ensures sizes { Copies (TellsLoadSizes sizes.new)
+        client.old.held result }
     ensures kept { client.new.held ≡ client.old.held }
 {
     let Some(object) = client.take(alloc) else {
@@ -145,7 +150,8 @@ fn copy_faults(
     ends: &mut [u32],
     bytes: &mut [u8],
 ) -> Result<(), Fault>
-    ensures { CopiesFaultsAfter rows (cut bytes.new 0 ends.new) object.now result }
+    ensures { CopiesFaultsAfter rows
+        (cut bytes.new 0 ends.new) object.now result }
 {
     rows?;
     Ok(outcomes_of(object)?.copy_faults_to(ends, bytes)?)
@@ -170,8 +176,8 @@ pub extern "C" fn rz_loaded(
     fault_bytes: &mut [u8],
 ) -> i32
     // The buffers say the outcomes of what was begun, where it gives 0.
-    ensures copied { let outcomes = outcomes_said counts.new widths.new (cut bytes.new 0 ends.new) (cut fault_bytes.new 0 fault_ends.new) in
-        Copies (CopiesOutcomes outcomes) client.old.held result }
+    ensures copied { Copies (CopiesOutcomes (outcomes_said counts.new widths.new
+        (cut bytes.new 0 ends.new) (cut fault_bytes.new 0 fault_ends.new))) client.old.held result }
     ensures kept { client.new.held ≡ client.old.held }
 {
     let Some(object) = client.take(alloc) else {

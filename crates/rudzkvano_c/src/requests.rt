@@ -33,7 +33,8 @@ pub struct Sizes {
 }
 
 fn begin(alloc: Global, object: &mut Object, line: &[u8]) -> Result<(), Fault>
-    ensures { MakesObject (BeginsWith (line_asked line.now)) object.old object.new result }
+    ensures { MakesObject (BeginsWith (line_asked line.now))
+        object.old object.new result }
 {
     match object {
         Object::Client(client) => client.begin_line(alloc, line),
@@ -49,7 +50,8 @@ fn begin(alloc: Global, object: &mut Object, line: &[u8]) -> Result<(), Fault>
 /// the client is as it was
 #[unsafe(no_mangle)]
 pub extern "C" fn rz_begin(alloc: Global, client: &mut Handle, line: &[u8]) -> i32
-    ensures { Makes (BeginsWith (line_asked line.now)) client.old.held client.new.held result }
+    ensures { Makes (BeginsWith (line_asked line.now))
+        client.old.held client.new.held result }
 {
     let Some(mut object) = client.take(alloc) else {
         return Fault::BadHandle.code();
@@ -100,7 +102,8 @@ pub extern "C" fn rz_begin_request(
 }
 
 fn cancel(object: &mut Object) -> Result<(), Fault>
-    ensures { MakesObject Cancels object.old object.new result }
+    ensures { MakesObject Cancels
+        object.old object.new result }
 {
     match object {
         Object::Client(client) => client.cancel(),
@@ -115,7 +118,8 @@ fn cancel(object: &mut Object) -> Result<(), Fault>
 /// The request or the load is given up: the finished rounds stay in the client's session, and perhaps one more was lost
 #[unsafe(no_mangle)]
 pub extern "C" fn rz_cancel(alloc: Global, client: &mut Handle) -> i32
-    ensures { Makes Cancels client.old.held client.new.held result }
+    ensures { Makes Cancels client.old.held
+        client.new.held result }
 {
     let Some(mut object) = client.take(alloc) else {
         return Fault::BadHandle.code();
@@ -144,7 +148,8 @@ fn advance(alloc: Global, object: &mut Object) -> Result<Progress, Fault>
 /// is out, none of whose orders has a reply. `RZ_WAITING`: nothing has changed
 #[unsafe(no_mangle)]
 pub extern "C" fn rz_next(alloc: Global, client: &mut Handle) -> i32
-    ensures { AdvancesHeld client.old.held client.new.held result }
+    ensures { AdvancesHeld client.old.held
+        client.new.held result }
 {
     let Some(mut object) = client.take(alloc) else {
         return Fault::BadHandle.code();
@@ -193,7 +198,8 @@ fn sizes_in(client: &HostClient) -> Sizes
 }
 
 fn tell_sizes(object: &Object, sizes: &mut Sizes) -> Result<(), Fault>
-    ensures { CopiesObject (TellsSizes sizes.new) object.now result }
+    ensures { CopiesObject
+        (TellsSizes sizes.new) object.now result }
 {
     match object {
         Object::Client(client) => {
@@ -212,7 +218,8 @@ fn tell_sizes(object: &Object, sizes: &mut Sizes) -> Result<(), Fault>
 /// `TellsLogSizes`)
 #[unsafe(no_mangle)]
 pub extern "C" fn rz_sizes(alloc: Global, client: &mut Handle, sizes: &mut Sizes) -> i32
-    ensures sizes { Copies (TellsSizes sizes.new) client.old.held result }
+    ensures sizes { Copies (TellsSizes sizes.new)
+        client.old.held result }
     ensures kept { client.new.held ≡ client.old.held }
 {
     let Some(object) = client.take(alloc) else {
@@ -225,7 +232,8 @@ pub extern "C" fn rz_sizes(alloc: Global, client: &mut Handle, sizes: &mut Sizes
 
 // The orders of the round that is out.
 fn orders_of(object: &Object) -> Result<&FlatOrders, Fault>
-    ensures orders { IfOk result (λ orders. AreOrdersIn object.now orders.now) }
+    ensures orders { IfOk result
+        (λ orders. AreOrdersIn object.now orders.now) }
     ensures none { IfErr result (AreNoOrdersIn object.now) }
 {
     match object {
@@ -265,8 +273,8 @@ pub extern "C" fn rz_orders(
     ends: &mut [u32],
     bytes: &mut [u8],
 ) -> i32
-    ensures copied { let orders = orders_said loaders.new keys.new texts.new (cut bytes.new 0 ends.new) in
-        Copies (CopiesOrders orders) client.old.held result }
+    ensures copied { let orders = orders_said loaders.new keys.new texts.new
+        (cut bytes.new 0 ends.new) in Copies (CopiesOrders orders) client.old.held result }
     ensures kept { client.new.held ≡ client.old.held }
 {
     let Some(object) = client.take(alloc) else {
@@ -327,7 +335,8 @@ pub extern "C" fn rz_take_rows(
 }
 
 fn take_failed(alloc: Global, object: &mut Object, order: usize, text: &[u8]) -> Result<(), Fault>
-    ensures { MakesObject (TakesFailed order text.now) object.old object.new result }
+    ensures { MakesObject (TakesFailed order text.now)
+        object.old object.new result }
 {
     match object {
         Object::Client(client) => client.take_failed(alloc, order, text),
@@ -349,7 +358,8 @@ pub extern "C" fn rz_take_failed(
     order: usize,
     text: &[u8],
 ) -> i32
-    ensures { Makes (TakesFailed order text.now) client.old.held client.new.held result }
+    ensures { Makes (TakesFailed order text.now)
+        client.old.held client.new.held result }
 {
     let Some(mut object) = client.take(alloc) else {
         return Fault::BadHandle.code();
@@ -360,7 +370,8 @@ pub extern "C" fn rz_take_failed(
 }
 
 fn copy_answer(object: &Object, bytes: &mut [u8]) -> Result<(), Fault>
-    ensures { CopiesObject (CopiesAnswer bytes.new) object.now result }
+    ensures { CopiesObject
+        (CopiesAnswer bytes.new) object.now result }
 {
     let answered = match object {
         Object::Client(HostClient::Answered(answered)) => answered,
@@ -385,7 +396,8 @@ fn copy_answer(object: &Object, bytes: &mut [u8]) -> Result<(), Fault>
 #[unsafe(no_mangle)]
 pub extern "C" fn rz_answer(alloc: Global, client: &mut Handle, bytes: &mut [u8]) -> i32
     // The text is the answer of what was asked, where it gives 0.
-    ensures text { Copies (CopiesAnswer bytes.new) client.old.held result }
+    ensures text { Copies (CopiesAnswer bytes.new)
+        client.old.held result }
     ensures kept { client.new.held ≡ client.old.held }
 {
     let Some(object) = client.take(alloc) else {

@@ -45,7 +45,8 @@ fn server_object(
     bindings: &[u8],
     fault: &mut SchemaFault,
 ) -> Result<Object, Fault>
-    ensures { IfOk result (λ o. HoldsServer (IsServer schema.now bindings.now) (Some o)) }
+    ensures { IfOk result (λ o. HoldsServer
+        (IsServer schema.now bindings.now) (Some o)) }
 {
     match open_server(alloc, schema, bindings) {
         Ok(opened) => Ok(Object::Server(opened)),
@@ -72,7 +73,8 @@ pub extern "C" fn rz_open(
     bindings: &[u8],
     fault: &mut SchemaFault,
 ) -> i32
-    ensures { Opens schema.now bindings.now server.old.held server.new.held result }
+    ensures { Opens schema.now bindings.now
+        server.old.held server.new.held result }
 {
     let opened = server_object(alloc, schema, bindings, fault);
     code_of(server.put_made(alloc, opened))
@@ -80,7 +82,8 @@ pub extern "C" fn rz_open(
 
 // The server of a handle once more.
 fn shared_server_object(alloc: Global, server: &mut Handle) -> Result<Object, Fault>
-    ensures shared { IsMadeOf Shares server.old.held result }
+    ensures shared { IsMadeOf Shares
+        server.old.held result }
     ensures kept { server.new.held ≡ server.old.held }
 {
     let Some(object) = server.take(alloc) else {
@@ -99,7 +102,8 @@ fn shared_server_object(alloc: Global, server: &mut Handle) -> Result<Object, Fa
 /// handle holds what it held
 #[unsafe(no_mangle)]
 pub extern "C" fn rz_share(alloc: Global, server: &mut Handle, other: &mut Handle) -> i32
-    ensures shared { Gives Shares server.old.held other.old.held other.new.held result }
+    ensures shared { Gives Shares server.old.held
+        other.old.held other.new.held result }
     ensures kept { server.new.held ≡ server.old.held }
 {
     let shared = shared_server_object(alloc, server);
@@ -117,7 +121,8 @@ fn sizes_of(alloc: Global, server: &Server) -> Result<LoaderSizes, Fault>
 }
 
 fn tell_sizes(alloc: Global, object: &Object, sizes: &mut LoaderSizes) -> Result<(), Fault>
-    ensures { CopiesServer (TellsLoaderSizes sizes.new) object.now result }
+    ensures { CopiesServer
+        (TellsLoaderSizes sizes.new) object.now result }
 {
     match object {
         Object::Server(server) => {

@@ -82,15 +82,25 @@ own_set (Spread p name ds) = None
 own_set (Inline p c ds s) = Some s
 
 abbrev pub set_part : SelectionPart → Option SetPart
-set_part part = option_map (λ (s : SelectionSet). record { owner = part.owner; parent = part.inside; selection_set = s }) (own_set part.selection)
+set_part part = option_map
+    (λ (s : SelectionSet). record { owner = part.owner; parent = part.inside; selection_set = s })
+    (own_set part.selection)
 
 abbrev pub operation_sets : List schema.Definition → ℕ → List Operation → List SetPart
 operation_sets defs i [] = []
-operation_sets defs i (o ∷ os) = record { owner = owner.Operation i; parent = inside_operation defs; selection_set = o.selection_set } ∷ operation_sets defs (i + 1) os
+operation_sets defs i (o ∷ os) = record {
+  owner = owner.Operation i;
+  parent = inside_operation defs;
+  selection_set = o.selection_set;
+} ∷ operation_sets defs (i + 1) os
 
 abbrev pub fragment_sets : List schema.Definition → ℕ → List Fragment → List SetPart
 fragment_sets defs i [] = []
-fragment_sets defs i (f ∷ fs) = record { owner = owner.Fragment i; parent = inside_condition defs f.condition; selection_set = f.selection_set } ∷ fragment_sets defs (i + 1) fs
+fragment_sets defs i (f ∷ fs) = record {
+  owner = owner.Fragment i;
+  parent = inside_condition defs f.condition;
+  selection_set = f.selection_set;
+} ∷ fragment_sets defs (i + 1) fs
 
 -- ---- variables
 
@@ -121,15 +131,18 @@ directives_at o at [] = []
 directives_at o at (d ∷ ds) = record { owner = o; location = at; directives = d ∷ ds } ∷ []
 
 abbrev pub variable_directives : VariablePart → List DirectiveList
-variable_directives v = directives_at (owner.Operation v.operation) location.VariableDefinition v.definition.directives
+variable_directives v =
+    directives_at (owner.Operation v.operation) location.VariableDefinition v.definition.directives
 
 abbrev pub operation_directives : ℕ → List Operation → List DirectiveList
 operation_directives i [] = []
-operation_directives i (o ∷ os) = directives_at (owner.Operation i) location.Operation o.directives ++ operation_directives (i + 1) os
+operation_directives i (o ∷ os) = directives_at (owner.Operation i) location.Operation o.directives
+    ++ operation_directives (i + 1) os
 
 abbrev pub fragment_directives : ℕ → List Fragment → List DirectiveList
 fragment_directives i [] = []
-fragment_directives i (f ∷ fs) = directives_at (owner.Fragment i) location.FragmentDefinition f.directives ++ fragment_directives (i + 1) fs
+fragment_directives i (f ∷ fs) = directives_at
+    (owner.Fragment i) location.FragmentDefinition f.directives ++ fragment_directives (i + 1) fs
 
 abbrev pub directives_from : Owner → Selection → List DirectiveList
 directives_from o (Field p alias name as' ds b) = directives_at o location.Field ds
@@ -145,11 +158,16 @@ selection_directives part = directives_from part.owner part.selection
 abbrev pub condition_argument : schema.Argument
 condition_argument =
     let start : Place = record { line = 1; column = 1 } in
-    record { name = record { text = codes "if"; place = start }; of_type = Named start (codes "Boolean") true; default = None }
+    record {
+      name = record { text = codes "if"; place = start };
+      of_type = Named start (codes "Boolean") true;
+      default = None;
+    }
 
 -- the arguments that a directive takes, where it is known
 abbrev pub directive_definitions : List ℕ → Option (List schema.Argument)
-directive_definitions name = if bytes_eq name (codes "skip") || bytes_eq name (codes "include") then Some (condition_argument ∷ []) else None
+directive_definitions name = if bytes_eq name (codes "skip") || bytes_eq name (codes "include")
+    then Some (condition_argument ∷ []) else None
 
 abbrev pub field_arguments : FieldPart → ArgumentList
 field_arguments f = record {
@@ -160,7 +178,12 @@ field_arguments f = record {
 }
 
 abbrev pub arguments_with : Owner → Directive → ArgumentList
-arguments_with o d = record { owner = o; place = d.place; definitions = directive_definitions d.name; arguments = d.arguments }
+arguments_with o d = record {
+  owner = o;
+  place = d.place;
+  definitions = directive_definitions d.name;
+  arguments = d.arguments;
+}
 
 abbrev pub directive_arguments : DirectiveList → List ArgumentList
 directive_arguments l = map (arguments_with l.owner) l.directives
@@ -191,16 +214,20 @@ abbrev pub fields_of : List schema.Definition → Document → List FieldPart
 fields_of defs d = fields_in (document_selections defs d)
 
 abbrev pub sets_in : List schema.Definition → Document → List SelectionPart → List SetPart
-sets_in defs d parts = (operation_sets defs 0 d.operations ++ fragment_sets defs 0 d.fragments) ++ filter_map set_part parts
+sets_in defs d parts = (operation_sets defs 0 d.operations ++ fragment_sets defs 0 d.fragments)
+    ++ filter_map set_part parts
 
 abbrev pub variables_in : Document → List VariablePart
 variables_in d = operation_variables 0 d.operations
 
 abbrev pub directives_in : Document → List SelectionPart → List DirectiveList
-directives_in d parts = ((flat_map variable_directives (variables_in d) ++ operation_directives 0 d.operations) ++ fragment_directives 0 d.fragments) ++ flat_map selection_directives parts
+directives_in d parts =
+    ((flat_map variable_directives (variables_in d) ++ operation_directives 0 d.operations)
+    ++ fragment_directives 0 d.fragments) ++ flat_map selection_directives parts
 
 abbrev pub argument_lists_in : List FieldPart → List DirectiveList → List ArgumentList
-argument_lists_in fields directives = map field_arguments fields ++ flat_map directive_arguments directives
+argument_lists_in fields directives =
+    map field_arguments fields ++ flat_map directive_arguments directives
 
 abbrev pub arguments_in : List ArgumentList → List ArgumentPart
 arguments_in lists = flat_map listed_arguments lists

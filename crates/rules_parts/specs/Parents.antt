@@ -21,7 +21,8 @@ inside_operation defs = Some (root_in defs)
 
 -- inside a field, where it is known
 abbrev pub inside_field : List Definition → Option Field → Option (List ℕ)
-inside_field defs field = option_and_then (λ (f : Field). composite_in defs (core_of f.of_type).text) field
+inside_field defs field =
+    option_and_then (λ (f : Field). composite_in defs (core_of f.of_type).text) field
 
 -- inside a fragment
 abbrev pub inside_condition : List Definition → Condition → Option (List ℕ)

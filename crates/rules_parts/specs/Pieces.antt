@@ -182,7 +182,8 @@ abbrev pub variable_part_of : rust-variable.VariablePart → VariablePart
 variable_part_of v = record { operation = v.operation; definition = variable_of v.definition.now }
 
 abbrev pub directive_list_of : rust-directives.DirectiveList → DirectiveList
-directive_list_of l = record { owner = l.owner; location = l.location; directives = directives_of l.directives.now }
+directive_list_of l =
+    record { owner = l.owner; location = l.location; directives = directives_of l.directives.now }
 
 abbrev pub argument_list_of : rust-arguments.ArgumentList → ArgumentList
 argument_list_of l = record {
@@ -206,4 +207,9 @@ abbrev pub location_of : rust-location.Location → Location
 location_of l = record { of_type = type_of l.of_type.now; has_default = l.has_default }
 
 abbrev pub use_of : rust-use.VariableUse → VariableUse
-use_of u = record { owner = u.owner; place = u.place; name = u.name.now; location = option_map location_of u.location }
+use_of u = record {
+  owner = u.owner;
+  place = u.place;
+  name = u.name.now;
+  location = option_map location_of u.location;
+}

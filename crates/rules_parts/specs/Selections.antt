@@ -22,19 +22,38 @@ abbrev mutual
 
   pub selections_among : List Definition → Owner → Option (List ℕ) → Selections → List SelectionPart
   selections_among defs o parent no_selection = []
-  selections_among defs o parent (and_selection s ss) = selections_from defs o parent s ++ selections_among defs o parent ss
+  selections_among defs o parent (and_selection s ss) =
+      selections_from defs o parent s ++ selections_among defs o parent ss
 
   -- a selection, and those inside it
   pub selections_from : List Definition → Owner → Option (List ℕ) → Selection → List SelectionPart
   selections_from defs o parent (Field p alias name as' ds b) =
       let definition = known_field defs parent name in
       let inside = inside_field defs definition in
-      record { owner = o; parent = parent; definition = definition; inside = inside; selection = Field p alias name as' ds b } ∷ selections_below defs o inside b
+      record {
+        owner = o;
+        parent = parent;
+        definition = definition;
+        inside = inside;
+        selection = Field p alias name as' ds b;
+      } ∷ selections_below defs o inside b
   selections_from defs o parent (Spread p name ds) =
-      record { owner = o; parent = parent; definition = None; inside = None; selection = Spread p name ds } ∷ []
+      record {
+        owner = o;
+        parent = parent;
+        definition = None;
+        inside = None;
+        selection = Spread p name ds;
+      } ∷ []
   selections_from defs o parent (Inline p c ds s) =
       let inside = inside_inline defs parent c in
-      record { owner = o; parent = parent; definition = None; inside = inside; selection = Inline p c ds s } ∷ selections_in defs o inside s
+      record {
+        owner = o;
+        parent = parent;
+        definition = None;
+        inside = inside;
+        selection = Inline p c ds s;
+      } ∷ selections_in defs o inside s
 
   pub selections_below : List Definition → Owner → Option (List ℕ) → Below → List SelectionPart
   selections_below defs o inside nothing_below = []
@@ -43,25 +62,30 @@ abbrev mutual
 -- those of operations, the first of which has the number i
 abbrev pub operation_selections : List Definition → ℕ → List Operation → List SelectionPart
 operation_selections defs i [] = []
-operation_selections defs i (o ∷ os) = selections_in defs (owner.Operation i) (inside_operation defs) o.selection_set ++ operation_selections defs (i + 1) os
+operation_selections defs i (o ∷ os) = selections_in defs (owner.Operation i)
+    (inside_operation defs) o.selection_set ++ operation_selections defs (i + 1) os
 
 -- those of fragments, the first of which has the number i
 abbrev pub fragment_selections : List Definition → ℕ → List Fragment → List SelectionPart
 fragment_selections defs i [] = []
-fragment_selections defs i (f ∷ fs) = selections_in defs (owner.Fragment i) (inside_condition defs f.condition) f.selection_set ++ fragment_selections defs (i + 1) fs
+fragment_selections defs i (f ∷ fs) = selections_in defs (owner.Fragment i)
+    (inside_condition defs f.condition) f.selection_set ++ fragment_selections defs (i + 1) fs
 
 -- operations first, and then fragments
 abbrev pub document_selections : List Definition → Document → List SelectionPart
-document_selections defs d = operation_selections defs 0 d.operations ++ fragment_selections defs 0 d.fragments
+document_selections defs d =
+    operation_selections defs 0 d.operations ++ fragment_selections defs 0 d.fragments
 
 -- gives the same of a set and of a selection that were read
 abbrev pub read_selections_in : List rust-definition.Definition → Owner
     → Option (Bor (List ℕ)) → rust-set.SelectionSet → List SelectionPart
-read_selections_in schema o parent set = selections_in (tree_of schema) o (option_copied parent) (set_of set)
+read_selections_in schema o parent set =
+    selections_in (tree_of schema) o (option_copied parent) (set_of set)
 
 abbrev pub read_selections_from : List rust-definition.Definition → Owner
     → Option (Bor (List ℕ)) → rust-tree.Selection → List SelectionPart
-read_selections_from schema o parent selection = selections_from (tree_of schema) o (option_copied parent) (selection_of selection)
+read_selections_from schema o parent selection =
+    selections_from (tree_of schema) o (option_copied parent) (selection_of selection)
 
 -- the new list is the old one, with these behind it
 abbrev pub AddsSelections : Vec rust-selection.SelectionPart

@@ -46,5 +46,6 @@ abbrev pub argument_uses : ArgumentPart → List VariableUse
 argument_uses a = uses_in a.owner (option_map argument_location a.definition) a.value
 
 -- the new list is the old one, with these behind it
-abbrev pub AddsUses : Vec rust-use.VariableUse → Vec rust-use.VariableUse → List VariableUse → Type 0
+abbrev pub AddsUses : Vec rust-use.VariableUse → Vec rust-use.VariableUse
+    → List VariableUse → Type 0
 AddsUses old new uses = map use_of new.items ≡ map use_of old.items ++ uses

@@ -17,7 +17,8 @@ use gq_schema::ArgDef;
 use std::alloc::{AllocError, Global};
 
 fn field_arguments<'d>(part: &FieldPart<'d>) -> ArgumentList<'d>
-    ensures { argument_list_of result ≡ field_arguments (field_part_of part.now) }
+    ensures { argument_list_of result
+        ≡ field_arguments (field_part_of part.now) }
 {
     let definitions: Option<&'d [ArgDef]> = match part.definition {
         Some(definition) => Some(&definition.arguments),
@@ -37,8 +38,10 @@ fn arguments_with<'d>(
     owner: Owner,
     directive: &'d Directive,
 ) -> ArgumentList<'d>
-    requires { schema.arguments_of condition.now ≡ condition_argument ∷ [] }
-    ensures { argument_list_of result ≡ arguments_with owner (directive_of directive.now) }
+    requires { schema.arguments_of condition.now
+        ≡ condition_argument ∷ [] }
+    ensures { argument_list_of result ≡ arguments_with owner
+        (directive_of directive.now) }
 {
     let is_known = matches!(directive.name.as_str(), "skip" | "include");
     ArgumentList {
@@ -55,7 +58,8 @@ fn add_directive_arguments<'d>(
     list: &DirectiveList<'d>,
     lists: &mut Vec<ArgumentList<'d>>,
 ) -> Result<(), AllocError>
-    requires { schema.arguments_of condition.now ≡ condition_argument ∷ [] }
+    requires { schema.arguments_of condition.now
+        ≡ condition_argument ∷ [] }
     ensures { OnOk result (map argument_list_of lists.new.items ≡ map argument_list_of
         lists.old.items ++ directive_arguments (directive_list_of list.now)) }
 {
@@ -72,7 +76,8 @@ pub fn argument_lists<'d>(
     fields: &[FieldPart<'d>],
     directives: &[DirectiveList<'d>],
 ) -> Result<Vec<ArgumentList<'d>>, AllocError>
-    requires { schema.arguments_of condition.now ≡ condition_argument ∷ [] }
+    requires { schema.arguments_of condition.now
+        ≡ condition_argument ∷ [] }
     ensures { IfOk result (λ lists. map argument_list_of lists.items
         ≡ argument_lists_in (map field_part_of fields.now) (map directive_list_of directives.now)) }
 {
@@ -125,8 +130,8 @@ fn add_arguments<'d>(
     list: &ArgumentList<'d>,
     arguments: &mut Vec<ArgumentPart<'d>>,
 ) -> Result<(), AllocError>
-    ensures { OnOk result (map argument_part_of arguments.new.items
-        ≡ map argument_part_of arguments.old.items ++ listed_arguments (argument_list_of list.now)) }
+    ensures { OnOk result (map argument_part_of arguments.new.items ≡ map argument_part_of
+        arguments.old.items ++ listed_arguments (argument_list_of list.now)) }
 {
     for argument in list.arguments {
         arguments.push(argument_with(list.owner, list.definitions, argument))?;

@@ -11,7 +11,8 @@ use std::alloc::{AllocError, Global};
 
 /// The arguments of `skip` and of `include`: `if: Boolean!` (sections 3.13.1 and 3.13.2). Their places say nothing.
 pub fn condition_arguments(alloc: Global) -> Result<Vec<ArgDef>, AllocError>
-    ensures { IfOk result (λ arguments. arguments_of arguments.items ≡ condition_argument ∷ []) }
+    ensures { IfOk result (λ arguments. arguments_of
+        arguments.items ≡ condition_argument ∷ []) }
 {
     let mut arguments = Vec::with_capacity(alloc, 1)?;
     arguments.push(ArgDef {

@@ -14,7 +14,8 @@ pub type Numbers<'d> = HashMap<&'d str, usize>;
 
 // Notes the number of a name, unless one of the name stands earlier.
 fn note<'d>(numbers: &mut Numbers<'d>, name: &'d str, number: usize) -> Result<(), AllocError>
-    ensures { (q : List ℕ) → OnOk result (number_at numbers.new q ≡ or_else (number_at numbers.old q) (if bytes_eq q name.now then Some number else None)) }
+    ensures { (q : List ℕ) → OnOk result (number_at numbers.new q
+        ≡ or_else (number_at numbers.old q) (if bytes_eq q name.now then Some number else None)) }
 {
     numbers.entry(name)?.or_insert(number);
     Ok(())
@@ -25,7 +26,8 @@ pub fn fragment_numbers<'d>(
     alloc: Global,
     fragments: &'d [Fragment],
 ) -> Result<Numbers<'d>, AllocError>
-    ensures { IfOk result (AreNumbers (map fragment_of fragments.now)) }
+    ensures { IfOk result
+        (AreNumbers (map fragment_of fragments.now)) }
 {
     let mut numbers: Numbers = HashMap::new(alloc);
     for (i, fragment) in fragments.iter().enumerate() {

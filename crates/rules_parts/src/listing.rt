@@ -20,7 +20,8 @@ use std::alloc::{AllocError, Global};
 
 // The selection, where it is a field.
 fn field_part<'d>(part: &SelectionPart<'d>) -> Option<FieldPart<'d>>
-    ensures { option_map field_part_of result ≡ field_part (selection_part_of part.now) }
+    ensures { option_map field_part_of result
+        ≡ field_part (selection_part_of part.now) }
 {
     match part.selection {
         Selection::Field(field) => Some(FieldPart {
@@ -58,7 +59,8 @@ fn spread_part<'d>(
     fragments: &'d [Fragment],
     part: &SelectionPart<'d>,
 ) -> Option<SpreadPart<'d>>
-    requires { AreNumbers (map fragment_of fragments.now) numbers.now }
+    requires { AreNumbers
+        (map fragment_of fragments.now) numbers.now }
     ensures { option_map spread_part_of result
         ≡ spread_part (map fragment_of fragments.now) (selection_part_of part.now) }
 {
@@ -81,7 +83,8 @@ pub fn spreads<'d>(
     fragments: &'d [Fragment],
     selections: &[SelectionPart<'d>],
 ) -> Result<Vec<SpreadPart<'d>>, AllocError>
-    requires { AreNumbers (map fragment_of fragments.now) numbers.now }
+    requires { AreNumbers
+        (map fragment_of fragments.now) numbers.now }
     ensures { IfOk result (λ spreads. map spread_part_of spreads.items
         ≡ spreads_in (map fragment_of fragments.now) (map selection_part_of selections.now)) }
 {
@@ -96,7 +99,8 @@ pub fn spreads<'d>(
 
 // The selection, where it is an inline fragment.
 fn inline_part<'d>(part: &SelectionPart<'d>) -> Option<InlinePart<'d>>
-    ensures { option_map inline_part_of result ≡ inline_part (selection_part_of part.now) }
+    ensures { option_map inline_part_of result
+        ≡ inline_part (selection_part_of part.now) }
 {
     match part.selection {
         Selection::Inline(inline) => Some(InlinePart {
@@ -129,7 +133,8 @@ pub fn inlines<'d>(
 
 // The set inside a selection.
 fn set_part<'d>(part: &SelectionPart<'d>) -> Option<SetPart<'d>>
-    ensures { option_map set_part_of result ≡ set_part (selection_part_of part.now) }
+    ensures { option_map set_part_of result
+        ≡ set_part (selection_part_of part.now) }
 {
     match part.selection {
         Selection::Field(field) => match &field.selection_set {
@@ -156,8 +161,8 @@ pub fn sets<'d>(
     document: &'d Document,
     selections: &[SelectionPart<'d>],
 ) -> Result<Vec<SetPart<'d>>, AllocError>
-    ensures { IfOk result (λ sets. map set_part_of sets.items
-        ≡ sets_in (tree_of schema.now) (document_of document.now) (map selection_part_of selections.now)) }
+    ensures { IfOk result (λ sets. map set_part_of sets.items ≡ sets_in (tree_of schema.now)
+        (document_of document.now) (map selection_part_of selections.now)) }
 {
     let mut sets = Vec::new(alloc);
     for (i, operation) in document.operations.iter().enumerate() {
@@ -266,7 +271,8 @@ pub fn directive_lists<'d>(
     variables: &[VariablePart<'d>],
     selections: &[SelectionPart<'d>],
 ) -> Result<Vec<DirectiveList<'d>>, AllocError>
-    requires { map variable_part_of variables.now ≡ variables_in (document_of document.now) }
+    requires { map variable_part_of variables.now
+        ≡ variables_in (document_of document.now) }
     ensures { IfOk result (λ lists. map directive_list_of lists.items
         ≡ directives_in (document_of document.now) (map selection_part_of selections.now)) }
 {

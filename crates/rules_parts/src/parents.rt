@@ -15,7 +15,8 @@ use gq_schema::{FieldDef, Schema};
 
 // The name, where it is that of a composite type.
 fn composite<'d>(schema: &Schema, name: &'d str) -> Option<&'d str>
-    ensures { option_copied result ≡ composite_in (tree_of schema.now) name.now }
+    ensures { option_copied result
+        ≡ composite_in (tree_of schema.now) name.now }
 {
     let kind = schema.kind_of(name)?;
     if kind.is_leaf() { None } else { Some(name) }
@@ -35,7 +36,8 @@ pub fn known_field<'d>(
 
 /// The type that is selected inside an operation.
 pub fn inside_operation(schema: &Schema) -> Option<&str>
-    ensures { option_copied result ≡ inside_operation (tree_of schema.now) }
+    ensures { option_copied result
+        ≡ inside_operation (tree_of schema.now) }
 {
     Some(schema.root())
 }

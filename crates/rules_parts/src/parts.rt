@@ -55,7 +55,8 @@ impl<'d> Parts<'d> {
         condition: &'d [ArgDef],
         document: &'d Document,
     ) -> Result<Parts<'d>, AllocError>
-        requires { arguments_of condition.now ≡ condition_argument ∷ [] }
+        requires { arguments_of condition.now
+            ≡ condition_argument ∷ [] }
         ensures { IfOk result (λ parts.
             parts_in parts ≡ parts_of (tree_of schema.now) (document_of document.now)) }
     {

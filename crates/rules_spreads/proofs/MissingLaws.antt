@@ -130,13 +130,13 @@ standing (x ∷ xs) zero lt = record { x = x; is = refl; left = refl }
 standing (x ∷ xs) (suc i) lt = let r = standing xs i (omega arith) in record { x = r.x; is = r.is; left = r.left }
 
 -- a test that is true of a list of operations where it is so of one, which has the number k, or of those behind it
-pub in_batch : {A : Type 0} (all : ℕ → List A → Bool) (one : ℕ → A → Bool) → ((k : ℕ) (x : A) (xs : List A) → all k (x ∷ xs) ≡ (one k x || all (k + 1) xs))
+pub in_span : {A : Type 0} (all : ℕ → List A → Bool) (one : ℕ → A → Bool) → ((k : ℕ) (x : A) (xs : List A) → all k (x ∷ xs) ≡ (one k x || all (k + 1) xs))
     → (xs : List A) (first count : ℕ) (test : ℕ → Bool) → first + count ≤ length xs → ((i : ℕ) (x : A) → i < count → slice_get xs (first + i) ≡ Some x → test i ≡ one (first + i) x)
     → all first (drop first xs) ≡ (any_below test count || all (first + count) (drop (first + count) xs))
-in_batch all one next xs first zero test within agree = rw add-zero refl
-in_batch all one next xs first (suc n) test within agree =
+in_span all one next xs first zero test within agree = rw add-zero refl
+in_span all one next xs first (suc n) test within agree =
     let here = standing xs (first + n) (omega arith) in
-    let before = in_batch all one next xs first n test (omega arith) (λ i x lt is. agree i x (omega arith) is) in
+    let before = in_span all one next xs first n test (omega arith) (λ i x lt is. agree i x (omega arith) is) in
     let step : all (first + n) (drop (first + n) xs) ≡ (test n || all (suc (first + n)) (drop (suc (first + n)) xs)) =
     ap (all (first + n)) here.left ∙ (next (first + n) here.x (drop (suc (first + n)) xs) ∙ rw (add-one, ← agree n here.x (omega arith) here.is) refl) in
     let later : first + suc n ≡ suc (first + n) = omega arith in
@@ -146,8 +146,8 @@ in_batch all one next xs first (suc n) test within agree =
       assoc false b c = refl
 
 -- the note of a place, and what is left to note, after a span
-pub batch_noted : (old new span rest before total : Bool) → new ≡ (span || old) → before ≡ (span || rest) → (old || before) ≡ total → (new || rest) ≡ total
-batch_noted old new span rest before total of_new of_before of_total = ap (λ b. b || rest) of_new ∙ (by span old rest ∙ (ap (λ b. old || b) (sym of_before) ∙ of_total)) where
+pub span_noted : (old new span rest before total : Bool) → new ≡ (span || old) → before ≡ (span || rest) → (old || before) ≡ total → (new || rest) ≡ total
+span_noted old new span rest before total of_new of_before of_total = ap (λ b. b || rest) of_new ∙ (by span old rest ∙ (ap (λ b. old || b) (sym of_before) ∙ of_total)) where
   by : (a b c : Bool) → ((a || b) || c) ≡ (b || (a || c))
   by true true c = refl
   by true false c = refl

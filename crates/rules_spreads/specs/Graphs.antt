@@ -31,7 +31,8 @@ known_target count (Some j) = if nat_lt j count then Some j else None
 
 -- gives what a spread gives to the one with the number i
 abbrev pub target_of : ℕ → (Owner → Option ℕ) → ℕ → SpreadPart → Option ℕ
-target_of count number i s = if is_number i (number s.owner) then known_target count s.target else None
+target_of count number i s =
+    if is_number i (number s.owner) then known_target count s.target else None
 
 abbrev pub targets_of : ℕ → (Owner → Option ℕ) → List SpreadPart → ℕ → List ℕ
 targets_of count number spreads i = filter_map (target_of count number i) spreads
@@ -39,7 +40,8 @@ targets_of count number spreads i = filter_map (target_of count number i) spread
 -- gives what each of `many` spreads, the first of which has the number i
 abbrev pub rows_from : ℕ → (Owner → Option ℕ) → List SpreadPart → ℕ → ℕ → List (List ℕ)
 rows_from count number spreads i zero = []
-rows_from count number spreads i (suc many) = targets_of count number spreads i ∷ rows_from count number spreads (i + 1) many
+rows_from count number spreads i (suc many) =
+    targets_of count number spreads i ∷ rows_from count number spreads (i + 1) many
 
 abbrev pub graph_of : PartsOf → GraphOf
 graph_of p =

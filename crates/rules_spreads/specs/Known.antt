@@ -23,7 +23,8 @@ abbrev mutual
 
   pub known_among : (List ℕ → Option ℕ) → Selections → Option ℕ
   known_among spread no_selection = Some 0
-  known_among spread (and_selection s ss) = greater_known (known_from spread s) (known_among spread ss)
+  known_among spread (and_selection s ss) =
+      greater_known (known_from spread s) (known_among spread ss)
 
   pub known_from : (List ℕ → Option ℕ) → Selection → Option ℕ
   known_from spread (Field p alias name as' ds b) = option_map one_more (known_below spread b)
@@ -40,4 +41,5 @@ known_at table j = option_and_then (λ levels. levels) (slice_get table j)
 
 -- gives what a table knows of a fragment's name; an unknown name has no fields
 abbrev pub known_named : List (Option ℕ) → List Fragment → List ℕ → Option ℕ
-known_named table fragments name = option_map_or (known_at table) (fragment_place fragments name) (Some 0)
+known_named table fragments name =
+    option_map_or (known_at table) (fragment_place fragments name) (Some 0)

@@ -29,7 +29,9 @@ levels_named levels fragments name = option_map_or levels (fragment_place fragme
 -- that of the fragment with the number j, on paths that expand at most n fragments
 abbrev pub levels_expanded : ℕ → List Fragment → ℕ → ℕ
 levels_expanded zero fragments j = 0
-levels_expanded (suc n) fragments j = option_map_or (λ (f : Fragment). levels_in (levels_named (levels_expanded n fragments) fragments) f.selection_set) (slice_get fragments j) 0
+levels_expanded (suc n) fragments j = option_map_or (λ (f : Fragment).
+    levels_in (levels_named (levels_expanded n fragments) fragments) f.selection_set)
+    (slice_get fragments j) 0
 
 -- those of all fragments, by their numbers
 abbrev pub fragment_levels : List Fragment → ℕ → ℕ
@@ -37,4 +39,5 @@ fragment_levels fragments = levels_expanded (length fragments) fragments
 
 -- That of an operation. Without cycles no path expands more fragments than there are.
 abbrev pub levels_of : List Fragment → Operation → ℕ
-levels_of fragments o = levels_in (levels_named (levels_expanded (length fragments) fragments) fragments) o.selection_set
+levels_of fragments o = levels_in
+    (levels_named (levels_expanded (length fragments) fragments) fragments) o.selection_set

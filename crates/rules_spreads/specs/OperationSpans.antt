@@ -88,7 +88,8 @@ AreKept old new = (j i : ℕ) → has (set_at old j) i ≡ true → has (set_at 
 
 -- the first `count` edges lead to nothing more
 abbrev pub AreFollowed : List Edge → ℕ → List OperationSet → Type 0
-AreFollowed edges count sets = (k : ℕ) (e : Edge) → k < count → is_within (set_at sets (slice_index_or edges k e).from) (set_at sets (slice_index_or edges k e).to) ≡ true
+AreFollowed edges count sets = (k : ℕ) (e : Edge) → k < count → is_within
+    (set_at sets (slice_index_or edges k e).from) (set_at sets (slice_index_or edges k e).to) ≡ true
 
 -- ---- what is missing from sets
 
@@ -107,11 +108,13 @@ any_below test (suc n) = any_below test n || test n
 
 -- the place s stands in the row of the fragment j, which operations reach that are not all in the set
 abbrev pub is_missing_in : List (List ℕ) → List OperationSet → OperationSet → ℕ → ℕ → Bool
-is_missing_in rows reached set s j = is_among s (row_at rows j) && not (is_within (set_at reached j) set)
+is_missing_in rows reached set s j =
+    is_among s (row_at rows j) && not (is_within (set_at reached j) set)
 
 -- it stands in the row of such a fragment
 abbrev pub is_missing_in_fragments : List (List ℕ) → List OperationSet → OperationSet → ℕ → Bool
-is_missing_in_fragments rows reached set s = any_below (is_missing_in rows reached set s) (length reached)
+is_missing_in_fragments rows reached set s =
+    any_below (is_missing_in rows reached set s) (length reached)
 
 -- it stands in the row of the operation of the number i in the span, which is not in the set
 abbrev pub is_missing_at : List (List ℕ) → ℕ → OperationSet → ℕ → ℕ → Bool
@@ -120,4 +123,5 @@ is_missing_at rows first set s i = is_among s (row_at rows (first + i)) && not (
 -- the operation of the number i in the span has a part of this owner, and is not in the set
 abbrev pub misses : GraphOf → ℕ → Owner → OperationSet → ℕ → Bool
 misses g first (owner.Operation k) set i = first + i == k && not (has set i)
-misses g first (owner.Fragment j) set i = reaches g (owner.Operation (first + i)) j && not (has set i)
+misses g first (owner.Fragment j) set i =
+    reaches g (owner.Operation (first + i)) j && not (has set i)

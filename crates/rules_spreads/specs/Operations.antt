@@ -15,5 +15,5 @@ abbrev pub IsReached : GraphOf → OperationSpan → Type 0
 IsReached g b = AreReachers g b.first b.count b.reached.items
 
 -- the place s stands in the row of an operation of the span that isn't in the set
-abbrev pub is_missing_in_batch : List (List ℕ) → OperationSpan → OperationSet → ℕ → Bool
-is_missing_in_batch rows b set s = any_below (is_missing_at rows b.first set s) b.count
+abbrev pub is_missing_in_span : List (List ℕ) → OperationSpan → OperationSet → ℕ → Bool
+is_missing_in_span rows b set s = any_below (is_missing_at rows b.first set s) b.count

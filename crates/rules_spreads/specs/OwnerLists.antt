@@ -8,7 +8,8 @@ use Rattle.rules_spreads.specs.Rows.{rows_in}
 
 -- the rows, as those of a graph
 abbrev pub owner_rows : rust.OwnerLists → GraphOf
-owner_rows r = record { operations = rows_in r.operations.items; fragments = rows_in r.fragments.items }
+owner_rows r =
+    record { operations = rows_in r.operations.items; fragments = rows_in r.fragments.items }
 
 -- both are one operation or one fragment
 abbrev pub is_same_owner : Owner → Owner → Bool

@@ -16,7 +16,8 @@ spreads g o j = is_among j (row g o)
 -- below k - 1 alone, or so reaches k - 1, which so reaches j.
 abbrev pub reaches_through : ℕ → GraphOf → Owner → ℕ → Bool
 reaches_through zero g o j = spreads g o j
-reaches_through (suc k) g o j = reaches_through k g o j || (reaches_through k g o k && reaches_through k g (owner.Fragment k) j)
+reaches_through (suc k) g o j =
+    reaches_through k g o j || (reaches_through k g o k && reaches_through k g (owner.Fragment k) j)
 
 -- it reaches the fragment j by spreads
 abbrev pub reaches : GraphOf → Owner → ℕ → Bool
@@ -31,7 +32,8 @@ are_below n js = list_all (λ j. nat_lt j n) js
 
 -- each row names fragments that there are
 abbrev pub are_known : GraphOf → Bool
-are_known g = list_all (are_below (length g.fragments)) g.operations && list_all (are_below (length g.fragments)) g.fragments
+are_known g = list_all (are_below (length g.fragments)) g.operations
+    && list_all (are_below (length g.fragments)) g.fragments
 
 -- says the same, step by step
 pub data Reaches (g : GraphOf) (o : Owner) : ℕ → Type 0 where

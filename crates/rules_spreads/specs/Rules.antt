@@ -26,7 +26,8 @@ most_levels = 128
 
 -- an operation with too many levels; no name is reported
 abbrev pub deep_operation : List Fragment → Operation → Option BrokenOf
-deep_operation fragments o = if nat_lt most_levels (levels_of fragments o) then Some (record { name = []; place = o.place }) else None
+deep_operation fragments o = if nat_lt most_levels (levels_of fragments o)
+    then Some (record { name = []; place = o.place }) else None
 
 -- the operations with more than 128 fields on a path
 abbrev pub too_deep : PartsOf → List BrokenOf

@@ -27,4 +27,5 @@ IsSettled table k fragments = (m : ℕ) → k ≤ m → Agrees table (levels_exp
 
 -- the levels of all fragments, where a table has those of what they spread
 abbrev pub expanded_table : List (Option ℕ) → List Fragment → List (Option ℕ)
-expanded_table table fragments = map (λ (f : Fragment). known_in (known_named table fragments) f.selection_set) fragments
+expanded_table table fragments =
+    map (λ (f : Fragment). known_in (known_named table fragments) f.selection_set) fragments

@@ -33,7 +33,8 @@ pub fn edges_of(
     rows: &[Vec<usize>],
     order: &[usize],
 ) -> Result<Vec<Edge>, AllocError>
-    ensures { IfOk result (λ edges. AreEdges (rows_in rows.now) edges.items) }
+    ensures { IfOk result
+        (λ edges. AreEdges (rows_in rows.now) edges.items) }
 {
     let mut taken = vec![in alloc; false; rows.len()]?;
     let mut edges = Vec::new(alloc);

@@ -44,7 +44,8 @@ impl Model for Graph {
 
 // Returns `count` rows that spread nothing.
 fn empty_rows(alloc: Global, count: usize) -> Result<SpreadLists, AllocError>
-    ensures { IfOk result (λ rows. rows_in rows.items ≡ replicate count []) }
+    ensures { IfOk result
+        (λ rows. rows_in rows.items ≡ replicate count []) }
 {
     let mut rows = Vec::with_capacity(alloc, count)?;
     for _ in 0..count {
@@ -96,7 +97,8 @@ fn add_spread(
 impl Graph {
     /// The graph of a document's parts.
     pub fn new(alloc: Global, parts: &Parts) -> Result<Graph, AllocError>
-        ensures { IfOk result (λ graph. graph ≡ graph_of (parts_in parts.now)) }
+        ensures { IfOk result (λ graph.
+            graph ≡ graph_of (parts_in parts.now)) }
     {
         let count = parts.document.fragments.len();
         let mut operations = empty_rows(alloc, parts.document.operations.len())?;

@@ -35,7 +35,8 @@ fn one_more(levels: usize) -> usize
 }
 
 fn spread_levels(parts: &Parts, table: &[Option<usize>], name: &str) -> Option<usize>
-    ensures { result ≡ known_named table.now (fragments_in parts.now) name.now }
+    ensures { result ≡ known_named table.now
+        (fragments_in parts.now) name.now }
 {
     match parts.fragment(name) {
         Some(number) => match table.get(number) {
@@ -83,7 +84,8 @@ fn selection_levels(parts: &Parts, table: &[Option<usize>], selection: &Selectio
 fn learn(parts: &Parts, table: &mut LevelCounts, number: usize)
     ensures settled { (k : ℕ) → IsSettled table.old.items k (fragments_in parts.now)
         → IsSettled table.new.items (k + 1) (fragments_in parts.now) }
-    ensures len { length table.new.items ≡ length table.old.items }
+    ensures len { length table.new.items
+        ≡ length table.old.items }
 {
     match parts.document.fragments.get(number) {
         Some(fragment) => {
@@ -100,7 +102,8 @@ fn learn(parts: &Parts, table: &mut LevelCounts, number: usize)
 fn ordered_table(alloc: Global, parts: &Parts, graph: &Graph) -> Result<LevelCounts, AllocError>
     ensures agrees { IfOk result (λ table.
         Agrees table.items (fragment_levels (fragments_in parts.now))) }
-    ensures len { IfOk result (λ table. length table.items ≡ length (fragments_in parts.now)) }
+    ensures len { IfOk result (λ table. length table.items
+        ≡ length (fragments_in parts.now)) }
 {
     let count = parts.document.fragments.len();
     let order = graph.order();
@@ -133,7 +136,8 @@ fn next_table(
 fn expanded_table(alloc: Global, parts: &Parts) -> Result<LevelCounts, AllocError>
     ensures agrees { IfOk result (λ table.
         Agrees table.items (fragment_levels (fragments_in parts.now))) }
-    ensures full { IfOk result (λ table. IsFull table.items (length (fragments_in parts.now))) }
+    ensures full { IfOk result (λ table. IsFull
+        table.items (length (fragments_in parts.now))) }
 {
     let count = parts.document.fragments.len();
     let mut table: LevelCounts = vec![in alloc; Some(0); count]?;
@@ -153,7 +157,8 @@ fn is_full(table: &[Option<usize>]) -> bool
 fn levels_table(alloc: Global, parts: &Parts, graph: &Graph) -> Result<LevelCounts, AllocError>
     ensures agrees { IfOk result (λ table.
         Agrees table.items (fragment_levels (fragments_in parts.now))) }
-    ensures full { IfOk result (λ table. IsFull table.items (length (fragments_in parts.now))) }
+    ensures full { IfOk result (λ table. IsFull
+        table.items (length (fragments_in parts.now))) }
 {
     let table = ordered_table(alloc, parts, graph)?;
     if is_full(&table) {
@@ -168,8 +173,10 @@ fn deep_operation<'d>(
     table: &[Option<usize>],
     operation: &'d Operation,
 ) -> Option<Violation<'d>>
-    requires agrees { Agrees table.now (fragment_levels (fragments_in parts.now)) }
-    requires full { IsFull table.now (length (fragments_in parts.now)) }
+    requires agrees { Agrees table.now
+        (fragment_levels (fragments_in parts.now)) }
+    requires full { IsFull table.now
+        (length (fragments_in parts.now)) }
     ensures { option_map broken_of result
         ≡ deep_operation (fragments_in parts.now) (operation_of operation.now) }
 {

@@ -4,7 +4,7 @@ ghost use Rattle.std.specs.Prelude.{◌≡◌, ◌&&◌, not, OnOk};
 ghost use Rattle.rules_spreads.specs.Reach.{is_among};
 ghost use Rattle.rules_spreads.specs.Rows.{rows_in};
 ghost use Rattle.rules_spreads.specs.OperationSpans.{set_at, set_for, is_within, is_missing_in_fragments, Notes};
-ghost use Rattle.rules_spreads.specs.Operations.{is_missing_in_batch};
+ghost use Rattle.rules_spreads.specs.Operations.{is_missing_in_span};
 
 use crate::operation_set::OperationSet;
 use crate::operation_span::OperationSpan;
@@ -67,7 +67,7 @@ pub fn note_missing_in_operations(
     sets: &[OperationSet],
     noted: &mut Vec<bool>,
 ) -> Result<(), AllocError>
-    ensures { OnOk result (Notes (λ s. is_missing_in_batch (rows_in rows.now) span.now
+    ensures { OnOk result (Notes (λ s. is_missing_in_span (rows_in rows.now) span.now
         (set_for numbers.now sets.now s) s) noted.old.items noted.new.items) }
 {
     for number in 0..span.count {

@@ -4,7 +4,7 @@ ghost use Rattle.std.specs.Prelude.{◌≡◌, ◌==◌, ◌||◌, ◌&&◌, ◌
 ghost use Rattle.rules_spreads.specs.OperationSpans.{has, is_within, both, IsOfSpan, no_operations};
 
 /// Greatest number of operations of a span.
-const BATCH: usize = 64;
+const MOST_OPERATIONS: usize = 64;
 
 /// Returns how many operations the span has that begins at a place, where there are `all` in all.
 pub fn span_len(first: usize, all: usize) -> usize
@@ -12,7 +12,7 @@ pub fn span_len(first: usize, all: usize) -> usize
     ensures count { (0 < result) × (result ≤ 64) }
     ensures within { first + result ≤ all }
 {
-    BATCH.min(all - first)
+    MOST_OPERATIONS.min(all - first)
 }
 
 /// Some of the operations of a span, by their numbers in it from 0.
@@ -47,7 +47,8 @@ impl OperationSet {
     /// These and one more.
     pub fn with(self, number: usize) -> OperationSet
         requires { number < 64 }
-        ensures { (i : ℕ) → has result i ≡ (i == number || has self i) }
+        ensures { (i : ℕ) → has result i
+            ≡ (i == number || has self i) }
     {
         OperationSet {
             bits: self.bits | 1u64 << number,
@@ -57,7 +58,8 @@ impl OperationSet {
     /// These without one.
     pub fn without(self, number: usize) -> OperationSet
         requires { number < 64 }
-        ensures { (i : ℕ) → i < 64 → has result i ≡ (not (i == number) && has self i) }
+        ensures { (i : ℕ) → i < 64 → has result i
+            ≡ (not (i == number) && has self i) }
     {
         OperationSet {
             bits: self.bits & !(1u64 << number),

@@ -33,9 +33,12 @@ impl<'d> OperationSpan<'d> {
         first: usize,
     ) -> Result<OperationSpan<'d>, AllocError>
         requires { first < length operations.now }
-        ensures operations { IfOk result (λ span. span.operations.now ≡ operations.now) }
-        ensures first { IfOk result (λ span. span.first ≡ first) }
-        ensures some { IfOk result (λ span. 0 < span.count) }
+        ensures operations { IfOk result
+            (λ span. span.operations.now ≡ operations.now) }
+        ensures first { IfOk result
+            (λ span. span.first ≡ first) }
+        ensures some { IfOk result
+            (λ span. 0 < span.count) }
         ensures reached { IfOk result (λ span.
             AreReachers graph.now first span.count span.reached.items) }
     {

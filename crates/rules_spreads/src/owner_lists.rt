@@ -10,7 +10,8 @@ use std::alloc::{AllocError, Global};
 
 /// Puts a value at a place, with `rest` at the places before it that weren't there.
 pub fn put<T: Copy>(items: &mut Vec<T>, rest: T, at: usize, value: T) -> Result<(), AllocError>
-    ensures { (n : ℕ) → OnOk result (slice_index_or items.new.items n rest ≡ (if n == at then value else slice_index_or items.old.items n rest)) }
+    ensures { (n : ℕ) → OnOk result (slice_index_or items.new.items n rest
+        ≡ (if n == at then value else slice_index_or items.old.items n rest)) }
 {
     while items.len() <= at {
         items.push(rest)?;

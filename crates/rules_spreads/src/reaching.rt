@@ -12,9 +12,11 @@ use std::alloc::{AllocError, Global};
 
 // Adds an operation to the sets of these fragments.
 fn add_to(sets: &mut Vec<OperationSet>, fragments: &[usize], number: usize)
-    requires below { are_below (length sets.old.items) fragments.now ≡ true }
+    requires below { are_below
+        (length sets.old.items) fragments.now ≡ true }
     requires number { number < 64 }
-    ensures len { length sets.new.items ≡ length sets.old.items }
+    ensures len { length sets.new.items
+        ≡ length sets.old.items }
     ensures sets { (j i : ℕ) → has (set_at sets.new.items j) i
         ≡ ((i == number && is_among j fragments.now) || has (set_at sets.old.items j) i) }
 {
@@ -32,9 +34,12 @@ fn spreaders(
 ) -> Result<Vec<OperationSet>, AllocError>
     requires first { first < 2 ^ 63 }
     requires count { count ≤ 64 }
-    ensures len { IfOk result (λ sets. length sets.items ≡ length graph.now.fragments) }
-    ensures known { 0 < count → OnOk result (are_known graph.now ≡ true) }
-    ensures sets { IfOk result (λ sets. AreSpreaders graph.now first count sets.items) }
+    ensures len { IfOk result (λ sets.
+        length sets.items ≡ length graph.now.fragments) }
+    ensures known { 0 < count
+        → OnOk result (are_known graph.now ≡ true) }
+    ensures sets { IfOk result (λ sets.
+        AreSpreaders graph.now first count sets.items) }
 {
     let mut sets = vec![in alloc; OperationSet::new(); graph.len()]?;
     for number in 0..count {
@@ -47,12 +52,15 @@ fn spreaders(
 // Adds what reaches a fragment to what reaches those that it spreads, and says whether that was anything.
 fn follow(edges: &[Edge], sets: &mut Vec<OperationSet>) -> bool
     requires { AreBelow (length sets.old.items) edges.now }
-    ensures len { length sets.new.items ≡ length sets.old.items }
+    ensures len { length sets.new.items
+        ≡ length sets.old.items }
     ensures passes { (test : ℕ → ℕ → Bool) → Passes edges.now test
         → AllPass test sets.old.items → AllPass test sets.new.items }
     ensures kept { AreKept sets.old.items sets.new.items }
-    ensures followed { result ≡ false → AreFollowed edges.now (length edges.now) sets.new.items }
-    ensures room { result ≡ true → room sets.new.items < room sets.old.items }
+    ensures followed { result ≡ false → AreFollowed
+        edges.now (length edges.now) sets.new.items }
+    ensures room { result ≡ true
+        → room sets.new.items < room sets.old.items }
 {
     let mut has_grown = false;
     for edge in edges {
@@ -78,9 +86,12 @@ pub fn reachers(
 ) -> Result<Vec<OperationSet>, AllocError>
     requires first { first < 2 ^ 63 }
     requires count { (0 < count) × (count ≤ 64) }
-    requires edges { AreEdges graph.now.fragments edges.now }
-    ensures len { IfOk result (λ sets. length sets.items ≡ length graph.now.fragments) }
-    ensures sets { IfOk result (λ sets. AreReachers graph.now first count sets.items) }
+    requires edges { AreEdges
+        graph.now.fragments edges.now }
+    ensures len { IfOk result (λ sets.
+        length sets.items ≡ length graph.now.fragments) }
+    ensures sets { IfOk result (λ sets.
+        AreReachers graph.now first count sets.items) }
 {
     let mut sets = spreaders(alloc, graph, first, count)?;
     let mut has_grown = true;

@@ -61,7 +61,8 @@ fn visit(
     reached: &mut Vec<usize>,
     targets: &[usize],
 ) -> Result<(), AllocError>
-    requires { are_below (length marks.old.items) targets.now ≡ true }
+    requires { are_below
+        (length marks.old.items) targets.now ≡ true }
     ensures visits { OnOk result
         (Visits marks.old.items marks.new.items reached.old.items reached.new.items targets.now) }
     ensures listed { AreListed marks.old.items reached.old.items
@@ -85,10 +86,12 @@ fn follow(
 ) -> Result<(), AllocError>
     requires clear { AreClear marks.old.items }
     requires empty { reached.old.items ≡ [] }
-    requires room { length graph.now.fragments ≤ length marks.old.items }
+    requires room { length graph.now.fragments
+        ≤ length marks.old.items }
     ensures reached { (j : ℕ)
         → OnOk result (is_among j reached.new.items ≡ reaches graph.now owner j) }
-    ensures listed { AreListed marks.new.items reached.new.items }
+    ensures listed { AreListed
+        marks.new.items reached.new.items }
 {
     visit(marks, reached, graph.row(owner))?;
     let mut next = 0;
@@ -117,7 +120,8 @@ impl SpreadReach {
     ///
     /// When out of memory. No clause speaks then of what was reached.
     pub fn reach_from(&mut self, graph: &Graph, owner: Owner) -> Result<(), AllocError>
-        ensures { (j : ℕ) → OnOk result (is_among j self.new ≡ reaches graph.now owner j) }
+        ensures { (j : ℕ) → OnOk result (is_among j self.new
+            ≡ reaches graph.now owner j) }
     {
         clear(&mut self.marks, &mut self.reached);
         fit(&mut self.marks, graph.len())?;

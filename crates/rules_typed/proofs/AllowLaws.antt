@@ -11,7 +11,7 @@ use Rattle.rules_spreads.specs.declared.operation_set.OperationSet.{OperationSet
 use Rattle.rules_spreads.specs.Graphs.{GraphOf, row_at}
 use Rattle.rules_spreads.specs.Reach.{is_among}
 use Rattle.rules_spreads.specs.OperationSpans.{has, set_at, any_below, is_missing_in, is_missing_at, misses, AreReachers}
-use Rattle.rules_spreads.proofs.MissingLaws.{missing-in_operation, missing-in_fragment, in_batch, batch_noted}
+use Rattle.rules_spreads.proofs.MissingLaws.{missing-in_operation, missing-in_fragment, in_span, span_noted}
 use Rattle.rules_typed.specs.AllVariableUsagesAreAllowed.{forbids, includes, is_forbidden}
 use Rattle.rules_spreads.specs.OwnerLists.{is_same_owner}
 use Rattle.rules_typed.specs.UseKinds.{is_forbidden_use}
@@ -70,16 +70,16 @@ misses-by g first i set (owner.Operation k) = refl
 misses-by g first i set (owner.Fragment j) = refl
 
 -- the mark of a use after a span of operations
-pub forbids_batch : (g : GraphOf) (u : VariableUse) (s : ℕ) (operations : List Operation) (first count : ℕ) (own_rows rows : List (List ℕ)) (reached : List OperationSet) (set : OperationSet) (old mid new : Bool)
+pub forbids_span : (g : GraphOf) (u : VariableUse) (s : ℕ) (operations : List Operation) (first count : ℕ) (own_rows rows : List (List ℕ)) (reached : List OperationSet) (set : OperationSet) (old mid new : Bool)
     → AreReachers g first count reached → first + count ≤ length operations
     → ((q : ℕ) → is_among s (row_at own_rows q) ≡ is_same_owner (owner.Operation q) u.owner) → ((j : ℕ) → is_among s (row_at rows j) ≡ is_same_owner (owner.Fragment j) u.owner)
     → ((m : ℕ) (o : Operation) → m < count → slice_get operations (first + m) ≡ Some o → has set m ≡ not (forbids o.variables u))
     → mid ≡ (any_below (is_missing_at own_rows first set s) count || old) → new ≡ (any_below (is_missing_in rows reached set s) (length reached) || mid)
     → (new || is_forbidden g (first + count) (drop (first + count) operations) u) ≡ (old || is_forbidden g first (drop first operations) u)
-forbids_batch g u s operations first count own_rows rows reached set old mid new are inside in_operations in_fragments allowed by_own by_all =
-    batch_noted old new (any_below (misses g first u.owner set) count) (is_forbidden g (first + count) (drop (first + count) operations) u) (is_forbidden g first (drop first operations) u) _
+forbids_span g u s operations first count own_rows rows reached set old mid new are inside in_operations in_fragments allowed by_own by_all =
+    span_noted old new (any_below (misses g first u.owner set) count) (is_forbidden g (first + count) (drop (first + count) operations) u) (is_forbidden g first (drop first operations) u) _
     (missing-in g first count s own_rows rows reached set old mid new u.owner are in_operations in_fragments by_own by_all)
-    (in_batch (λ j os. is_forbidden g j os u) (λ j o. includes g j u.owner && forbids o.variables u) (λ j o os. refl) operations first count (misses g first u.owner set) inside agree)
+    (in_span (λ j os. is_forbidden g j os u) (λ j o. includes g j u.owner && forbids o.variables u) (λ j o os. refl) operations first count (misses g first u.owner set) inside agree)
     refl where
       twice : (b : Bool) → not (not b) ≡ b
       twice true = refl

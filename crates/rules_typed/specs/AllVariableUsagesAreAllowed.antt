@@ -20,7 +20,8 @@ is_forbidden_at l v = not (is_allowed v l)
 
 -- One of these variables is of this name, and the first that is may not stand at this location.
 abbrev pub forbids_at : List VariableDefinition → List ℕ → Location → Bool
-forbids_at variables name l = option_map_or (is_forbidden_at l) (find (is_variable name) variables) false
+forbids_at variables name l =
+    option_map_or (is_forbidden_at l) (find (is_variable name) variables) false
 
 -- gives the same of a use, whose location has to be known
 abbrev pub forbids : List VariableDefinition → VariableUse → Bool
@@ -40,11 +41,13 @@ is_part i reached (owner.Fragment j) = is_among j reached
 -- One of these operations, the first of which has the number i, has the use as a part and forbids it.
 abbrev pub is_forbidden : GraphOf → ℕ → List Operation → VariableUse → Bool
 is_forbidden g i [] u = false
-is_forbidden g i (o ∷ os) u = (includes g i u.owner && forbids o.variables u) || is_forbidden g (i + 1) os u
+is_forbidden g i (o ∷ os) u =
+    (includes g i u.owner && forbids o.variables u) || is_forbidden g (i + 1) os u
 
 abbrev pub forbidden_usage : GraphOf → List Operation → VariableUse → Option BrokenOf
 forbidden_usage g os u = named_if (is_forbidden g 0 os u) u.name u.place
 
 -- the uses of variables that an operation forbids
 abbrev pub all_variable_usages_are_allowed : PartsOf → List BrokenOf
-all_variable_usages_are_allowed p = filter_map (forbidden_usage (graph_of p) p.document.operations) p.uses
+all_variable_usages_are_allowed p =
+    filter_map (forbidden_usage (graph_of p) p.document.operations) p.uses

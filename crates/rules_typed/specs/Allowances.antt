@@ -19,29 +19,36 @@ allows Forbidden = false
 
 -- It is noted of these uses and operations of the span whether the operation, which has this variable, allows the use; of others
 -- what was.
-abbrev pub AllowsWhere : (ℕ → ℕ → Bool) → VariableDefinition → List rust-use.VariableUse → List OperationSet → List OperationSet → Type 0
+abbrev pub AllowsWhere : (ℕ → ℕ → Bool) → VariableDefinition → List rust-use.VariableUse
+    → List OperationSet → List OperationSet → Type 0
 AllowsWhere is_noted v uses old new = (r m : ℕ) → r < length uses → m < 64
-    → has (set_at new r) m ≡ (if is_noted r m then not (is_forbidden_use v (use_at (map use_of uses) r)) else has (set_at old r) m)
+    → has (set_at new r) m ≡ (if is_noted r m
+    then not (is_forbidden_use v (use_at (map use_of uses) r)) else has (set_at old r) m)
 
 -- It is noted of each use of the variable's name that stands for others whether the operation of this number, which has the variable,
 -- allows it.
-abbrev pub AllowsByVariable : UseKinds → VariableDefinition → ℕ → List rust-use.VariableUse → List OperationSet → List OperationSet → Type 0
-AllowsByVariable kinds v number uses old new = AllowsWhere (λ r m. m == number && is_listed kinds.known v.name r) v uses old new
+abbrev pub AllowsByVariable : UseKinds → VariableDefinition → ℕ → List rust-use.VariableUse
+    → List OperationSet → List OperationSet → Type 0
+AllowsByVariable kinds v number uses old new =
+    AllowsWhere (λ r m. m == number && is_listed kinds.known v.name r) v uses old new
 
 -- It is noted of each use that stands for others whether these variables, which are all of the operation's, allow it; it was noted
 -- before that they do.
-abbrev pub AllowsBy : UseKinds → List VariableDefinition → ℕ → List rust-use.VariableUse → List OperationSet → List OperationSet → Type 0
+abbrev pub AllowsBy : UseKinds → List VariableDefinition → ℕ → List rust-use.VariableUse
+    → List OperationSet → List OperationSet → Type 0
 AllowsBy kinds vs number uses old new = (r : ℕ) → r < length uses
     → IsKind kinds.known (map use_of uses) r → has (set_at old r) number ≡ true
     → has (set_at new r) number ≡ not (forbids vs (use_at (map use_of uses) r))
 
 -- of other operations than that of this number nothing else is noted
-abbrev pub KeepsOthers : ℕ → List rust-use.VariableUse → List OperationSet → List OperationSet → Type 0
+abbrev pub KeepsOthers : ℕ → List rust-use.VariableUse → List OperationSet
+    → List OperationSet → Type 0
 KeepsOthers number uses old new = (r m : ℕ) → r < length uses → m < 64
     → (m == number) ≡ false → has (set_at new r) m ≡ has (set_at old r) m
 
 -- of each use that stands for others it is noted which operations of the span allow it
-abbrev pub AreAllowed : UseKinds → List rust-use.VariableUse → OperationSpan → List OperationSet → Type 0
+abbrev pub AreAllowed : UseKinds → List rust-use.VariableUse → OperationSpan
+    → List OperationSet → Type 0
 AreAllowed kinds uses b sets = (r m : ℕ) (o : Operation) → r < length uses
     → m < b.count → IsKind kinds.known (map use_of uses) r
     → slice_get (operations_in b) (b.first + m) ≡ Some o

@@ -8,7 +8,8 @@ use Rattle.rules_parts.specs.Parts.{Location}
 -- non-null variable, a location that may be null takes either; list goes with list, and items likewise; else the names are equal.
 abbrev pub are_compatible : TypeTree → TypeTree → Bool
 are_compatible (Named p n non_null) (Named q m wanted) = (non_null || not wanted) && bytes_eq n m
-are_compatible (ListOf p t non_null) (ListOf q u wanted) = (non_null || not wanted) && are_compatible t u
+are_compatible (ListOf p t non_null) (ListOf q u wanted) =
+    (non_null || not wanted) && are_compatible t u
 are_compatible _ _ = false
 
 -- the type without the `!` at its end
@@ -26,5 +27,6 @@ is_non_null_default (Some _) = true
 abbrev pub is_allowed : VariableDefinition → Location → Bool
 is_allowed v l =
     if is_non_null l.of_type && not (is_non_null v.of_type)
-    then (is_non_null_default v.default || l.has_default) && are_compatible v.of_type (nullable l.of_type)
+    then (is_non_null_default v.default || l.has_default)
+    && are_compatible v.of_type (nullable l.of_type)
     else are_compatible v.of_type l.of_type

@@ -16,10 +16,12 @@ uses_in parts = map use_of parts.uses.items
 -- the use k is marked, or one of the operations from the number i on forbids it
 abbrev pub is_marked_or_forbidden : GraphOf → List VariableUse
     → List Operation → List Bool → ℕ → ℕ → Bool
-is_marked_or_forbidden g uses operations marks i k = slice_index_or marks k false || is_forbidden g i (drop i operations) (use_at uses k)
+is_marked_or_forbidden g uses operations marks i k =
+    slice_index_or marks k false || is_forbidden g i (drop i operations) (use_at uses k)
 
 -- says what the span forbids is marked now, and needs no more looking at
-abbrev pub MarksForbidden : List rust-use.VariableUse → OperationSpan → List Bool → List Bool → Type 0
+abbrev pub MarksForbidden : List rust-use.VariableUse → OperationSpan
+    → List Bool → List Bool → Type 0
 MarksForbidden uses b old new = (g : GraphOf) (k : ℕ) → IsReached g b → k < length uses
     → is_marked_or_forbidden g (map use_of uses) (operations_in b) new (b.first + b.count) k
     ≡ is_marked_or_forbidden g (map use_of uses) (operations_in b) old b.first k

@@ -23,19 +23,24 @@ is_impossible defs (Some parent) (Some ty) = not (may_overlap defs parent ty)
 
 -- the composite type that the fragment of this number is for
 abbrev pub fragment_type : PartsOf → ℕ → Option (List ℕ)
-fragment_type p i = option_and_then (λ (f : Fragment). composite_in p.definitions f.condition.name) (slice_get p.document.fragments i)
+fragment_type p i = option_and_then (λ (f : Fragment). composite_in p.definitions f.condition.name)
+    (slice_get p.document.fragments i)
 
 abbrev pub impossible_spread : PartsOf → SpreadPart → Option BrokenOf
-impossible_spread p s = named_if (is_impossible p.definitions s.parent (option_and_then (fragment_type p) s.target)) s.name s.place
+impossible_spread p s =
+    named_if (is_impossible p.definitions s.parent (option_and_then (fragment_type p) s.target))
+    s.name s.place
 
 -- an inline fragment with a type condition, at its own place
 abbrev pub impossible_condition : List Definition
     → Option (List ℕ) → Place → Condition → Option BrokenOf
-impossible_condition defs parent place c = named_if (is_impossible defs parent (composite_in defs c.name)) c.name place
+impossible_condition defs parent place c =
+    named_if (is_impossible defs parent (composite_in defs c.name)) c.name place
 
 abbrev pub impossible_inline : List Definition → InlinePart → Option BrokenOf
 impossible_inline defs i = option_and_then (impossible_condition defs i.parent i.place) i.condition
 
 -- the spreads, and then the inline fragments, that can't be of an object that they stand in
 abbrev pub fragment_spread_is_possible : PartsOf → List BrokenOf
-fragment_spread_is_possible p = filter_map (impossible_spread p) p.spreads ++ filter_map (impossible_inline p.definitions) p.inlines
+fragment_spread_is_possible p = filter_map (impossible_spread p) p.spreads
+    ++ filter_map (impossible_inline p.definitions) p.inlines

@@ -14,7 +14,8 @@ use Rattle.rules_typed.specs.DefaultWords.{named_if, is_type_name}
 -- Gives what the field's type is, without lists and `!`, where the field is known; `__typename` is a
 -- String.
 abbrev pub kind_of_field : List Definition → FieldPart → Option TypeKind
-kind_of_field defs f = if is_type_name f then Some Scalar else option_and_then (λ (d : Field). kind_in defs (core_of d.of_type).text) f.definition
+kind_of_field defs f = if is_type_name f then Some Scalar
+    else option_and_then (λ (d : Field). kind_in defs (core_of d.of_type).text) f.definition
 
 abbrev pub has_set : Below → Bool
 has_set nothing_below = false
@@ -25,7 +26,8 @@ abbrev pub is_misfit : Below → TypeKind → Bool
 is_misfit b k = if is_leaf k then has_set b else not (has_set b)
 
 abbrev pub misfit_field : List Definition → FieldPart → Option BrokenOf
-misfit_field defs f = named_if (option_map_or (is_misfit f.below) (kind_of_field defs f) false) f.name f.place
+misfit_field defs f =
+    named_if (option_map_or (is_misfit f.below) (kind_of_field defs f) false) f.name f.place
 
 -- the leaves with a selection set, and the composite fields without
 abbrev pub leaf_field_selections : PartsOf → List BrokenOf

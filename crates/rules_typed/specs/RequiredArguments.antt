@@ -40,7 +40,8 @@ broken_at place name = record { name = name; place = place }
 
 -- the first argument by definition that is missing, at the place of the field or directive
 abbrev pub missing_argument : ArgumentList → Option BrokenOf
-missing_argument l = option_map (broken_at l.place) (option_and_then (λ (ds : List Argument). first_missing ds l.arguments) l.definitions)
+missing_argument l = option_map (broken_at l.place)
+    (option_and_then (λ (ds : List Argument). first_missing ds l.arguments) l.definitions)
 
 -- the fields and directives that lack an argument, with the first that each lacks
 abbrev pub required_arguments : PartsOf → List BrokenOf

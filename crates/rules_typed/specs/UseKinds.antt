@@ -14,7 +14,8 @@ use Rattle.rules_typed.specs.CompatibleTypes.{are_compatible}
 
 -- both have a default, or neither, and the types are alike: each is compatible with the other
 abbrev pub same_location : Option Location → Option Location → Bool
-same_location (Some l) (Some m) = (if l.has_default then m.has_default else not m.has_default) && (are_compatible l.of_type m.of_type && are_compatible m.of_type l.of_type)
+same_location (Some l) (Some m) = (if l.has_default then m.has_default else not m.has_default)
+    && (are_compatible l.of_type m.of_type && are_compatible m.of_type l.of_type)
 same_location None None = true
 same_location _ _ = false
 
@@ -28,7 +29,12 @@ is_listed m q k = list_any (nat_eq k) (listed m q)
 
 -- gives what is read behind the last use
 abbrev pub no_use : VariableUse
-no_use = record { owner = owner.Operation 0; place = record { line = 1; column = 1 }; name = []; location = None }
+no_use = record {
+  owner = owner.Operation 0;
+  place = record { line = 1; column = 1 };
+  name = [];
+  location = None;
+}
 
 abbrev pub use_at : List VariableUse → ℕ → VariableUse
 use_at uses k = slice_index_or uses k no_use
@@ -38,7 +44,8 @@ abbrev pub IsKind : {S : Type 0} → HashMap (Bor (List ℕ)) (Vec ℕ) S → Li
 IsKind m uses r = (q : List ℕ) → is_listed m q r ≡ bytes_eq q (use_at uses r).name
 
 -- The use r is noted, and stands for the use k: it has its name, and its location takes the same.
-pub record StandsFor {S : Type 0} (m : HashMap (Bor (List ℕ)) (Vec ℕ) S) (uses : List VariableUse) (r k : ℕ) : Type 0 where
+pub record StandsFor {S : Type 0} (m : HashMap (Bor (List ℕ)) (Vec ℕ) S)
+    (uses : List VariableUse) (r k : ℕ) : Type 0 where
   pub within : r < length uses
   pub listed : IsKind m uses r
   pub name : (use_at uses r).name ≡ (use_at uses k).name
@@ -46,7 +53,8 @@ pub record StandsFor {S : Type 0} (m : HashMap (Bor (List ℕ)) (Vec ℕ) S) (us
 
 -- The use k is among these, and its location takes what that of this use takes.
 abbrev pub IsStandIn : List VariableUse → List ℕ → VariableUse → ℕ → Type 0
-IsStandIn uses places use' k = (list_any (nat_eq k) places ≡ true) × (same_location (use_at uses k).location use'.location ≡ true)
+IsStandIn uses places use' k = (list_any (nat_eq k) places ≡ true)
+    × (same_location (use_at uses k).location use'.location ≡ true)
 
 abbrev pub AreKinds : UseKinds → List VariableUse → Type 0
 AreKinds kinds uses = (k : ℕ) → k < length uses

@@ -23,7 +23,8 @@ abbrev pub is_input_type : List Definition → TypeTree → Bool
 is_input_type defs t = is_of_leaf defs t && not (is_list_of_lists t)
 
 abbrev pub non_input_variable : List Definition → VariablePart → Option BrokenOf
-non_input_variable defs v = named_if (not (is_input_type defs v.definition.of_type)) v.definition.name v.definition.place
+non_input_variable defs v =
+    named_if (not (is_input_type defs v.definition.of_type)) v.definition.name v.definition.place
 
 -- the variables that aren't of an input type
 abbrev pub variables_are_input_types : PartsOf → List BrokenOf

@@ -40,7 +40,8 @@ fn allowance_of(variable: &VariableDefinition, part: &VariableUse) -> Allowance
 // Returns the same set of operations, with one of them in it if that one allows the use, and else without it.
 fn note_allowance(set: OperationSet, number: usize, allowance: Allowance) -> OperationSet
     requires { number < 64 }
-    ensures { (m : ℕ) → m < 64 → has result m ≡ (if m == number then allows allowance else has set m) }
+    ensures { (m : ℕ) → m < 64
+        → has result m ≡ (if m == number then allows allowance else has set m) }
 {
     match allowance {
         Allowance::Allowed => set.with(number),
@@ -112,7 +113,8 @@ pub fn allowing_sets(
     uses: &[VariableUse],
     span: &OperationSpan,
 ) -> Result<Vec<OperationSet>, AllocError>
-    ensures { IfOk result (λ sets. AreAllowed kinds.now uses.now span.now sets.items) }
+    ensures { IfOk result (λ sets.
+        AreAllowed kinds.now uses.now span.now sets.items) }
 {
     let mut sets = vec![in alloc; OperationSet::all(); uses.len()]?;
     for number in 0..span.count {

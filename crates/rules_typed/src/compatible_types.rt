@@ -11,7 +11,8 @@ use rules_parts::Location;
 
 /// Tells whether a variable's type fits a location's.
 pub fn are_compatible(variable: &TypeRef, location: &TypeRef) -> bool
-    ensures { result ≡ are_compatible (type_of variable.now) (type_of location.now) }
+    ensures { result ≡ are_compatible
+        (type_of variable.now) (type_of location.now) }
 {
     match (variable, location) {
         (
@@ -36,7 +37,8 @@ pub fn are_compatible(variable: &TypeRef, location: &TypeRef) -> bool
 
 // Tells whether a variable's type fits a location's without the `!` at its end.
 fn is_compatible_with_nullable(variable: &TypeRef, location: &TypeRef) -> bool
-    ensures { result ≡ are_compatible (type_of variable.now) (nullable (type_of location.now)) }
+    ensures { result ≡ are_compatible (type_of variable.now)
+        (nullable (type_of location.now)) }
 {
     match (variable, location) {
         (
@@ -69,7 +71,8 @@ fn is_non_null_default(default: Option<&Literal>) -> bool
 
 /// Tells whether a variable may stand at a location.
 pub fn is_allowed(variable: &VariableDefinition, location: Location) -> bool
-    ensures { result ≡ is_allowed (variable_of variable.now) (location_of location.entry) }
+    ensures { result ≡ is_allowed (variable_of variable.now)
+        (location_of location.entry) }
 {
     let of_type = &variable.of_type;
     if location.of_type.is_non_null() && !of_type.is_non_null() {

@@ -45,7 +45,8 @@ fn note<'d>(
     name: &'d str,
     place: usize,
 ) -> Result<(), AllocError>
-    ensures { (q : List ℕ) → OnOk result (listed known.new q ≡ (if bytes_eq q name.now then listed known.old q ++ place ∷ [] else listed known.old q)) }
+    ensures { (q : List ℕ) → OnOk result (listed known.new q
+        ≡ (if bytes_eq q name.now then listed known.old q ++ place ∷ [] else listed known.old q)) }
 {
     known.entry(name)?.or_insert(Vec::new(alloc)).push(place)?;
     Ok(())
@@ -53,7 +54,8 @@ fn note<'d>(
 
 // The noted uses of a name.
 fn noted_places<'k>(known: &'k UsesByName, name: &str) -> &'k [usize]
-    ensures { (k : ℕ) → list_any (nat_eq k) result.now ≡ is_listed known.now name.now k }
+    ensures { (k : ℕ) → list_any (nat_eq k) result.now
+        ≡ is_listed known.now name.now k }
 {
     match known.get(name) {
         Some(places) => places.as_slice(),
@@ -75,7 +77,8 @@ fn stand_in(uses: &[VariableUse], places: &[usize], part: &VariableUse) -> Optio
 impl<'d> UseKinds<'d> {
     /// The kinds of these uses.
     pub fn new(alloc: Global, uses: &[VariableUse<'d>]) -> Result<UseKinds<'d>, AllocError>
-        ensures { IfOk result (λ kinds. AreKinds kinds (map use_of uses.now)) }
+        ensures { IfOk result (λ kinds.
+            AreKinds kinds (map use_of uses.now)) }
     {
         let mut known: UsesByName = HashMap::new(alloc);
         let mut stand_ins = Vec::with_capacity(alloc, uses.len())?;
@@ -93,7 +96,8 @@ impl<'d> UseKinds<'d> {
 
     /// The uses of a name that stand for all of it.
     pub fn of(&self, name: &str) -> &[usize]
-        ensures { (k : ℕ) → list_any (nat_eq k) result.now ≡ is_listed self.now.known name.now k }
+        ensures { (k : ℕ) → list_any (nat_eq k) result.now
+            ≡ is_listed self.now.known name.now k }
     {
         noted_places(&self.known, name)
     }

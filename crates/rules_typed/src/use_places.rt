@@ -10,7 +10,8 @@ use std::alloc::{AllocError, Global};
 /// The places of these uses among all uses of a document, a row for each operation and each fragment that they stand in.
 #[tactic(auto, using(crate::proofs::PlaceLaws::place_more))]
 pub fn places_of(alloc: Global, uses: &[VariableUse]) -> Result<OwnerLists, AllocError>
-    ensures { IfOk result (λ places. ArePlaces places uses.now) }
+    ensures { IfOk result
+        (λ places. ArePlaces places uses.now) }
 {
     let mut places = OwnerLists {
         operations: Vec::new(alloc),

@@ -13,7 +13,7 @@ use Rattle.rules_spreads.specs.declared.operation_set.OperationSet.{OperationSet
 use Rattle.rules_spreads.specs.Graphs.{GraphOf, row}
 use Rattle.rules_spreads.specs.Reach.{is_among}
 use Rattle.rules_spreads.specs.OperationSpans.{has, set_at, any_below, is_missing_in, is_missing_at, misses, AreReachers}
-use Rattle.rules_spreads.proofs.MissingLaws.{missing-in_operation, missing-in_fragment, in_batch, batch_noted}
+use Rattle.rules_spreads.proofs.MissingLaws.{missing-in_operation, missing-in_fragment, in_span, span_noted}
 use Rattle.rules_untyped.specs.declared.variable_use_index.VariableUseIndex as rust
 use Rattle.rules_spreads.specs.OwnerLists.{is_same_owner, owner_rows}
 use Rattle.rules_untyped.specs.VariableReach.{is_within, defines}
@@ -37,16 +37,16 @@ misses-by g first i set (owner.Operation k) = refl
 misses-by g first i set (owner.Fragment j) = refl
 
 -- the note of a use after a span of operations
-pub lacks_batch : (g : GraphOf) (uses : List VariableUse) (table : rust.VariableUseIndex) → IsUseTable uses table → (k : ℕ) → k < length uses → (operations : List Operation) (first count : ℕ) (reached sets : List OperationSet) (old mid new : Bool)
+pub lacks_span : (g : GraphOf) (uses : List VariableUse) (table : rust.VariableUseIndex) → IsUseTable uses table → (k : ℕ) → k < length uses → (operations : List Operation) (first count : ℕ) (reached sets : List OperationSet) (old mid new : Bool)
     → AreReachers g first count reached → first + count ≤ length operations
     → ((n m : ℕ) → has (set_at sets n) m ≡ (nat_lt m count && defines_at (λ q. get_by (λ (p : Bor (List ℕ)). bytes_eq q p.now) table.names) n operations (first + m)))
     → mid ≡ (any_below (is_missing_at (owner_rows table.rows).operations first (set_at sets (slice_index table.numbers.items (slice_index table.stand_ins.items k))) (slice_index table.stand_ins.items k)) count || old)
     → new ≡ (any_below (is_missing_in (owner_rows table.rows).fragments reached (set_at sets (slice_index table.numbers.items (slice_index table.stand_ins.items k))) (slice_index table.stand_ins.items k)) (length reached) || mid)
     → (new || one_lacks g (first + count) (drop (first + count) operations) (use_at uses k)) ≡ (old || one_lacks g first (drop first operations) (use_at uses k))
-lacks_batch g uses table holds k within operations first count reached sets old mid new are inside defined by_own by_all =
-    batch_noted old new (any_below (misses g first u.owner set) count) (one_lacks g (first + count) (drop (first + count) operations) u) (one_lacks g first (drop first operations) u) _
+lacks_span g uses table holds k within operations first count reached sets old mid new are inside defined by_own by_all =
+    span_noted old new (any_below (misses g first u.owner set) count) (one_lacks g (first + count) (drop (first + count) operations) u) (one_lacks g first (drop first operations) u) _
     (missing-in g first count s (owner_rows table.rows) reached set old mid new u.owner are (stands_alone uses table holds k within) by_own by_all)
-    (in_batch (λ j os. one_lacks g j os u) (λ j o. lacks g j o u) (λ j o os. refl) operations first count (misses g first u.owner set) inside agree)
+    (in_span (λ j os. one_lacks g j os u) (λ j o. lacks g j o u) (λ j o os. refl) operations first count (misses g first u.owner set) inside agree)
     refl where
       u : VariableUse
       u = use_at uses k

@@ -55,7 +55,7 @@ any_use p (u ∷ us) h =
     (λ e. let r = any_use p us e in record { k = suc r.k; within = let w = r.within in omega arith; passes = r.passes })
     (or_cases (p u) (list_any p us) h)
 
-module _ (g : GraphOf) (uses : List VariableUse) (table : rust.VariableUseIndex) (holds : IsUseTable uses table) (first count : ℕ) (reached : List OperationSet) (are : AreReachers g first count reached) (m : ℕ) (of_batch : m < count) (name : List ℕ) where
+module _ (g : GraphOf) (uses : List VariableUse) (table : rust.VariableUseIndex) (holds : IsUseTable uses table) (first count : ℕ) (reached : List OperationSet) (are : AreReachers g first count reached) (m : ℕ) (of_span : m < count) (name : List ℕ) where
   from_row : (o : Owner) → is_within g (first + m) o ≡ true → (n : ℕ) → number_in uses name ≡ Some n → is_number_among table.numbers.items n (row (owner_rows table.rows) o) ≡ true → list_any (uses_there g (first + m) name) uses ≡ true
   from_row o inside n at h =
       let r = any_number (λ s. eqb n (slice_index table.numbers.items s)) (row (owner_rows table.rows) o) h in
@@ -80,10 +80,10 @@ module _ (g : GraphOf) (uses : List VariableUse) (table : rust.VariableUseIndex)
   in_reach : (o : Owner) (n : ℕ) → is_within g (first + m) o ≡ true → is_number_among table.numbers.items n (row (owner_rows table.rows) o) ≡ true → has_number table first count reached m n ≡ true
   in_reach (owner.Operation k) n inside h =
       or_right (any_below (is_used_in table.numbers.items n (owner_rows table.rows).fragments reached m) (length reached)) _
-      (any_below-at (is_used_at table.numbers.items n (owner_rows table.rows).operations first m) count m of_batch
+      (any_below-at (is_used_at table.numbers.items n (owner_rows table.rows).operations first m) count m of_span
       (and_from _ (eqb m m) (ap (λ q. is_number_among table.numbers.items n (row_at (owner_rows table.rows).operations q)) (eqb-true (first + m) k inside) ∙ h) (eq-eqb m m refl)))
   in_reach (owner.Fragment j) n inside h =
-      let there : has (set_at reached j) m ≡ true = are j m ∙ and_from (nat_lt m count) (reaches g (owner.Operation (first + m)) j) (lt-ltb m count of_batch) inside in
+      let there : has (set_at reached j) m ≡ true = are j m ∙ and_from (nat_lt m count) (reaches g (owner.Operation (first + m)) j) (lt-ltb m count of_span) inside in
       or_left _ (any_below (is_used_at table.numbers.items n (owner_rows table.rows).operations first m) count)
       (⊎_elim
       (λ lt. any_below-at (is_used_in table.numbers.items n (owner_rows table.rows).fragments reached m) (length reached) j lt (and_from (is_number_among table.numbers.items n (row_at (owner_rows table.rows).fragments j)) (has (set_at reached j) m) h there))

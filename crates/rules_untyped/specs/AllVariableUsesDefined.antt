@@ -17,4 +17,5 @@ one_lacks g i (o ∷ os) u = lacks g i o u || one_lacks g (i + 1) os u
 
 -- the uses that an operation reaches which doesn't define their variables
 abbrev pub all_variable_uses_defined : PartsOf → List BrokenOf
-all_variable_uses_defined p = map named_use (filter (one_lacks (graph_of p) 0 p.document.operations) p.uses)
+all_variable_uses_defined p =
+    map named_use (filter (one_lacks (graph_of p) 0 p.document.operations) p.uses)

@@ -19,7 +19,8 @@ is_unused g uses i v = not (list_any (uses_there g i v.name) uses)
 -- the variables of these operations whose uses they don't reach, where the first has the number i
 abbrev pub unused_variables : GraphOf → List VariableUse → ℕ → List Operation → List BrokenOf
 unused_variables g uses i [] = []
-unused_variables g uses i (o ∷ os) = map named_variable (filter (is_unused g uses i) o.variables) ++ unused_variables g uses (i + 1) os
+unused_variables g uses i (o ∷ os) = map named_variable (filter (is_unused g uses i) o.variables)
+    ++ unused_variables g uses (i + 1) os
 
 abbrev pub all_variables_used : PartsOf → List BrokenOf
 all_variables_used p = unused_variables (graph_of p) p.uses 0 p.document.operations

@@ -19,7 +19,8 @@ is_valid FragmentDefinition = false
 
 -- the directives at a location where they may not stand
 abbrev pub misplaced_directives : DirectiveList → List BrokenOf
-misplaced_directives l = if is_valid l.location then [] else map named_directive (filter is_defined l.directives)
+misplaced_directives l =
+    if is_valid l.location then [] else map named_directive (filter is_defined l.directives)
 
 abbrev pub directives_are_in_valid_locations : PartsOf → List BrokenOf
 directives_are_in_valid_locations p = flat_map misplaced_directives p.directive_lists

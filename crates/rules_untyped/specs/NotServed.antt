@@ -25,4 +25,5 @@ abbrev pub named_field : FieldPart → BrokenOf
 named_field f = named f.name f.place
 
 abbrev pub not_served : PartsOf → List BrokenOf
-not_served p = filter_map operation_not_served p.document.operations ++ map named_field (filter is_introspection p.fields)
+not_served p = filter_map operation_not_served p.document.operations
+    ++ map named_field (filter is_introspection p.fields)

@@ -42,7 +42,8 @@ is_noted table noted k = slice_index_or noted (slice_index table.stand_ins.items
 -- that is noted, or one of the operations from the number i on lacks the use
 abbrev pub is_noted_or_lacks : GraphOf → List VariableUse
     → VariableUseIndex → List Operation → List Bool → ℕ → ℕ → Bool
-is_noted_or_lacks g uses table operations noted i k = is_noted table noted k || one_lacks g i (drop i operations) (use_at uses k)
+is_noted_or_lacks g uses table operations noted i k =
+    is_noted table noted k || one_lacks g i (drop i operations) (use_at uses k)
 
 -- says what the span lacks is noted now, and needs no more looking at
 abbrev pub NotesLacking : OperationSpan → VariableUseIndex → List Bool → List Bool → Type 0
@@ -60,11 +61,14 @@ AreLacking g operations table noted = (uses : List VariableUse) → IsUseTable u
 
 -- the operation's variables in whose sets the operation m of the span isn't
 abbrev pub unused_by : List OperationSet → ℕ → (List ℕ → Option ℕ) → Operation → List BrokenOf
-unused_by sets m number o = map named_variable (filter (λ v. not (has_if sets m (number v.name))) o.variables)
+unused_by sets m number o =
+    map named_variable (filter (λ v. not (has_if sets m (number v.name))) o.variables)
 
 -- the span's unused variables are reported now, and need no more looking at
 abbrev pub TellsUnused : OperationSpan → VariableUseIndex
     → EarliestViolation → EarliestViolation → Type 0
 TellsUnused b table old new = (g : GraphOf) (uses : List VariableUse)
     → IsUseTable uses table → IsReached g b
-    → with_all new (unused_variables g uses (b.first + b.count) (drop (b.first + b.count) (operations_in b))) ≡ with_all old (unused_variables g uses b.first (drop b.first (operations_in b)))
+    → with_all new
+    (unused_variables g uses (b.first + b.count) (drop (b.first + b.count) (operations_in b)))
+    ≡ with_all old (unused_variables g uses b.first (drop b.first (operations_in b)))

@@ -8,7 +8,8 @@ use gq_parser::Directive;
 
 /// Tells whether every schema has it (section 3.13).
 pub fn is_defined(directive: &Directive) -> bool
-    ensures { result ≡ is_defined (directive_of directive.now) }
+    ensures { result ≡ is_defined
+        (directive_of directive.now) }
 {
     matches!(directive.name.as_str(), "skip" | "include")
 }

@@ -27,7 +27,8 @@ fn other_kind(kind: OperationKind) -> Option<&'static str>
 /// An operation other than a query, reported by its keyword, or an introspection field `__schema` or `__type`, reported by its
 /// name at its first token.
 pub fn not_served<'d>(parts: &Parts<'d>) -> Option<Violation<'d>>
-    ensures { option_map broken_of result ≡ earliest (not_served (parts_in parts.now)) }
+    ensures { option_map broken_of result
+        ≡ earliest (not_served (parts_in parts.now)) }
 {
     let document = parts.document;
     let mut earliest = EarliestViolation::new();

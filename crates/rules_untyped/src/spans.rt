@@ -47,7 +47,8 @@ fn add_defined(
 
 // For each name, the operations of a span that define a variable of that name.
 fn defining_sets(alloc: Global, names: &Numbers, span: &OperationSpan) -> Result<Sets, AllocError>
-    ensures { IfOk result (λ sets. AreDefiners span.now (number_by names.now) sets.items) }
+    ensures { IfOk result (λ sets. AreDefiners
+        span.now (number_by names.now) sets.items) }
 {
     let mut sets: Sets = Vec::new(alloc);
     for number in 0..span.count {
@@ -99,8 +100,8 @@ fn add_uses_in_fragments(
     numbers: &[usize],
     sets: &mut Sets,
 ) -> Result<(), AllocError>
-    ensures { OnOk result (Adds (λ n m. any_below (is_used_in numbers.now n (rows_in rows.now) reached.now m) (length reached.now))
-        sets.old.items sets.new.items) }
+    ensures { OnOk result (Adds (λ n m. any_below (is_used_in numbers.now n
+        (rows_in rows.now) reached.now m) (length reached.now)) sets.old.items sets.new.items) }
 {
     for (fragment, reached_by) in reached.iter().enumerate() {
         add_uses(list_at(rows, fragment), *reached_by, numbers, sets)?;
@@ -115,8 +116,8 @@ fn add_uses_in_operations(
     numbers: &[usize],
     sets: &mut Sets,
 ) -> Result<(), AllocError>
-    ensures { OnOk result (Adds (λ n m. any_below (is_used_at numbers.now n (rows_in rows.now) span.now.first m) span.now.count)
-        sets.old.items sets.new.items) }
+    ensures { OnOk result (Adds (λ n m. any_below (is_used_at numbers.now n
+        (rows_in rows.now) span.now.first m) span.now.count) sets.old.items sets.new.items) }
 {
     for number in 0..span.count {
         let own = list_at(rows, span.first + number);

@@ -17,7 +17,8 @@ pub type Numbers<'d> = HashMap<&'d str, usize>;
 
 // Notes the place of a use, unless its name was noted before.
 fn note_use<'d>(names: &mut Numbers<'d>, name: &'d str, place: usize) -> Result<(), AllocError>
-    ensures { (q : List ℕ) → OnOk result (number_by names.new q ≡ or_else (number_by names.old q) (if bytes_eq q name.now then Some place else None)) }
+    ensures { (q : List ℕ) → OnOk result (number_by names.new q
+        ≡ or_else (number_by names.old q) (if bytes_eq q name.now then Some place else None)) }
 {
     names.entry(name)?.or_insert(place);
     Ok(())
@@ -118,7 +119,8 @@ pub struct VariableUseIndex<'d> {
 impl<'d> VariableUseIndex<'d> {
     /// The table of these uses.
     pub fn new(alloc: Global, uses: &[VariableUse<'d>]) -> Result<VariableUseIndex<'d>, AllocError>
-        ensures { IfOk result (λ table. IsUseTable (map use_of uses.now) table) }
+        ensures { IfOk result (λ table.
+            IsUseTable (map use_of uses.now) table) }
     {
         let names = first_uses(alloc, uses)?;
         let numbers = numbers_of(alloc, &names, uses)?;

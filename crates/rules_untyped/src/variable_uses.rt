@@ -19,7 +19,8 @@ pub struct VariableUses<'p, 'd> {
 impl<'p, 'd> VariableUses<'p, 'd> {
     /// The uses in a document of these parts.
     pub fn new(alloc: Global, parts: &'p Parts<'d>) -> Result<VariableUses<'p, 'd>, AllocError>
-        ensures { IfOk result (λ uses. uses.parts.now ≡ parts.now) }
+        ensures { IfOk result
+            (λ uses. uses.parts.now ≡ parts.now) }
     {
         let table = VariableUseIndex::new(alloc, &parts.uses)?;
         Ok(VariableUses { parts, table })

@@ -29,15 +29,20 @@ IsOtherOperation _ = ⊥
 -- A word that is part of the language, at a place where it isn't served. It stands where a word that is served can come.
 pub data IsUnservedWord (Comes : List Token → Type 0) : Token → Type 0 where
   -- `scalar`, `input`, `directive` or `extend`, where the word `type` can come
-  definition : {p : Place} {k : Keyword} {n : List ℕ} → word_of n ≡ word.Unserved → Comes (at p (Name k (codes "type")) ∷ []) → IsUnservedWord Comes (at p (Name k n))
+  definition : {p : Place} {k : Keyword} {n : List ℕ} → word_of n ≡ word.Unserved
+      → Comes (at p (Name k (codes "type")) ∷ []) → IsUnservedWord Comes (at p (Name k n))
   -- `mutation` or `subscription`, where the word `query` or a closing brace can come: in `schema` alone they can come where not every name
   -- can
-  operation : {p : Place} {k : Keyword} {n : List ℕ} → IsOtherOperation k → Comes (at p (Name Query (codes "query")) ∷ []) ⊎ Comes (at p (Punct BraceRight) ∷ []) → IsUnservedWord Comes (at p (Name k n))
+  operation : {p : Place} {k : Keyword} {n : List ℕ} → IsOtherOperation k
+      → Comes (at p (Name Query (codes "query")) ∷ []) ⊎ Comes (at p (Punct BraceRight) ∷ [])
+      → IsUnservedWord Comes (at p (Name k n))
   -- `implements`, where fields in braces can come, and no further interface: behind the name of an interface
   implements : {p : Place} {k : Keyword} {n : List ℕ} → word_of n ≡ word.Implements
-      → Comes (at p (Punct BraceLeft) ∷ at p (Name Other (codes "a")) ∷ at p (Punct Colon) ∷ []) → (Comes (at p (Punct Amp) ∷ []) → ⊥) → IsUnservedWord Comes (at p (Name k n))
+      → Comes (at p (Punct BraceLeft) ∷ at p (Name Other (codes "a")) ∷ at p (Punct Colon) ∷ [])
+      → (Comes (at p (Punct Amp) ∷ []) → ⊥) → IsUnservedWord Comes (at p (Name k n))
   -- `Float`, where another name can come
-  float : {p : Place} {k : Keyword} {n : List ℕ} → word_of n ≡ word.Float → Comes (at p (Name k (codes "a")) ∷ []) → IsUnservedWord Comes (at p (Name k n))
+  float : {p : Place} {k : Keyword} {n : List ℕ} → word_of n ≡ word.Float
+      → Comes (at p (Name k (codes "a")) ∷ []) → IsUnservedWord Comes (at p (Name k n))
 
 -- the last of these tokens says this
 abbrev pub EndsIn : Word → List Token → Type 0
@@ -48,10 +53,13 @@ EndsIn w (at p v ∷ t ∷ rest) = EndsIn w (t ∷ rest)
 -- Behind these tokens the others begin with something that isn't served: with a directive other than a `@deprecated` where
 -- one can come, with an unserved word, or with a `[` directly behind the `[` of a type.
 pub data IsUnserved (Comes : List Token → Type 0) (good : List Token) : List Token → Type 0 where
-  directive : {p q : Place} {k : Keyword} {n : List ℕ} {rest : List Token} → (Comes (at p (Punct At) ∷ at q (Name k n) ∷ []) → ⊥) → IsUnserved Comes good (at p (Punct At) ∷ at q (Name k n) ∷ rest)
+  directive : {p q : Place} {k : Keyword} {n : List ℕ} {rest : List Token}
+      → (Comes (at p (Punct At) ∷ at q (Name k n) ∷ []) → ⊥)
+      → IsUnserved Comes good (at p (Punct At) ∷ at q (Name k n) ∷ rest)
   a_word : {t : Token} {rest : List Token} → (Comes (t ∷ []) → ⊥)
       → IsUnservedWord Comes t → IsUnserved Comes good (t ∷ rest)
-  list : {p : Place} {rest : List Token} → (Comes (at p (Punct BracketLeft) ∷ []) → ⊥) → EndsIn (Punct BracketLeft) good → IsUnserved Comes good (at p (Punct BracketLeft) ∷ rest)
+  list : {p : Place} {rest : List Token} → (Comes (at p (Punct BracketLeft) ∷ []) → ⊥)
+      → EndsIn (Punct BracketLeft) good → IsUnserved Comes good (at p (Punct BracketLeft) ∷ rest)
 
 -- an `@` is on one side, and its name on the other
 abbrev pub PartsDirective : List Token → List Token → Type 0

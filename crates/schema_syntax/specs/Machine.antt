@@ -300,7 +300,12 @@ entered Neither room next = Goes room next
 
 abbrev pub step : ℕ → List Symbol → Word → List Token → Step
 step room stack w tokens =
-    elim (shift stack w) [ Refused ↦ Stops | Denied ↦ Forbids | Shifts next ↦ if is_other_directive w tokens then Forbids else entered (bracket w) room next ]
+    elim (shift stack w) [
+      | Refused ↦ Stops
+      | Denied ↦ Forbids
+      | Shifts next ↦
+          if is_other_directive w tokens then Forbids else entered (bracket w) room next
+    ]
 
 -- nothing is left, and this is expected
 abbrev pub at_end : List Symbol → Option TokenFault
@@ -318,4 +323,9 @@ at_end (_ ∷ stack) = Some (Unexpected None)
 abbrev pub read : ℕ → List Symbol → List Token → Option TokenFault
 read room stack [] = at_end stack
 read room stack (at p w ∷ tokens) =
-    elim (step room stack w tokens) [ Goes r next ↦ read r next tokens | Stops ↦ Some (refused (at p w ∷ tokens)) | Forbids ↦ Some (NotServed p) | Sinks ↦ Some (Unexpected (Some p)) ]
+    elim (step room stack w tokens) [
+      | Goes r next ↦ read r next tokens
+      | Stops ↦ Some (refused (at p w ∷ tokens))
+      | Forbids ↦ Some (NotServed p)
+      | Sinks ↦ Some (Unexpected (Some p))
+    ]

@@ -37,7 +37,9 @@ Fails NoMemory outcome = Unit {0}
 abbrev pub Reads : {T : Type 0} → (T → List Token → List Token → Type 0) → (room : ℕ)
     → (symbols : List Symbol) → (room_after : ℕ) → (symbols_after : List Symbol)
     → List Token → List Token → Result T rust.TokenFault → Type 0
-Reads IsTree room symbols room_after symbols_after before after (Ok tree) = IsTree tree before after × ((stack : List Symbol) → read room (symbols ++ stack) before ≡ read room_after (symbols_after ++ stack) after)
+Reads IsTree room symbols room_after symbols_after before after (Ok tree) =
+    IsTree tree before after × ((stack : List Symbol)
+    → read room (symbols ++ stack) before ≡ read room_after (symbols_after ++ stack) after)
 Reads IsTree room symbols room_after symbols_after before after (Err stop) = (stack : List Symbol)
     → Fails stop (read room (symbols ++ stack) before)
 
@@ -113,7 +115,9 @@ IsNoFloat (at p _ ∷ rest) = Unit {0}
 
 -- a name is this value
 abbrev pub IsNameValue : List ℕ → Value → Type 0
-IsNameValue name v = (p : Place) (after : List Token) → IsValue Const (literal_of (record { place = p; value = v })) (at p (Name (keyword_of name) name) ∷ after) after
+IsNameValue name v =
+    (p : Place) (after : List Token) → IsValue Const (literal_of (record { place = p; value = v }))
+    (at p (Name (keyword_of name) name) ∷ after) after
 
 -- the value of the number that was next, if one was; else the fault
 pub record IsNumberRead (l : Literal) (old new : List Token) : Type 0 where
@@ -195,8 +199,10 @@ pub record IsDefinitionRead (d : Definition) (before after : List Token) : Type 
 
 -- A list was read up to here, where a list begins that ends it: whatever AreRest finds here makes up what AreWhole finds
 -- from the beginning, and the rest is what is expected.
-pub record IsFront {T W : Type 0} (AreRest : T → List Token → List Token → Type 0) (AreWhole : W → List Token → List Token → Type 0) (join : T → W)
-    (room : ℕ) (symbols : List Symbol) (room_now : ℕ) (symbols_now : List Symbol) (before now : List Token) : Type 0 where
+pub record IsFront {T W : Type 0} (AreRest : T → List Token → List Token → Type 0)
+    (AreWhole : W → List Token → List Token → Type 0) (join : T → W)
+    (room : ℕ) (symbols : List Symbol) (room_now : ℕ) (symbols_now : List Symbol)
+    (before now : List Token) : Type 0 where
   pub joins : (others : T) (after : List Token)
       → AreRest others now after → AreWhole (join others) before after
   pub reads : (stack : List Symbol)
@@ -204,7 +210,8 @@ pub record IsFront {T W : Type 0} (AreRest : T → List Token → List Token →
   pub shrinks : length now ≤ length before
 
 -- Definitions were read up to here.
-pub record IsDocumentFront (room : ℕ) (definitions : List Definition) (before now : List Token) : Type 0 where
+pub record IsDocumentFront (room : ℕ) (definitions : List Definition)
+    (before now : List Token) : Type 0 where
   pub joins : (others : List Definition) → IsDocument others now
       → IsDocument (definitions ++ others) before
   pub reads : read room [] before ≡ read room [] now

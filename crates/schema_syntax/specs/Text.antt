@@ -54,5 +54,7 @@ pub data IsTextFault (text : List ℕ) : SyntaxFault → Type 0 where
   of_tokens : {fault : SyntaxFault} (tokens : List lexer.Token) → length text ≤ most_bytes
       → AreTokens text tokens → IsSyntaxFault text (tokens_of text tokens) None fault
       → IsTextFault text fault
-  before_lexical : {fault : SyntaxFault} (tokens : List lexer.Token) (lexical : LexFault) → length text ≤ most_bytes → AreTokensBefore text tokens lexical → IsSyntaxFault text (tokens_of text tokens) (place_of_fault lexical) fault → IsTextFault text fault
+  before_lexical : {fault : SyntaxFault} (tokens : List lexer.Token) (lexical : LexFault)
+      → length text ≤ most_bytes → AreTokensBefore text tokens lexical → IsSyntaxFault text
+      (tokens_of text tokens) (place_of_fault lexical) fault → IsTextFault text fault
   memory : IsTextFault text NoMemory

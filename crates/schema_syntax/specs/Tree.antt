@@ -46,20 +46,26 @@ abbrev pub names_of : List rust-name.Name → List Name
 names_of ns = map name_of ns
 
 abbrev pub argument_of : rust-argument.ArgumentDefinition → Argument
-argument_of a = record { name = name_of a.name; of_type = type_of a.of_type; default = default_of a.default }
+argument_of a =
+    record { name = name_of a.name; of_type = type_of a.of_type; default = default_of a.default }
 
 abbrev pub arguments_of : List rust-argument.ArgumentDefinition → List Argument
 arguments_of as' = map argument_of as'
 
 abbrev pub field_of : rust-field.FieldDefinition → Field
-field_of f = record { name = name_of f.name; arguments = arguments_of f.arguments.items; of_type = type_of f.of_type }
+field_of f = record {
+  name = name_of f.name;
+  arguments = arguments_of f.arguments.items;
+  of_type = type_of f.of_type;
+}
 
 abbrev pub fields_of : List rust-field.FieldDefinition → List Field
 fields_of fs = map field_of fs
 
 abbrev pub definition_of : rust-definition.Definition → Definition
 definition_of (rust.Schema s) = Schema s.place (name_of s.query)
-definition_of (rust.Object o) = Object (name_of o.name) (names_of o.interfaces.items) (fields_of o.fields.items)
+definition_of (rust.Object o) =
+    Object (name_of o.name) (names_of o.interfaces.items) (fields_of o.fields.items)
 definition_of (rust.Interface i) = Interface (name_of i.name) (fields_of i.fields.items)
 definition_of (rust.Union u) = Union (name_of u.name) (names_of u.members.items)
 definition_of (rust.Enum e) = Enum (name_of e.name) (names_of e.values.items)

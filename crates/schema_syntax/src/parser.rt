@@ -90,7 +90,8 @@ impl<'a> Parser<'a> {
 
     /// The place of this punctuator, if it is next.
     fn take(&mut self, mark: Punct) -> Option<Place>
-        ensures { TakesMark (a_mark mark) self.old self.new result }
+        ensures { TakesMark
+            (a_mark mark) self.old self.new result }
     {
         match self.rest.split_first() {
             Some((first, rest)) if first.kind == TokenKind::Punct(mark) => {
@@ -102,13 +103,15 @@ impl<'a> Parser<'a> {
     }
 
     fn eat(&mut self, mark: Punct) -> bool
-        ensures { Eats (a_mark mark) self.old self.new result }
+        ensures { Eats (a_mark mark)
+            self.old self.new result }
     {
         self.take(mark).is_some()
     }
 
     fn expect(&mut self, mark: Punct) -> Result<(), TokenFault>
-        ensures { Expects (a_mark mark) self.old self.new result }
+        ensures { Expects (a_mark mark)
+            self.old self.new result }
     {
         if self.eat(mark) {
             Ok(())
@@ -134,7 +137,8 @@ impl<'a> Parser<'a> {
     fn name(&mut self) -> Result<Name, TokenFault>
         ensures reads { (room : _) → Reads (λ n. IsName (name_of n))
             room (one (A AName)) room [] self.old self.new result }
-        ensures shrinks { OnOk result (length self.new < length self.old) }
+        ensures shrinks { OnOk result
+            (length self.new < length self.old) }
     {
         let Some(LocatedText { place, value: text }) = self.word() else {
             return Err(self.stop());
@@ -146,7 +150,8 @@ impl<'a> Parser<'a> {
     fn type_name(&mut self) -> Result<Name, TokenFault>
         ensures reads { (room : _) → Reads (λ n. IsTypeName (name_of n))
             room (one (A ATypeName)) room [] self.old self.new result }
-        ensures shrinks { OnOk result (length self.new < length self.old) }
+        ensures shrinks { OnOk result
+            (length self.new < length self.old) }
     {
         let Some(LocatedText { place, value: text }) = self.word() else {
             return Err(self.stop());
@@ -162,8 +167,10 @@ impl<'a> Parser<'a> {
     fn named_type(&mut self) -> Result<TypeRef, TokenFault>
         ensures reads { (room : _) → Reads (λ t. IsTypeRead (type_of t)) room
             (A ATypeName ∷ one MaybeBang) room [] self.old self.new result }
-        ensures named { IfOk result (λ t. IsNamed (type_of t)) }
-        ensures shrinks { OnOk result (length self.new < length self.old) }
+        ensures named { IfOk result
+            (λ t. IsNamed (type_of t)) }
+        ensures shrinks { OnOk result
+            (length self.new < length self.old) }
     {
         let Name { text, place } = self.type_name()?;
         let non_null = self.eat(Punct::Bang);
@@ -178,8 +185,10 @@ impl<'a> Parser<'a> {
     fn item_type(&mut self) -> Result<TypeRef, TokenFault>
         ensures reads { (room : _) → Reads (λ t. IsTypeRead (type_of t)) room
             (A AnItem ∷ one MaybeBang) room [] self.old self.new result }
-        ensures named { IfOk result (λ t. IsNamed (type_of t)) }
-        ensures shrinks { OnOk result (length self.new < length self.old) }
+        ensures named { IfOk result
+            (λ t. IsNamed (type_of t)) }
+        ensures shrinks { OnOk result
+            (length self.new < length self.old) }
     {
         if let Some(place) = self.take(Punct::BracketLeft) {
             return Err(TokenFault::NotServed(place));
@@ -190,7 +199,8 @@ impl<'a> Parser<'a> {
     fn type_ref(&mut self) -> Result<TypeRef, TokenFault>
         ensures reads { (room : _) → Reads (λ t. IsTypeRead (type_of t))
             (suc room) (one AType) (suc room) [] self.old self.new result }
-        ensures shrinks { OnOk result (length self.new < length self.old) }
+        ensures shrinks { OnOk result
+            (length self.new < length self.old) }
     {
         let Some(place) = self.take(Punct::BracketLeft) else {
             return self.named_type();
@@ -209,7 +219,8 @@ impl<'a> Parser<'a> {
     fn reason(&mut self) -> Result<(), TokenFault>
         ensures reads { (room : _) → Reads (λ _. IsReason) (suc room)
             (one MaybeReason) (suc room) [] self.old self.new result }
-        ensures shrinks { OnOk result (length self.new ≤ length self.old) }
+        ensures shrinks { OnOk result
+            (length self.new ≤ length self.old) }
     {
         if !self.eat(Punct::ParenLeft) {
             return Ok(());
@@ -231,7 +242,8 @@ impl<'a> Parser<'a> {
     fn skip_deprecated(&mut self) -> Result<(), TokenFault>
         ensures reads { (room : _) → Reads (λ _. IsDeprecated) (suc room)
             (one MaybeDeprecated) (suc room) [] self.old self.new result }
-        ensures shrinks { OnOk result (length self.new ≤ length self.old) }
+        ensures shrinks { OnOk result
+            (length self.new ≤ length self.old) }
     {
         let Some(place) = self.take(Punct::At) else {
             return Ok(());
@@ -316,7 +328,8 @@ impl<'a> Parser<'a> {
     fn value(&mut self, room: u32) -> Result<Literal, TokenFault>
         ensures reads { Reads (λ v. IsValue Const (literal_of v))
             room (one AValue) room [] self.old self.new result }
-        ensures shrinks { OnOk result (length self.new < length self.old) }
+        ensures shrinks { OnOk result
+            (length self.new < length self.old) }
     {
         if let Some(LocatedText { place, value: text }) = self.string()? {
             let value = Value::Text(text);
@@ -348,7 +361,8 @@ impl<'a> Parser<'a> {
     fn values(&mut self, room: u32) -> Result<Vec<Literal>, TokenFault>
         ensures reads { Reads (λ vs. AreValues Const (map_literals vs.items))
             room (one MoreValues) (suc room) [] self.old self.new result }
-        ensures shrinks { OnOk result (length self.new < length self.old) }
+        ensures shrinks { OnOk result
+            (length self.new < length self.old) }
     {
         let mut values = Vec::new(self.alloc);
         while !self.eat(Punct::BracketRight) {
@@ -361,7 +375,8 @@ impl<'a> Parser<'a> {
     fn object_field(&mut self, room: u32) -> Result<Argument, TokenFault>
         ensures reads { Reads (λ a. IsMemberRead (member_of a)) room
             (A AName ∷ A AColon ∷ one AValue) room [] self.old self.new result }
-        ensures shrinks { OnOk result (length self.new < length self.old) }
+        ensures shrinks { OnOk result
+            (length self.new < length self.old) }
     {
         let Name { text, place } = self.name()?;
         self.expect(Punct::Colon)?;
@@ -378,7 +393,8 @@ impl<'a> Parser<'a> {
     fn object_fields(&mut self, room: u32) -> Result<Vec<Argument>, TokenFault>
         ensures reads { Reads (λ ms. AreMembers Const (map_members ms.items))
             room (one MoreObjectFields) (suc room) [] self.old self.new result }
-        ensures shrinks { OnOk result (length self.new < length self.old) }
+        ensures shrinks { OnOk result
+            (length self.new < length self.old) }
     {
         let mut fields = Vec::new(self.alloc);
         while !self.eat(Punct::BraceRight) {
@@ -391,7 +407,8 @@ impl<'a> Parser<'a> {
     fn default(&mut self) -> Result<Option<Literal>, TokenFault>
         ensures reads { Reads (λ v. IsDefault (default_of v)) 126
             (one MaybeDefault) 126 [] self.old self.new result }
-        ensures shrinks { OnOk result (length self.new ≤ length self.old) }
+        ensures shrinks { OnOk result
+            (length self.new ≤ length self.old) }
     {
         if !self.eat(Punct::Equals) {
             return Ok(None);
@@ -402,7 +419,8 @@ impl<'a> Parser<'a> {
     fn argument(&mut self) -> Result<ArgumentDefinition, TokenFault>
         ensures reads { Reads (λ a. IsArgument (argument_of a)) 126
             (one (Arguments false)) 126 (one (Arguments true)) self.old self.new result }
-        ensures shrinks { OnOk result (length self.new < length self.old) }
+        ensures shrinks { OnOk result
+            (length self.new < length self.old) }
     {
         self.description();
         let name = self.name()?;
@@ -420,7 +438,8 @@ impl<'a> Parser<'a> {
     fn arguments(&mut self) -> Result<Vec<ArgumentDefinition>, TokenFault>
         ensures reads { Reads (λ args. AreOptionalArguments (arguments_of args.items)) 127
             (one MaybeArguments) 127 [] self.old self.new result }
-        ensures shrinks { OnOk result (length self.new ≤ length self.old) }
+        ensures shrinks { OnOk result
+            (length self.new ≤ length self.old) }
     {
         let mut arguments = Vec::new(self.alloc);
         if !self.eat(Punct::ParenLeft) {
@@ -436,7 +455,8 @@ impl<'a> Parser<'a> {
     fn field(&mut self) -> Result<FieldDefinition, TokenFault>
         ensures reads { Reads (λ f. IsField (field_of f)) 127
             (one (Fields false)) 127 (one (Fields true)) self.old self.new result }
-        ensures shrinks { OnOk result (length self.new < length self.old) }
+        ensures shrinks { OnOk result
+            (length self.new < length self.old) }
     {
         self.description();
         let name = self.name()?;
@@ -455,7 +475,8 @@ impl<'a> Parser<'a> {
     fn fields(&mut self) -> Result<Vec<FieldDefinition>, TokenFault>
         ensures reads { Reads (λ fs. AreFields false (fields_of fs.items)) 127
             (one (Fields false)) 128 [] self.old self.new result }
-        ensures shrinks { OnOk result (length self.new < length self.old) }
+        ensures shrinks { OnOk result
+            (length self.new < length self.old) }
     {
         let mut fields = Vec::new(self.alloc);
         fields.push(self.field()?)?;
@@ -468,7 +489,8 @@ impl<'a> Parser<'a> {
     fn enum_value(&mut self) -> Result<Name, TokenFault>
         ensures reads { Reads (λ v. IsEnumValue (name_of v)) 127
             (one (EnumValues false)) 127 (one (EnumValues true)) self.old self.new result }
-        ensures shrinks { OnOk result (length self.new < length self.old) }
+        ensures shrinks { OnOk result
+            (length self.new < length self.old) }
     {
         self.description();
         let name = self.enum_name()?;
@@ -480,7 +502,8 @@ impl<'a> Parser<'a> {
     fn enum_values(&mut self) -> Result<Vec<Name>, TokenFault>
         ensures reads { Reads (λ vs. AreEnumValues false (names_of vs.items)) 127
             (one (EnumValues false)) 128 [] self.old self.new result }
-        ensures shrinks { OnOk result (length self.new < length self.old) }
+        ensures shrinks { OnOk result
+            (length self.new < length self.old) }
     {
         let mut values = Vec::new(self.alloc);
         values.push(self.enum_value()?)?;
@@ -494,7 +517,8 @@ impl<'a> Parser<'a> {
     fn enum_name(&mut self) -> Result<Name, TokenFault>
         ensures reads { (room : _) → Reads (λ n. IsEnumNameRead (name_of n))
             room (one (A AnEnumName)) room [] self.old self.new result }
-        ensures shrinks { OnOk result (length self.new < length self.old) }
+        ensures shrinks { OnOk result
+            (length self.new < length self.old) }
     {
         let Some(LocatedText { place, value: text }) = self.word() else {
             return Err(self.stop());
@@ -510,7 +534,8 @@ impl<'a> Parser<'a> {
     fn interfaces(&mut self) -> Result<Vec<Name>, TokenFault>
         ensures reads { Reads (λ is. AreInterfacesRead (names_of is.items)) 128
             (one ObjectBody) 127 (one (Fields false)) self.old self.new result }
-        ensures shrinks { OnOk result (length self.new ≤ length self.old) }
+        ensures shrinks { OnOk result
+            (length self.new ≤ length self.old) }
     {
         let Some(LocatedText { place, value: name }) = self.word() else {
             self.expect(Punct::BraceLeft)?;
@@ -528,8 +553,10 @@ impl<'a> Parser<'a> {
     fn some_interfaces(&mut self) -> Result<Vec<Name>, TokenFault>
         ensures reads { Reads (λ is. AreSomeInterfaces (names_of is.items)) 128
             (one FirstInterface) 128 (one MoreInterfaces) self.old self.new result }
-        ensures ends { OnOk result (IsNotNext (a_mark punct.Amp) self.new) }
-        ensures shrinks { OnOk result (length self.new ≤ length self.old) }
+        ensures ends { OnOk result
+            (IsNotNext (a_mark punct.Amp) self.new) }
+        ensures shrinks { OnOk result
+            (length self.new ≤ length self.old) }
     {
         let mut interfaces = Vec::new(self.alloc);
         self.eat(Punct::Amp);
@@ -544,7 +571,8 @@ impl<'a> Parser<'a> {
     fn interface_brace(&mut self) -> Result<(), TokenFault>
         ensures reads { Reads (λ _. IsTaken (a_mark punct.BraceLeft)) 128
             (one InterfaceBody) 127 (one (Fields false)) self.old self.new result }
-        ensures shrinks { OnOk result (length self.new < length self.old) }
+        ensures shrinks { OnOk result
+            (length self.new < length self.old) }
     {
         if let Some(LocatedText { place, value: name }) = self.word() {
             return match word_of(name) {
@@ -559,7 +587,8 @@ impl<'a> Parser<'a> {
     fn members(&mut self) -> Result<Vec<Name>, TokenFault>
         ensures reads { Reads (λ ms. AreMembersRead (names_of ms.items)) 128
             (MaybePipe ∷ A ATypeName ∷ one MoreMembers) 128 [] self.old self.new result }
-        ensures shrinks { OnOk result (length self.new ≤ length self.old) }
+        ensures shrinks { OnOk result
+            (length self.new ≤ length self.old) }
     {
         let mut members = Vec::new(self.alloc);
         self.eat(Punct::Pipe);
@@ -574,7 +603,8 @@ impl<'a> Parser<'a> {
     fn query(&mut self) -> Result<(), TokenFault>
         ensures reads { (room : _)
             → Reads (λ _. IsQueryTaken) room (one (A AQuery)) room [] self.old self.new result }
-        ensures shrinks { OnOk result (length self.new < length self.old) }
+        ensures shrinks { OnOk result
+            (length self.new < length self.old) }
     {
         let Some(LocatedText { place, value: name }) = self.word() else {
             return Err(self.stop());
@@ -590,7 +620,8 @@ impl<'a> Parser<'a> {
     fn root_end(&mut self) -> Result<(), TokenFault>
         ensures reads { Reads (λ _. IsTaken (a_mark punct.BraceRight)) 127
             (one (A ARootEnd)) 128 [] self.old self.new result }
-        ensures shrinks { OnOk result (length self.new < length self.old) }
+        ensures shrinks { OnOk result
+            (length self.new < length self.old) }
     {
         if let Some(LocatedText { place, value: name }) = self.word() {
             return match keyword_of(name) {
@@ -604,7 +635,8 @@ impl<'a> Parser<'a> {
     fn schema(&mut self, place: Place) -> Result<SchemaDefinition, TokenFault>
         ensures reads { Reads (λ d. IsBody words.Schema place (definition_of
             (declared.Schema d))) 128 (one RootBody) 128 [] self.old self.new result }
-        ensures shrinks { OnOk result (length self.new ≤ length self.old) }
+        ensures shrinks { OnOk result
+            (length self.new ≤ length self.old) }
     {
         self.expect(Punct::BraceLeft)?;
         self.query()?;
@@ -617,7 +649,8 @@ impl<'a> Parser<'a> {
     fn object(&mut self) -> Result<ObjectDefinition, TokenFault>
         ensures reads { Reads (λ d. IsTypeBody words.Object (declared.Object d)) 128
             (A ATypeName ∷ one ObjectBody) 128 [] self.old self.new result }
-        ensures shrinks { OnOk result (length self.new ≤ length self.old) }
+        ensures shrinks { OnOk result
+            (length self.new ≤ length self.old) }
     {
         let name = self.type_name()?;
         let interfaces = self.interfaces()?;
@@ -632,7 +665,8 @@ impl<'a> Parser<'a> {
     fn interface(&mut self) -> Result<InterfaceDefinition, TokenFault>
         ensures reads { Reads (λ d. IsTypeBody words.Interface (declared.Interface d)) 128
             (A ATypeName ∷ one InterfaceBody) 128 [] self.old self.new result }
-        ensures shrinks { OnOk result (length self.new ≤ length self.old) }
+        ensures shrinks { OnOk result
+            (length self.new ≤ length self.old) }
     {
         let name = self.type_name()?;
         self.interface_brace()?;
@@ -643,7 +677,8 @@ impl<'a> Parser<'a> {
     fn union_type(&mut self) -> Result<UnionDefinition, TokenFault>
         ensures reads { Reads (λ d. IsTypeBody words.Union (declared.Union d)) 128
             (A ATypeName ∷ a_union_then) 128 [] self.old self.new result }
-        ensures shrinks { OnOk result (length self.new ≤ length self.old) }
+        ensures shrinks { OnOk result
+            (length self.new ≤ length self.old) }
     {
         let name = self.type_name()?;
         self.expect(Punct::Equals)?;
@@ -654,7 +689,8 @@ impl<'a> Parser<'a> {
     fn enum_type(&mut self) -> Result<EnumDefinition, TokenFault>
         ensures reads { Reads (λ d. IsTypeBody words.Enum (declared.Enum d)) 128
             (A ATypeName ∷ one EnumBody) 128 [] self.old self.new result }
-        ensures shrinks { OnOk result (length self.new ≤ length self.old) }
+        ensures shrinks { OnOk result
+            (length self.new ≤ length self.old) }
     {
         let name = self.type_name()?;
         self.expect(Punct::BraceLeft)?;
@@ -666,7 +702,8 @@ impl<'a> Parser<'a> {
     fn definition(&mut self) -> Result<Definition, TokenFault>
         ensures reads { Reads (λ d. IsDefinitionRead (definition_of d)) 128
             (one ADefinition) 128 [] self.old self.new result }
-        ensures shrinks { OnOk result (length self.new < length self.old) }
+        ensures shrinks { OnOk result
+            (length self.new < length self.old) }
     {
         let Some(LocatedText { place, value: name }) = self.word() else {
             return Err(self.stop());
@@ -700,7 +737,8 @@ pub(crate) fn definitions(
         → IsShallow most_brackets (tokens_of text.now tokens.now) → Finds ds result }
 
     // Otherwise the first fault is named.
-    ensures stop { IfErr result (IsStop (tokens_of text.now tokens.now)) }
+    ensures stop { IfErr result
+        (IsStop (tokens_of text.now tokens.now)) }
 {
     let mut parser = Parser {
         alloc,

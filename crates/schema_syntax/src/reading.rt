@@ -32,12 +32,12 @@ pub fn read_tokens(
     requires inside { All (IsToken text.now) tokens.now }
     // The definitions are what the grammar says, no bracket in them is opened while 128 are open,
     // and the text ends behind them.
-    ensures found { let ts = tokens_of text.now tokens.now in
-        IfOk result (λ d. IsDocument (definitions_of d) ts × IsShallow most_brackets ts × (lexical ≡ None)) }
+    ensures found { let ts = tokens_of text.now tokens.now in IfOk result
+        (λ d. IsDocument (definitions_of d) ts × IsShallow most_brackets ts × (lexical ≡ None)) }
 
     // Such a tree is found, and there is no other.
-    ensures only { let ts = tokens_of text.now tokens.now in
-        (ds : _) → IsDocument ds ts → IsShallow most_brackets ts → lexical ≡ None → FindsTree ds result }
+    ensures only { let ts = tokens_of text.now tokens.now in (ds : _) → IsDocument ds ts
+        → IsShallow most_brackets ts → lexical ≡ None → FindsTree ds result }
 
     // Otherwise the first fault is named.
     ensures fault { IfErr result (IsSyntaxFault text.now (tokens_of text.now tokens.now) lexical) }
@@ -72,10 +72,12 @@ pub fn read_tokens(
 pub fn read(alloc: Global, text: &str) -> Result<SchemaDocument, SyntaxFault>
     // The definitions are what the grammar says of the text's tokens, and no bracket in them is
     // opened while 128 are open.
-    ensures found { IfOk result (λ d. IsSchemaOf text.now (definitions_of d)) }
+    ensures found { IfOk result
+        (λ d. IsSchemaOf text.now (definitions_of d)) }
 
     // Such a tree is found, and there is no other.
-    ensures only { (ds : List tree_definition) → IsSchemaOf text.now ds → FindsTree ds result }
+    ensures only { (ds : List tree_definition)
+        → IsSchemaOf text.now ds → FindsTree ds result }
 
     // Otherwise the first fault is named.
     ensures fault { IfErr result (IsTextFault text.now) }

@@ -53,7 +53,8 @@ pub(crate) fn word_of(name: &str) -> SchemaWord
 
 /// Tells whether a type may have this name.
 pub(crate) fn is_served_name(name: &str) -> bool
-    ensures { MatchBool result (IsServedName name.now) (word_of name.now ≡ words.Float) }
+    ensures { MatchBool result (IsServedName name.now)
+        (word_of name.now ≡ words.Float) }
 {
     word_of(name) != SchemaWord::Float
 }
@@ -71,7 +72,8 @@ pub(crate) fn is_enum_name(name: &str) -> bool
 
 /// The value that a name is.
 pub(crate) fn name_value(alloc: Global, name: &str) -> Result<Value, TokenFault>
-    ensures { MatchResult result (IsNameValue name.now) (λ e. e ≡ TokenFault.NoMemory) }
+    ensures { MatchResult result (IsNameValue name.now)
+        (λ e. e ≡ TokenFault.NoMemory) }
 {
     match keyword_of(name) {
         Keyword::True => Ok(Value::Boolean(true)),

@@ -20,12 +20,15 @@ unasked text = record { text = text; rounds = 0 }
 module _ {S : Type 0} (may : S → List KeyOf → AnswerOf → Type 0) where
   -- The plan, which is of a valid document, was answered with the headline, from the client's session to this one: the loaders were asked
   -- exactly the batches of a lawful log, and the text is that of direct execution over what is known then, within the client's limit.
-  pub record AnswersPlan (c : ClientOf S) (plan : PlanOf) (report : ReportOf) (new : SessionOf S) : Type 0 where
+  pub record AnswersPlan (c : ClientOf S) (plan : PlanOf) (report : ReportOf)
+      (new : SessionOf S) : Type 0 where
     pub valid : IsPlan plan
-    pub headline : Headline may (state_of c.session) (state_of new) (plan_program plan) (text_within c.most) report.text report.rounds
+    pub headline : Headline may (state_of c.session) (state_of new) (plan_program plan)
+        (text_within c.most) report.text report.rounds
 
   -- A request is refused for its first fault, and the session is as it was; or its plan is answered.
-  pub data AnswersRequest (c : ClientOf S) (request : RequestOf) (report : ReportOf) (new : SessionOf S) : Type 0 where
+  pub data AnswersRequest (c : ClientOf S) (request : RequestOf) (report : ReportOf)
+      (new : SessionOf S) : Type 0 where
     refused : {text : List ℕ} → IsRefusal c.server request text
         → report ≡ unasked text → new ≡ c.session → AnswersRequest c request report new
     planned : {plan : PlanOf} → IsPlanned c.server request plan

@@ -51,7 +51,8 @@ in_places (None ∷ refusals) (text ∷ texts) = text ∷ in_places refusals tex
 
 -- the texts of an array: its refusals, and in the other places these answers, in order
 abbrev pub texts_of : List (Option (String Global)) → List Answer → List (List ℕ)
-texts_of refusals answers = in_places (map (option_map string_bytes) refusals) (map (λ (a : Answer). string_bytes a.text) answers)
+texts_of refusals answers = in_places (map (option_map string_bytes) refusals)
+    (map (λ (a : Answer). string_bytes a.text) answers)
 
 -- texts in brackets, with commas between them
 abbrev pub array_text : List (List ℕ) → List ℕ
@@ -60,17 +61,21 @@ array_text texts = codes "[" ++ join_by (λ text. text) (codes ",") texts ++ cod
 module _ {S : Type 0} (may : S → List KeyOf → AnswerOf → Type 0) where
   -- The array of these values is answered: each value in its place. Its plans are of valid documents, and were all answered in the session
   -- that was given, with the headline of several requests. It took as many rounds as the answer with the most.
-  pub record AnswersArray (c : ClientOf S) (values : List (Option RequestOf)) (report : ReportOf) (new : SessionOf S) : Type 0 where
+  pub record AnswersArray (c : ClientOf S) (values : List (Option RequestOf)) (report : ReportOf)
+      (new : SessionOf S) : Type 0 where
     pub places : List PlaceOf
     pub each : AllZip (IsInPlace c.server) values places
     pub text : report.text ≡ array_text (map text_in places)
     pub rounds : report.rounds ≡ greatest (reports_in places)
     pub valid : All IsPlan (plans_in places)
-    pub headline : SharedHeadline may (state_of c.session) (state_of new) (requests_within c.most (plans_in places)) (reports_in places)
+    pub headline : SharedHeadline may (state_of c.session) (state_of new)
+        (requests_within c.most (plans_in places)) (reports_in places)
 
   -- Memory ran out: the session is as it was, or the finished rounds of the plans stay, and perhaps one more was lost.
-  pub data StopsArray (c : ClientOf S) (values : List (Option RequestOf)) (new : SessionOf S) : Type 0 where
+  pub data StopsArray (c : ClientOf S) (values : List (Option RequestOf))
+      (new : SessionOf S) : Type 0 where
     unplanned : new ≡ c.session → StopsArray c values new
     stopped : (refusals : List (Option (List ℕ))) (plans : List PlanOf)
         → PlanValues c.server values refusals plans
-        → StopsAnswering may (state_of c.session) (state_of new) (together (requests_within c.most plans)) → StopsArray c values new
+        → StopsAnswering may (state_of c.session) (state_of new)
+        (together (requests_within c.most plans)) → StopsArray c values new

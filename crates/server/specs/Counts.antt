@@ -31,7 +31,8 @@ module _ {S : Type 0} where
   plans_read session plans = all_read (map plan_program plans) (reader (known_in session))
 
   -- the plans that a text asks for read `count` loads
-  pub record CountsText (s : ServerOf) (session : SessionOf S) (text : List ℕ) (count : ℕ) : Type 0 where
+  pub record CountsText (s : ServerOf) (session : SessionOf S) (text : List ℕ)
+      (count : ℕ) : Type 0 where
     pub plans : List PlanOf
     pub asks : AsksPlans s text plans
     pub count_is : count ≡ counted (plans_read session plans)

@@ -30,7 +30,8 @@ pub record ByHandOf (S : Type 0) : Type 0 where
 
 -- says what is made of what the hand did: of the answers to the plans their response, and of all else the same
 abbrev pub IsStepOf : PlannedOf → Advance → ClientAdvance → Type 0
-IsStepOf planned (advance.Finished answers) (Answered answer) = IsResponse planned (map report_of answers.items) (report_of answer)
+IsStepOf planned (advance.Finished answers) (Answered answer) =
+    IsResponse planned (map report_of answers.items) (report_of answer)
 IsStepOf planned advance.Round Round = Unit {0}
 IsStepOf planned advance.Waiting Waiting = Unit {0}
 IsStepOf planned advance.Over Over = Unit {0}
@@ -55,10 +56,12 @@ module _ {S : Type 0} where
   by_hand_of client planned far = record { client = client; planned = planned; far = far }
 
   -- Gives what holds between calls: the client has its loaders, the hand is of its plans, and nothing is asked for a refused request.
-  pub record HoldsByHand (client : ClientOf S) (planned : PlannedOf) (hand : HandOf S BoundedPlan RootState) : Type 0 where
+  pub record HoldsByHand (client : ClientOf S) (planned : PlannedOf)
+      (hand : HandOf S BoundedPlan RootState) : Type 0 where
     pub loaders : HasLoaders client.server client.session
     pub plans : hand.plans ≡ planned.plans
-    pub holds : Holds bounded_program bounded_text bounded_loaders bounded_fits hand.session hand.plans hand.far
+    pub holds : Holds bounded_program bounded_text bounded_loaders bounded_fits
+        hand.session hand.plans hand.far
     pub refused : is_refused planned ≡ true → hand.far ≡ handed
 
   -- it is over, or what is asked is one request that is refused, for which nothing is done
@@ -88,7 +91,8 @@ module _ {S : Type 0} where
     -- It was begun on this session, as it was then. Since then nothing but its rounds was made in it, and each order was answered as its
     -- source may answer it.
     abbrev pub IsUnderway : SessionOf S → ByHandOf S → Type 0
-    IsUnderway begun b = HasGone bounded_program bounded_text may begun b.client.session b.planned.plans b.far
+    IsUnderway begun b =
+        HasGone bounded_program bounded_text may begun b.client.session b.planned.plans b.far
 
     -- says what was so before a call is so after it, from whichever session it was begun on
     abbrev pub GoesOn : ByHandOf S → ByHandOf S → Type 0
@@ -118,7 +122,8 @@ module _ {S : Type 0} where
     -- ---- as a future
 
     -- gives what comes of it: the client is handed back with what answers what was asked, or memory ran out at it
-    pub record GivesFrom (b : ByHandOf S) (out : ClientOf S × Result Answer AllocError) : Type 0 where
+    pub record GivesFrom (b : ByHandOf S)
+        (out : ClientOf S × Result Answer AllocError) : Type 0 where
       pub answered : (c : ClientOf S) (asked : AskedOf)
           → IsUnderway c.session b → PlansAsked c asked b.planned
           → IfOk out.1 (λ answer. AnswersAsked may c asked (report_of answer) out.0.session)

@@ -13,7 +13,8 @@ use Rattle.server.specs.Arrays.{AnswersArray, StopsArray}
 
 module _ {S : Type 0} (may : S → List KeyOf → AnswerOf → Type 0) where
   -- a text is answered in the client's session: it is no request, or one, or several
-  pub data AnswersText (c : ClientOf S) (text : List ℕ) (report : ReportOf) (new : SessionOf S) : Type 0 where
+  pub data AnswersText (c : ClientOf S) (text : List ℕ) (report : ReportOf)
+      (new : SessionOf S) : Type 0 where
     no_request : IsNoRequest text → report ≡ unasked not_a_request
         → new ≡ c.session → AnswersText c text report new
     request : {r : RequestOf} → IsRequest text r

@@ -18,7 +18,8 @@ pub record LoadByHandOf (S : Type 0) : Type 0 where
 
 module _ {S : Type 0} where
   abbrev pub load_by_hand_of : ClientOf S → ℕ → List KeyOf → LoadFarOf → LoadByHandOf S
-  load_by_hand_of client loader keys far = record { client = client; loader = loader; keys = keys; far = far }
+  load_by_hand_of client loader keys far =
+      record { client = client; loader = loader; keys = keys; far = far }
 
   -- the load in the client's session
   abbrev pub load_in : LoadByHandOf S → LoadHandOf S
@@ -28,7 +29,8 @@ module _ {S : Type 0} where
     -- The keys were loaded, from whichever client the load was begun in: all that was done in its session is a call that loads them.
     abbrev pub ClientLoads : LoadByHandOf S → LoadByHandOf S → LoadAdvance → Type 0
     ClientLoads old new (Loaded outcomes) =
-        (c : ClientOf S) → IsLoadUnderway may c.session (load_in old) → IsClientCall may (Loading old.loader old.keys (map outcome_of outcomes.items)) c new.client
+        (c : ClientOf S) → IsLoadUnderway may c.session (load_in old) → IsClientCall may
+        (Loading old.loader old.keys (map outcome_of outcomes.items)) c new.client
     ClientLoads old new Round = Unit {0}
     ClientLoads old new Waiting = Unit {0}
     ClientLoads old new Over = Unit {0}

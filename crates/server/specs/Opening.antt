@@ -17,7 +17,14 @@ mode_of (Some by) = if by.fold then FoldAscii else Exact
 
 -- a new loader of a line, over this source
 abbrev pub new_loader : {S : Type 0} → Option ℕ → bindings.LoaderOf → S → LoaderOf S
-new_loader limit line source = record { name = line.name; source = source; mode = mode_of line.by; limit = limit; log = []; orders = 0 }
+new_loader limit line source = record {
+  name = line.name;
+  source = source;
+  mode = mode_of line.by;
+  limit = limit;
+  log = [];
+  orders = 0;
+}
 
 -- The loaders are new ones of these lines, in order, and a call of f at each line, in order, gave its source.
 abbrev pub AreOpened : {S F : Type 0} → Mut F (Bor LoaderLine × Unit {0}) S

@@ -46,7 +46,8 @@ abbrev pub is_refused : PlannedOf → Bool
 is_refused planned = refuses_one planned.many planned.plans
 
 -- says what is planned of a text: it is no request, or one, or several
-pub data IsTextPlanned (s : ServerOf) (asked : List ℕ) (many : Bool) (refusals : List (Option (List ℕ))) (plans : List PlanOf) : Type 0 where
+pub data IsTextPlanned (s : ServerOf) (asked : List ℕ) (many : Bool)
+    (refusals : List (Option (List ℕ))) (plans : List PlanOf) : Type 0 where
   no_request : IsNoRequest asked → many ≡ false → PlanValues s (None ∷ []) refusals plans
       → IsTextPlanned s asked many refusals plans
   request : {r : RequestOf} → IsRequest asked r → many ≡ false
@@ -64,7 +65,8 @@ IsPlannedAs s (several values) many refusals plans = (many ≡ true)
 IsPlannedAs s (text asked) many refusals plans = IsTextPlanned s asked many refusals plans
 
 -- A client plans what it is asked over its server, and within its limit.
-pub record PlansAsked {S : Type 0} (c : ClientOf S) (asked : AskedOf) (planned : PlannedOf) : Type 0 where
+pub record PlansAsked {S : Type 0} (c : ClientOf S) (asked : AskedOf)
+    (planned : PlannedOf) : Type 0 where
   pub plans : List PlanOf
   pub bounded : AreBounded c.most plans planned.plans
   pub planned_as : IsPlannedAs c.server asked planned.many planned.refusals plans

@@ -16,27 +16,37 @@ use Rattle.server.specs.Plans.{limited_program, limited_requests, HasLoadersFor}
 
 module _ {S : Type 0} (may : S → List KeyOf → AnswerOf → Type 0) where
   -- a plan was answered with the headline; or memory ran out, and the finished rounds stay
-  pub record RunsPlan (old : SessionOf S) (limited : LimitedPlan) (result : Result Answer AllocError) (new : SessionOf S) : Type 0 where
-    pub answer : IfOk result (HasHeadline may (state_of old) (state_of new) (limited_program limited) (text_within limited.most))
-    pub stopped : OnErr result (StopsAnswering may (state_of old) (state_of new) (limited_program limited))
+  pub record RunsPlan (old : SessionOf S) (limited : LimitedPlan)
+      (result : Result Answer AllocError) (new : SessionOf S) : Type 0 where
+    pub answer : IfOk result (HasHeadline may (state_of old) (state_of new)
+        (limited_program limited) (text_within limited.most))
+    pub stopped : OnErr result
+        (StopsAnswering may (state_of old) (state_of new) (limited_program limited))
 
   -- gives the same of several plans, in shared rounds
-  pub record RunsPlans (old : SessionOf S) (plans : List LimitedPlan) (result : Result (Vec Answer) AllocError) (new : SessionOf S) : Type 0 where
-    pub answers : IfOk result (AreAnswers may (state_of old) (state_of new) (limited_requests plans))
-    pub stopped : OnErr result (StopsAnswering may (state_of old) (state_of new) (together (limited_requests plans)))
+  pub record RunsPlans (old : SessionOf S) (plans : List LimitedPlan)
+      (result : Result (Vec Answer) AllocError) (new : SessionOf S) : Type 0 where
+    pub answers : IfOk result
+        (AreAnswers may (state_of old) (state_of new) (limited_requests plans))
+    pub stopped : OnErr result
+        (StopsAnswering may (state_of old) (state_of new) (together (limited_requests plans)))
 
   -- a closure may be called with a plan where the session has its loaders, and runs it
   pub record RunsEach (pre : MutBor (SessionOf S) → Bor LimitedPlan → Type 0)
-      (post : MutBor (SessionOf S) → Bor LimitedPlan → Result Answer AllocError → MutBor (SessionOf S) → Type 0) : Type 0 where
+      (post : MutBor (SessionOf S) → Bor LimitedPlan → Result Answer AllocError
+      → MutBor (SessionOf S) → Type 0) : Type 0 where
     pub can : (session : MutBor (SessionOf S)) (limited : Bor LimitedPlan)
         → HasLoadersFor session.now limited.now → pre session limited
-    pub runs : (session : MutBor (SessionOf S)) (limited : Bor LimitedPlan) (result : Result Answer AllocError) (later : MutBor (SessionOf S))
+    pub runs : (session : MutBor (SessionOf S)) (limited : Bor LimitedPlan)
+        (result : Result Answer AllocError) (later : MutBor (SessionOf S))
         → post session limited result later → RunsPlan session.now limited.now result later.now
 
   -- gives the same of several plans
   pub record RunsAll (pre : MutBor (SessionOf S) → Bor (List LimitedPlan) → Type 0)
-      (post : MutBor (SessionOf S) → Bor (List LimitedPlan) → Result (Vec Answer) AllocError → MutBor (SessionOf S) → Type 0) : Type 0 where
+      (post : MutBor (SessionOf S) → Bor (List LimitedPlan) → Result (Vec Answer) AllocError
+      → MutBor (SessionOf S) → Type 0) : Type 0 where
     pub can : (session : MutBor (SessionOf S)) (plans : Bor (List LimitedPlan))
         → All (HasLoadersFor session.now) plans.now → pre session plans
-    pub runs : (session : MutBor (SessionOf S)) (plans : Bor (List LimitedPlan)) (result : Result (Vec Answer) AllocError) (later : MutBor (SessionOf S))
+    pub runs : (session : MutBor (SessionOf S)) (plans : Bor (List LimitedPlan))
+        (result : Result (Vec Answer) AllocError) (later : MutBor (SessionOf S))
         → post session plans result later → RunsPlans session.now plans.now result later.now

@@ -25,7 +25,8 @@ Tells (Ok items) answer = answer ≡ given (map item_of items.items)
 Tells (Err (Failed text)) answer = answer ≡ failed (string_bytes text)
 Tells (Err NoMemory) answer = ⊥
 
-module _ {F A : Type 0} (post : F → A → Bor (List Key) → Result (Vec Item) FetchFault → Type 0) where
+module _ {F A : Type 0}
+    (post : F → A → Bor (List Key) → Result (Vec Item) FetchFault → Type 0) where
   -- a call of the function at these keys may return the answer
   abbrev pub may_return : F → List KeyOf → AnswerOf → Type 0
   may_return f keys answer = (alloc : A) × (shown : Bor (List Key))

@@ -24,13 +24,15 @@ fn answer_plan<
     S: LocalSource,
     F: Fn(&mut Session<S>, &LimitedPlan<'_>) -> Result<Answer, AllocError>,
 >(run: &F, session: &mut Session<S>, plan: &Plan, most: Option<usize>) -> Result<Answer, AllocError>
-    requires runs { RunsEach S.may_tell (F.pre run.now) (F.post run.now) }
+    requires runs { RunsEach S.may_tell
+        (F.pre run.now) (F.post run.now) }
     requires loaders { length (plan_of plan.now).bindings.loaders ≤ length session.old.loaders }
-    ensures answered { (s : ServerOf) → IfOk result (λ a. AnswersPlan S.may_tell (client_of s most session.old) (plan_of plan.now)
-        (report_of a) session.new) }
+    ensures answered { (s : ServerOf) → IfOk result (λ a. AnswersPlan S.may_tell
+        (client_of s most session.old) (plan_of plan.now) (report_of a) session.new) }
     ensures stopped { OnErr result (StopsAnswering S.may_tell (state_of session.old)
         (state_of session.new) (plan_program (plan_of plan.now))) }
-    ensures loaders { length session.new.loaders ≡ length session.old.loaders }
+    ensures loaders { length session.new.loaders
+        ≡ length session.old.loaders }
 {
     // A contract sees here that the plan is of a valid document.
     let _ = plan.operation();
@@ -49,14 +51,17 @@ pub(crate) fn answer_request<
     request: &Request<'_>,
     most: Option<usize>,
 ) -> Result<Answer, AllocError>
-    requires runs { RunsEach S.may_tell (F.pre run.now) (F.post run.now) }
-    requires loaders { HasLoaders kept.old.server session.old }
-    ensures answered { IfOk result (λ a. AnswersRequest S.may_tell (client_of kept.old.server most session.old) (request_of request.now)
-        (report_of a) session.new) }
-    ensures stopped { OnErr result (StopsRequest S.may_tell (client_of kept.old.server most session.old)
-        (request_of request.now) session.new) }
+    requires runs { RunsEach S.may_tell
+        (F.pre run.now) (F.post run.now) }
+    requires loaders { HasLoaders
+        kept.old.server session.old }
+    ensures answered { IfOk result (λ a. AnswersRequest S.may_tell (client_of kept.old.server
+        most session.old) (request_of request.now) (report_of a) session.new) }
+    ensures stopped { OnErr result (StopsRequest S.may_tell
+        (client_of kept.old.server most session.old) (request_of request.now) session.new) }
     ensures server { kept.new.server ≡ kept.old.server }
-    ensures loaders { length session.new.loaders ≡ length session.old.loaders }
+    ensures loaders { length session.new.loaders
+        ≡ length session.old.loaders }
 {
     if let Some(text) = kept.keep(alloc, request)? {
         return Ok(Answer { text, rounds: 0 });

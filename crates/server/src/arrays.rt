@@ -27,7 +27,8 @@ fn limit_plans<'p>(
     plans: &'p [Plan],
     most: Option<usize>,
 ) -> Result<Vec<LimitedPlan<'p>>, AllocError>
-    ensures { IfOk result (λ limited. AreLimited most (map plan_of plans.entry.now) limited.items) }
+    ensures { IfOk result (λ limited. AreLimited most
+        (map plan_of plans.entry.now) limited.items) }
 {
     let mut limited = Vec::with_capacity(alloc, plans.len())?;
     for plan in plans {
@@ -66,7 +67,8 @@ pub(crate) fn array_answer(
 ) -> Result<Answer, AllocError>
     ensures text { IfOk result (λ answer.
         string_bytes answer.text ≡ array_text (texts_of refusals.now answers.now)) }
-    ensures rounds { IfOk result (λ answer. answer.rounds ≡ greatest (map report_of answers.now)) }
+    ensures rounds { IfOk result (λ answer. answer.rounds
+        ≡ greatest (map report_of answers.now)) }
 {
     let texts = texts(alloc, refusals, answers)?;
     let inside = texts.join(alloc, ",")?;
@@ -78,7 +80,8 @@ pub(crate) fn array_answer(
 
 // The rounds of the answer with the most.
 fn most_rounds(answers: &[Answer]) -> u32
-    ensures { result ≡ greatest (map report_of answers.now) }
+    ensures { result ≡ greatest
+        (map report_of answers.now) }
 {
     let mut most = 0;
     for answer in answers {
@@ -100,14 +103,17 @@ pub(crate) fn answer_requests<
     values: &[Option<Request<'_>>],
     most: Option<usize>,
 ) -> Result<Answer, AllocError>
-    requires runs { RunsAll S.may_tell (G.pre run.now) (G.post run.now) }
-    requires loaders { HasLoaders kept.old.server session.old }
-    ensures answered { IfOk result (λ a. AnswersArray S.may_tell (client_of kept.old.server most session.old)
-        (requests_of values.now) (report_of a) session.new) }
+    requires runs { RunsAll S.may_tell
+        (G.pre run.now) (G.post run.now) }
+    requires loaders { HasLoaders
+        kept.old.server session.old }
+    ensures answered { IfOk result (λ a. AnswersArray S.may_tell (client_of kept.old.server
+        most session.old) (requests_of values.now) (report_of a) session.new) }
     ensures stopped { OnErr result (StopsArray S.may_tell
         (client_of kept.old.server most session.old) (requests_of values.now) session.new) }
     ensures server { kept.new.server ≡ kept.old.server }
-    ensures loaders { length session.new.loaders ≡ length session.old.loaders }
+    ensures loaders { length session.new.loaders
+        ≡ length session.old.loaders }
 {
     kept.cache_each(alloc, values);
     let array = kept.plan_each(alloc, values)?;

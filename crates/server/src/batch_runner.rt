@@ -43,7 +43,8 @@ impl<'r, R> Workers<'r, R> {
     ///
     /// [`BadCount`](WorkFault::BadCount) for any other number.
     pub fn new(rt: &'r R, count: usize) -> Result<Workers<'r, R>, WorkFault>
-        ensures count { IfOk result (λ workers. (workers ≡ count) × ¬ (IsBadCount count)) }
+        ensures count { IfOk result (λ workers.
+            (workers ≡ count) × ¬ (IsBadCount count)) }
         ensures refused { IfErr result (λ fault. (fault ≡ WorkFault.BadCount) × IsBadCount count) }
     {
         if count == 0 || count > MOST_WORKERS {
@@ -61,7 +62,8 @@ impl<'r, R: Threads + Wait + Sync> Workers<'r, R> {
         limited: &LimitedPlan<'_>,
     ) -> Result<Answer, AllocError>
         requires { HasLoadersFor session.old limited.now }
-        ensures { RunsPlan S.may_answer session.old limited.now result session.new }
+        ensures { RunsPlan S.may_answer session.old
+            limited.now result session.new }
     {
         match answer_with(self.rt, session, limited, self.count) {
             Ok(answer) => Ok(answer),
@@ -76,8 +78,10 @@ impl<'r, R: Threads + Wait + Sync> Workers<'r, R> {
         session: &mut Session<S>,
         plans: &[LimitedPlan<'_>],
     ) -> Result<Vec<Answer>, AllocError>
-        requires { All (HasLoadersFor session.old) plans.now }
-        ensures { RunsPlans S.may_answer session.old plans.now result session.new }
+        requires { All (HasLoadersFor session.old)
+            plans.now }
+        ensures { RunsPlans S.may_answer session.old
+            plans.now result session.new }
     {
         match answer_all_with(self.rt, session, plans, self.count) {
             Ok(answers) => Ok(answers),

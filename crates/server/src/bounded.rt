@@ -53,7 +53,8 @@ pub(crate) fn bound_plans(
     plans: Vec<Plan>,
     most: Option<usize>,
 ) -> Result<Vec<BoundedPlan>, AllocError>
-    ensures { IfOk result (λ bounded. AreBounded most (map plan_of plans.items) bounded.items) }
+    ensures { IfOk result (λ bounded. AreBounded most
+        (map plan_of plans.items) bounded.items) }
 {
     let mut bounded = Vec::with_capacity(*plans.allocator(), plans.len())?;
     for plan in plans {

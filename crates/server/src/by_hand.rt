@@ -1,8 +1,8 @@
 //! A client that is answered by hand: the caller asks its sources itself.
 
-ghost use Rattle.std.specs.Prelude.{◌≡◌, ◌≤◌, ◌↔◌, length, true, slice_get, IfOk, IfSome, OnOk, OnErr, IsErrOf};
+ghost use Rattle.std.specs.Prelude.{◌≡◌, ◌≤◌, length, slice_get, IfOk, IfSome, OnOk, OnErr};
 ghost use Rattle.rounds_by_hand.specs.Hands.{handed, over, IsOver, pending_in};
-ghost use Rattle.rounds_by_hand.specs.Pending.{TakesAnswer, is_in_at};
+ghost use Rattle.rounds_by_hand.specs.Pending.{RefusesAnswer, TakesAnswer};
 ghost use Rattle.server.specs.Clients.{IsSameClient};
 ghost use Rattle.server.specs.Hands.{IsFinished, IsStepOf};
 
@@ -103,8 +103,10 @@ impl<S> ClientSession<S> {
     /// limit stay. `plan`, `plan_all` and `plan_text` plan what is asked, within the client's limit (`planned`, by
     /// `PlansAsked`). Given up at any time: `stopped` of `ByHand::into_client`
     pub fn by_hand<'p>(self, planned: &'p PlannedRequest) -> ByHand<'p, S>
-        requires { planned.now.loaders ≤ length self.session.loaders }
-        ensures { result ≡ by_hand_of self planned.now handed }
+        requires { planned.now.loaders
+            ≤ length self.session.loaders }
+        ensures { result ≡ by_hand_of
+            self planned.now handed }
     {
         let ClientSession {
             alloc,
@@ -130,7 +132,8 @@ fn step_of(
     planned: &PlannedRequest,
     advance: Advance,
 ) -> Result<ClientAdvance, AllocError>
-    ensures made { IfOk result (IsStepOf planned.now advance) }
+    ensures made { IfOk result
+        (IsStepOf planned.now advance) }
     // Only a response takes memory.
     ensures finished { OnErr result (IsFinished advance) }
 {
@@ -173,12 +176,18 @@ impl<'p, S: LocalSource> ByHand<'p, S> {
     /// limit stay. `plan`, `plan_all` and `plan_text` plan what is asked, within the client's limit (`planned`, by
     /// `PlansAsked`). Given up at any time: `stopped` of `ByHand::into_client`
     pub fn advance(&mut self) -> Result<ClientAdvance, AllocError>
-        ensures stepped { IfOk result (Steps self.old self.new) }
-        ensures ended { OnErr result (Ends self.old self.new) }
-        ensures underway { GoesOn S.may_tell self.old self.new }
-        ensures answered { IfOk result (Responds S.may_tell self.old self.new) }
-        ensures same { IsSameClient self.old.client self.new.client }
-        ensures planned { self.new.planned ≡ self.old.planned }
+        ensures stepped { IfOk result
+            (Steps self.old self.new) }
+        ensures ended { OnErr result
+            (Ends self.old self.new) }
+        ensures underway { GoesOn S.may_tell
+            self.old self.new }
+        ensures answered { IfOk result
+            (Responds S.may_tell self.old self.new) }
+        ensures same { IsSameClient
+            self.old.client self.new.client }
+        ensures planned { self.new.planned
+            ≡ self.old.planned }
     {
         if self.planned.is_refused() {
             return Ok(ClientAdvance::Answered(
@@ -205,12 +214,18 @@ impl<'p, S: LocalSource> ByHand<'p, S> {
     /// limit stay. `plan`, `plan_all` and `plan_text` plan what is asked, within the client's limit (`planned`, by
     /// `PlansAsked`). Given up at any time: `stopped` of `ByHand::into_client`
     pub fn ask_and_advance(&mut self) -> Result<ClientAdvance, AllocError>
-        ensures stepped { IfOk result (AsksAndSteps self.old self.new) }
-        ensures ended { OnErr result (Ends self.old self.new) }
-        ensures underway { GoesOn S.may_tell self.old self.new }
-        ensures answered { IfOk result (Responds S.may_tell self.old self.new) }
-        ensures same { IsSameClient self.old.client self.new.client }
-        ensures planned { self.new.planned ≡ self.old.planned }
+        ensures stepped { IfOk result
+            (AsksAndSteps self.old self.new) }
+        ensures ended { OnErr result
+            (Ends self.old self.new) }
+        ensures underway { GoesOn S.may_tell
+            self.old self.new }
+        ensures answered { IfOk result
+            (Responds S.may_tell self.old self.new) }
+        ensures same { IsSameClient
+            self.old.client self.new.client }
+        ensures planned { self.new.planned
+            ≡ self.old.planned }
     {
         if self.planned.is_refused() {
             return Ok(ClientAdvance::Answered(
@@ -242,21 +257,18 @@ impl<'p, S: LocalSource> ByHand<'p, S> {
         number: usize,
         answer: Result<Vec<Item>, FetchFault>,
     ) -> Result<(), TakeFault>
-        ensures no_order { IsErrOf result TakeFault.NoSuchOrder
-            ↔ (length (pending_in self.old.far) ≤ number) }
-        ensures answered { IsErrOf result TakeFault.Answered
-            ↔ (is_in_at (slice_get (pending_in self.old.far) number) ≡ true) }
-        ensures none { IsErrOf result TakeFault.NoSuchOrder → self.new ≡ self.old }
-        ensures kept { IsErrOf result TakeFault.Answered → self.new ≡ self.old }
-        ensures over { IsErrOf result TakeFault.NoMemory → IsOver self.new.far }
+        ensures refused { RefusesAnswer (pending_in self.old.far) number
+            self.old self.new (IsOver self.new.far) result }
         ensures taken { OnOk result
             (TakesAnswer (pending_in self.old.far) number answer (pending_in self.new.far)) }
         // It is still as the sources may answer, if this answer is.
         ensures underway { OnOk result (IfSome (slice_get (pending_in self.old.far) number)
             (GoesOnIfMay S.may_tell answer self.old self.new)) }
-        ensures stopped { OnErr result (GoesOn S.may_tell self.old self.new) }
+        ensures stopped { OnErr result
+            (GoesOn S.may_tell self.old self.new) }
         ensures client { self.new.client ≡ self.old.client }
-        ensures planned { self.new.planned ≡ self.old.planned }
+        ensures planned { self.new.planned
+            ≡ self.old.planned }
     {
         self.hand.answer(number, answer)
     }
@@ -265,7 +277,8 @@ impl<'p, S: LocalSource> ByHand<'p, S> {
     /// in the logs as not stored.
     pub fn into_client(self) -> ClientSession<S>
         ensures client { result ≡ self.entry.client }
-        ensures stopped { GivesUp S.may_tell self.entry result }
+        ensures stopped { GivesUp S.may_tell
+            self.entry result }
     {
         let ByHand {
             alloc,

@@ -81,7 +81,8 @@ impl<S> ClientSession<S> {
     /// The limit is for what may grow without bound: a refusal has at most one name of the query, and that of
     /// an answer 42 bytes.
     pub fn limit_answers(&mut self, most: Option<usize>)
-        ensures { self.new ≡ client_of self.old.server most self.old.session }
+        ensures { self.new ≡ client_of
+            self.old.server most self.old.session }
     {
         self.max_answer = most;
     }
@@ -89,7 +90,8 @@ impl<S> ClientSession<S> {
     /// The server.
     pub fn server(&self) -> &Server
         ensures server { result.now ≡ self.now.server }
-        ensures loaders { HasLoaders self.now.server self.now.session }
+        ensures loaders { HasLoaders
+            self.now.server self.now.session }
     {
         self.documents.server()
     }
@@ -126,7 +128,8 @@ impl<S> ClientSession<S> {
     /// Starts again: nothing is known of any key, the logs are empty, and no round was made. The documents stay. When out of memory,
     /// nothing is changed.
     pub fn restart(&mut self) -> Result<(), AllocError>
-        ensures begun { OnOk result (self.new ≡ begun self.old) }
+        ensures begun { OnOk result
+            (self.new ≡ begun self.old) }
         ensures kept { OnErr result (self.new ≡ self.old) }
     {
         self.session.restart()
@@ -177,7 +180,8 @@ impl<S> ClientSession<S> {
     ///
     /// Only when out of memory.
     pub fn plan_text(&mut self, text: &[u8]) -> Result<PlannedRequest, AllocError>
-        ensures planned { IfOk result (PlansAsked self.old (asked_text text.now)) }
+        ensures planned { IfOk result
+            (PlansAsked self.old (asked_text text.now)) }
         ensures fits { IfOk result (λ planned. planned.loaders ≤ length self.new.session.loaders) }
         ensures same { self.new ≡ self.old }
     {
@@ -201,7 +205,8 @@ impl<S> ClientSession<S> {
     /// Tells whether this client's session has the loaders of what was planned. It has those of what it planned itself, and of what was
     /// planned by another client of its server.
     pub fn can_answer(&self, planned: &PlannedRequest) -> bool
-        ensures { (result ≡ true) ↔ (planned.now.loaders ≤ length self.now.session.loaders) }
+        ensures { (result ≡ true) ↔ (planned.now.loaders
+            ≤ length self.now.session.loaders) }
     {
         planned.loaders() <= self.session.loaders().len()
     }
@@ -221,8 +226,10 @@ impl<S: LocalSource> ClientSession<S> {
         F: Fn(&mut Session<S>, &LimitedPlan<'_>) -> Result<Answer, AllocError>,
         G: Fn(&mut Session<S>, &[LimitedPlan<'_>]) -> Result<Vec<Answer>, AllocError>,
     >(&mut self, runner: &BatchRunner<F, G>, asked: RequestInput<'_>) -> Result<Answer, AllocError>
-        requires one { RunsEach S.may_tell (F.pre runner.now.one) (F.post runner.now.one) }
-        requires all { RunsAll S.may_tell (G.pre runner.now.all) (G.post runner.now.all) }
+        requires one { RunsEach S.may_tell
+            (F.pre runner.now.one) (F.post runner.now.one) }
+        requires all { RunsAll S.may_tell
+            (G.pre runner.now.all) (G.post runner.now.all) }
         ensures answered { IfOk result (λ answer.
             Answers S.may_tell self.old asked.entry (report_of answer) self.new.session) }
         ensures stopped { OnErr result (Stops S.may_tell self.old asked.entry self.new.session) }

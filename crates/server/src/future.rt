@@ -39,8 +39,10 @@ impl<S> ClientSession<S> {
     /// `value` of the future's `poll`, by `Gives`: the client is handed back with that answer, or with what stays
     /// where memory ran out
     pub fn into_answering<'p>(self, planned: &'p PlannedRequest) -> ClientAnswering<'p, S>
-        requires { planned.now.loaders ≤ length self.session.loaders }
-        ensures begun { result.by_hand ≡ Some (by_hand_of self planned.now handed) }
+        requires { planned.now.loaders
+            ≤ length self.session.loaders }
+        ensures begun { result.by_hand
+            ≡ Some (by_hand_of self planned.now handed) }
         ensures can { CanPoll result.by_hand }
     {
         ClientAnswering {
@@ -55,8 +57,10 @@ impl<'p, S: LocalSource> ClientAnswering<'p, S> {
     // Takes the client out, which is handed in until then.
     fn take_client(&mut self) -> ClientSession<S>
         requires { IsSome self.old.by_hand }
-        ensures client { IfSome self.old.by_hand (λ b. result ≡ b.client) }
-        ensures stopped { IfSome self.old.by_hand (λ b. GivesUp S.may_tell b result) }
+        ensures client { IfSome self.old.by_hand
+            (λ b. result ≡ b.client) }
+        ensures stopped { IfSome self.old.by_hand
+            (λ b. GivesUp S.may_tell b result) }
     {
         let Some(by_hand) = self.by_hand.take() else {
             unreachable!()
@@ -78,13 +82,17 @@ impl<'p, S: LocalSource + Drop> Future for ClientAnswering<'p, S> {
 
     fn poll(&mut self, cx: &mut Context<'_>) -> Poll<(ClientSession<S>, Result<Answer, AllocError>)>
         requires { CanPoll self.old.by_hand }
-        ensures value { IfReady result (λ out. Gives S.may_tell self.old.by_hand out) }
-        ensures again { OnPending result (CanPoll self.new.by_hand) }
+        ensures value { IfReady result
+            (λ out. Gives S.may_tell self.old.by_hand out) }
+        ensures again { OnPending result
+            (CanPoll self.new.by_hand) }
         ensures same { OnPending result ((out : _) → Gives S.may_tell self.new.by_hand out
             → Gives S.may_tell self.old.by_hand out) }
-        ensures registered { OnPending result (Covers cx.new (λ _. ⊥)) }
+        ensures registered { OnPending result
+            (Covers cx.new (λ _. ⊥)) }
         ensures kept { Keeps cx.old cx.new }
-        ensures yielded { OnPending result (cx.new.is_woken ≡ true) }
+        ensures yielded { OnPending result
+            (cx.new.is_woken ≡ true) }
     {
         let Some(by_hand) = &mut self.by_hand else {
             unreachable!()

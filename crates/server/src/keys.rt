@@ -59,8 +59,10 @@ impl<S> ClientSession<S> {
     pub fn clear_all(&mut self, loader: usize) -> Result<(), SessionFault>
         ensures no_loader { IsErrOf result SessionFault.NoSuchLoader
             ↔ (length self.old.session.loaders ≤ loader) }
-        ensures refused { OnErr result (self.new ≡ self.old) }
-        ensures no_other { IsErrOf result SessionFault.NoMemory → ⊥ }
+        ensures refused { OnErr result
+            (self.new ≡ self.old) }
+        ensures no_other { IsErrOf result
+            SessionFault.NoMemory → ⊥ }
         ensures after { OnOk result (IsClientCall any_tell (ClearingAll loader) self.old self.new) }
         ensures same { IsSameClient self.old self.new }
     {
@@ -81,8 +83,8 @@ impl<S: LocalSource> ClientSession<S> {
         ensures refused { IsErrOf result SessionFault.NoSuchLoader → self.new ≡ self.old }
         ensures no_memory { IsErrOf result SessionFault.NoMemory
             → IsClientCall S.may_tell (StoppedLoading loader (key_of key ∷ [])) self.old self.new }
-        ensures loaded { IfOk result (λ outcome. IsClientCall S.may_tell (Loading loader (key_of key ∷ []) (outcome_of outcome ∷ []))
-            self.old self.new) }
+        ensures loaded { IfOk result (λ outcome. IsClientCall S.may_tell
+            (Loading loader (key_of key ∷ []) (outcome_of outcome ∷ [])) self.old self.new) }
         ensures same { IsSameClient self.old self.new }
     {
         self.session.load(loader, key)
@@ -98,10 +100,10 @@ impl<S: LocalSource> ClientSession<S> {
         ensures no_loader { IsErrOf result SessionFault.NoSuchLoader
             ↔ (length self.old.session.loaders ≤ loader) }
         ensures refused { IsErrOf result SessionFault.NoSuchLoader → self.new ≡ self.old }
-        ensures no_memory { IsErrOf result SessionFault.NoMemory
-            → IsClientCall S.may_tell (StoppedLoading loader (map key_of keys.now)) self.old self.new }
-        ensures loaded { IfOk result (λ outcomes. IsClientCall S.may_tell (Loading loader (map key_of keys.now) (map outcome_of outcomes.items))
-            self.old self.new) }
+        ensures no_memory { IsErrOf result SessionFault.NoMemory → IsClientCall S.may_tell
+            (StoppedLoading loader (map key_of keys.now)) self.old self.new }
+        ensures loaded { IfOk result (λ outcomes. IsClientCall S.may_tell (Loading loader
+            (map key_of keys.now) (map outcome_of outcomes.items)) self.old self.new) }
         ensures same { IsSameClient self.old self.new }
     {
         self.session.load_many(loader, keys)

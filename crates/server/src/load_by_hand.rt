@@ -1,9 +1,9 @@
 //! A client that loads keys by hand: the caller asks their source itself.
 
-ghost use Rattle.std.specs.Prelude.{◌≡◌, ◌≤◌, ◌<◌, ◌↔◌, length, map, true, slice_get, IfOk, IfSome, OnOk, OnErr, IsErrOf};
+ghost use Rattle.std.specs.Prelude.{◌≡◌, ◌<◌, length, map, slice_get, IfOk, IfSome, OnOk, OnErr};
 ghost use Rattle.load_memory.specs.Keys.{key_of};
 ghost use Rattle.rounds_by_hand.specs.LoadHands.{handed, over, load_pending_in};
-ghost use Rattle.rounds_by_hand.specs.Pending.{TakesAnswer, is_in_at};
+ghost use Rattle.rounds_by_hand.specs.Pending.{RefusesAnswer, TakesAnswer};
 ghost use Rattle.server.specs.Clients.{IsSameClient};
 
 use crate::client::ClientSession;
@@ -57,7 +57,8 @@ impl<S> ClientSession<S> {
     /// [session](ClientSession::session) tells how many there are.
     pub fn load_by_hand(self, loader: usize, keys: Vec<Key>) -> LoadByHand<S>
         requires { loader < length self.session.loaders }
-        ensures { result ≡ load_by_hand_of self loader (map key_of keys.items) handed }
+        ensures { result ≡ load_by_hand_of self loader
+            (map key_of keys.items) handed }
     {
         let ClientSession {
             alloc,
@@ -79,7 +80,8 @@ impl<S> ClientSession<S> {
 impl<S> LoadByHand<S> {
     /// The orders of the round that is out, each with its reply once it is answered. There are none where no round is out.
     pub fn orders(&self) -> &[Pending]
-        ensures { result.now ≡ load_pending_in self.now.far }
+        ensures { result.now
+            ≡ load_pending_in self.now.far }
     {
         self.hand.orders()
     }
@@ -98,10 +100,14 @@ impl<S: LocalSource> LoadByHand<S> {
     pub fn advance(&mut self) -> Result<LoadAdvance, AllocError>
         ensures advanced { IfOk result (AdvancesLoad (load_in self.old) (load_in self.new)) }
         ensures over { OnErr result (self.new.far ≡ over) }
-        ensures underway { LoadGoesOn S.may_tell (load_in self.old) (load_in self.new) }
-        ensures loaded { IfOk result (ClientLoads S.may_tell self.old self.new) }
-        ensures asked { IsSameLoad (load_in self.old) (load_in self.new) }
-        ensures same { IsSameClient self.old.client self.new.client }
+        ensures underway { LoadGoesOn S.may_tell
+            (load_in self.old) (load_in self.new) }
+        ensures loaded { IfOk result
+            (ClientLoads S.may_tell self.old self.new) }
+        ensures asked { IsSameLoad
+            (load_in self.old) (load_in self.new) }
+        ensures same { IsSameClient
+            self.old.client self.new.client }
     {
         self.hand.advance()
     }
@@ -115,10 +121,14 @@ impl<S: LocalSource> LoadByHand<S> {
     pub fn ask_and_advance(&mut self) -> Result<LoadAdvance, AllocError>
         ensures advanced { IfOk result (AsksAndAdvancesLoad (load_in self.old) (load_in self.new)) }
         ensures over { OnErr result (self.new.far ≡ over) }
-        ensures underway { LoadGoesOn S.may_tell (load_in self.old) (load_in self.new) }
-        ensures loaded { IfOk result (ClientLoads S.may_tell self.old self.new) }
-        ensures asked { IsSameLoad (load_in self.old) (load_in self.new) }
-        ensures same { IsSameClient self.old.client self.new.client }
+        ensures underway { LoadGoesOn S.may_tell
+            (load_in self.old) (load_in self.new) }
+        ensures loaded { IfOk result
+            (ClientLoads S.may_tell self.old self.new) }
+        ensures asked { IsSameLoad
+            (load_in self.old) (load_in self.new) }
+        ensures same { IsSameClient
+            self.old.client self.new.client }
     {
         self.hand.ask_and_advance()
     }
@@ -135,13 +145,8 @@ impl<S: LocalSource> LoadByHand<S> {
         number: usize,
         answer: Result<Vec<Item>, FetchFault>,
     ) -> Result<(), TakeFault>
-        ensures no_order { IsErrOf result TakeFault.NoSuchOrder
-            ↔ (length (load_pending_in self.old.far) ≤ number) }
-        ensures answered { IsErrOf result TakeFault.Answered
-            ↔ (is_in_at (slice_get (load_pending_in self.old.far) number) ≡ true) }
-        ensures none { IsErrOf result TakeFault.NoSuchOrder → self.new ≡ self.old }
-        ensures kept { IsErrOf result TakeFault.Answered → self.new ≡ self.old }
-        ensures over { IsErrOf result TakeFault.NoMemory → self.new.far ≡ over }
+        ensures refused { RefusesAnswer (load_pending_in self.old.far) number
+            self.old self.new (self.new.far ≡ over) result }
         ensures taken { OnOk result (TakesAnswer (load_pending_in self.old.far)
             number answer (load_pending_in self.new.far)) }
         // It is still as the sources may answer, if this answer is.
@@ -150,7 +155,8 @@ impl<S: LocalSource> LoadByHand<S> {
         ensures stopped { OnErr result
             (LoadGoesOn S.may_tell (load_in self.old) (load_in self.new)) }
         ensures client { self.new.client ≡ self.old.client }
-        ensures asked { IsSameLoad (load_in self.old) (load_in self.new) }
+        ensures asked { IsSameLoad
+            (load_in self.old) (load_in self.new) }
     {
         self.hand.answer(number, answer)
     }
@@ -158,7 +164,8 @@ impl<S: LocalSource> LoadByHand<S> {
     /// Gives the client back, whatever is done. A round that is out is lost, and its batches stay in the log as not stored.
     pub fn into_client(self) -> ClientSession<S>
         ensures client { result ≡ self.client }
-        ensures stopped { ClientStopsLoad S.may_tell self result }
+        ensures stopped { ClientStopsLoad
+            S.may_tell self result }
     {
         let LoadByHand {
             alloc,

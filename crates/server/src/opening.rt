@@ -37,7 +37,8 @@ pub trait Sessions {
 
 // Returns how the keys of a line's loader are compared.
 fn mode_of(line: &LoaderLine) -> KeyMode
-    ensures { result ≡ mode_of (option_map by_of line.now.by) }
+    ensures { result ≡ mode_of
+        (option_map by_of line.now.by) }
 {
     match &line.by {
         Some(By { fold: true, .. }) => KeyMode::FoldAscii,
@@ -53,8 +54,10 @@ impl Sessions for Server {
         mut source: F,
     ) -> Result<ClientSession<S>, QueueFault>
         requires { F.IsAlwaysCallable source }
-        ensures server { IfOk result (λ client. client.server ≡ self.now) }
-        ensures unlimited { IfOk result (λ client. client.most ≡ None) }
+        ensures server { IfOk result
+            (λ client. client.server ≡ self.now) }
+        ensures unlimited { IfOk result
+            (λ client. client.most ≡ None) }
         ensures empty { IfOk result (λ client.
             (client.session.pairs ≡ []) × (client.session.rounds ≡ 0)) }
         ensures loaders { IfOk result (λ client.

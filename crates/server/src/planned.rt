@@ -110,7 +110,8 @@ pub(crate) fn plan_several(
 
 /// Returns what is no request asks nothing: it is refused.
 pub(crate) fn plan_none(alloc: Global) -> Result<ArrayPlan, AllocError>
-    ensures { (s : ServerOf) → IfOk result (PlansArray s (None ∷ [])) }
+    ensures { (s : ServerOf)
+        → IfOk result (PlansArray s (None ∷ [])) }
 {
     let text = not_a_request(alloc)?;
     plan_alone(alloc, RequestPlan::Refused(text))
@@ -127,10 +128,14 @@ impl PlannedRequest {
         is_array: bool,
         most: Option<usize>,
     ) -> Result<PlannedRequest, AllocError>
-        requires { All (λ plan. plan.bindings ≡ server.now.bindings) (plans_of array) }
-        ensures many { IfOk result (λ planned. planned.many ≡ is_array) }
-        ensures refusals { IfOk result (λ planned. planned.refusals ≡ refusals_of array) }
-        ensures plans { IfOk result (λ planned. AreBounded most (plans_of array) planned.plans) }
+        requires { All (λ plan. plan.bindings
+            ≡ server.now.bindings) (plans_of array) }
+        ensures many { IfOk result
+            (λ planned. planned.many ≡ is_array) }
+        ensures refusals { IfOk result (λ planned.
+            planned.refusals ≡ refusals_of array) }
+        ensures plans { IfOk result (λ planned. AreBounded
+            most (plans_of array) planned.plans) }
         ensures loaders { IfOk result (λ planned.
             planned.loaders ≡ length server.now.bindings.loaders) }
     {
@@ -174,7 +179,8 @@ impl PlannedRequest {
 
     // The refusal of one request.
     fn refusal(&self, alloc: Global) -> Result<Answer, AllocError>
-        ensures { IfOk result (λ answer. IsOneResponse self.now.refusals [] (report_of answer)) }
+        ensures { IfOk result (λ answer. IsOneResponse
+            self.now.refusals [] (report_of answer)) }
     {
         let text = match self.refusals.first() {
             Some(Some(text)) => text.clone()?,

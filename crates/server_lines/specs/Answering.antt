@@ -20,7 +20,9 @@ at_memory runs_out NoMemory f line g = runs_out f line g
 at_memory runs_out TraceFault f line g = ⊥
 
 -- a call of f with this line may give this text, and leave g
-pub record Gives {F : Type 0} (m : Mut F (Bor (List ℕ) × Unit {0}) (Result (String Global) LineFault)) (f : F) (line text : List ℕ) (g : F) : Type 0 where
+pub record Gives {F : Type 0}
+    (m : Mut F (Bor (List ℕ) × Unit {0}) (Result (String Global) LineFault)) (f : F)
+    (line text : List ℕ) (g : F) : Type 0 where
   pub given : String Global
   pub called : CalledAt m f line (Ok given) g
   pub bytes : string_bytes given ≡ text

@@ -52,7 +52,8 @@ interrupted_after (Err Interrupted) interrupted = counted interrupted
 interrupted_after (Err Failed) interrupted = 0
 
 -- one call was counted, and what came of it
-pub record CountsCall {D : Type 0} (old new : DeviceCalls D) (outcome : Result ℕ CallFault) : Type 0 where
+pub record CountsCall {D : Type 0} (old new : DeviceCalls D)
+    (outcome : Result ℕ CallFault) : Type 0 where
   pub calls : new.calls ≡ counted old.calls
   pub given : new.given ≡ given_after outcome old.given
   pub failed : new.failed ≡ failed_after outcome old.failed
@@ -85,6 +86,11 @@ counts_of c = record {
   flushed = c.called.flushed;
 }
 
+-- a device has counted nothing yet
+abbrev pub nothing_counted : CountsOf
+nothing_counted =
+    record { faults = 0; calls = 0; given = 0; failed = 0; interrupted = 0; flushed = true }
+
 -- a reader met a bound, and is called no more
 abbrev pub IsReadOut : CountsOf → Type 0
 IsReadOut c = (bound ≤ c.calls) ⊎ (bound ≤ c.given)
@@ -110,7 +116,8 @@ pub record HasFault (IsMet : CountsOf → Type 0) (old new : CountsOf) : Type 0 
 -- one fault was counted where the call failed
 abbrev pub CountsFaults : {T E : Type 0} → (CountsOf → Type 0)
     → CountsOf → CountsOf → Result T E → Type 0
-CountsFaults IsMet old new result = MatchResult result (λ _. IsSteady old new) (λ _. HasFault IsMet old new)
+CountsFaults IsMet old new result =
+    MatchResult result (λ _. IsSteady old new) (λ _. HasFault IsMet old new)
 
 -- says what a call of a reader that gave n bytes counts: it was within the bounds
 pub record CountsRead {D : Type 0} (old new : CountedDevice D) (n : ℕ) : Type 0 where

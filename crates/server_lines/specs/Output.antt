@@ -27,9 +27,11 @@ IsCut old new text = (out : List ℕ) × (rest : List ℕ) × Cuts old new text 
 -- the pending text and this text were sent, or are pending later
 abbrev pub SendsBy : {D : Type 0} → (D → Option (List ℕ))
     → CountedDevice D → Vec ℕ → CountedDevice D → Vec ℕ → List ℕ → Type 0
-SendsBy contents old pending new later text = Sends (contents (device_of old)) pending.items (contents (device_of new)) later.items text
+SendsBy contents old pending new later text =
+    Sends (contents (device_of old)) pending.items (contents (device_of new)) later.items text
 
 -- a front of what was pending and the text went out
 abbrev pub CutsBy : {D : Type 0} → (D → Option (List ℕ))
     → CountedDevice D → Vec ℕ → CountedDevice D → List ℕ → Type 0
-CutsBy contents old pending new text = IsCut (contents (device_of old)) (contents (device_of new)) (pending.items ++ text)
+CutsBy contents old pending new text =
+    IsCut (contents (device_of old)) (contents (device_of new)) (pending.items ++ text)

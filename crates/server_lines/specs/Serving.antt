@@ -56,7 +56,8 @@ Stopped A f g text Sent Cut Read AtEnd fault = (s : FrontOf A f text) × AtFault
     (λ e. IsStopped A e s.state s.rest AtEnd g × Sent s.output × IsUnanswered s.rest)
 
 -- each line of the text was answered, and this many there were
-pub record IsAnswered {F : Type 0} (A : AnsweringOf F) (f g : F) (text : List ℕ) (n : ℕ) (Sent : List ℕ → Type 0) : Type 0 where
+pub record IsAnswered {F : Type 0} (A : AnsweringOf F) (f g : F) (text : List ℕ) (n : ℕ)
+    (Sent : List ℕ → Type 0) : Type 0 where
   pub each : All IsLine (input_lines text)
   pub count : n ≡ length (input_lines text)
   pub output : List ℕ
@@ -64,7 +65,8 @@ pub record IsAnswered {F : Type 0} (A : AnsweringOf F) (f g : F) (text : List �
   pub sent : Sent output
 
 -- the writer failed after the input was read to its end, where the last line may have no line feed
-pub record FailsAtEnd {F : Type 0} (A : AnsweringOf F) (f g : F) (text : List ℕ) (Cut : List ℕ → Type 0) (remaining : Option (List ℕ)) : Type 0 where
+pub record FailsAtEnd {F : Type 0} (A : AnsweringOf F) (f g : F) (text : List ℕ)
+    (Cut : List ℕ → Type 0) (remaining : Option (List ℕ)) : Type 0 where
   pub end : IsAtEnd remaining
   pub output : List ℕ
   pub answers : IsOutput A f text output g
@@ -80,17 +82,20 @@ Fails A f g text Sent Cut remaining fault =
 -- The writer counted one fault where serving stopped at its fault, and none elsewhere.
 abbrev pub WriterCounts : {T : Type 0} → CountsOf → CountsOf → Result T ServeFault → Type 0
 WriterCounts old new result = MatchResult result (λ _. IsSteady old new)
-    (λ fault. AtFault fault (IsSteady old new) (IsSteady old new) (HasFault IsStuck old new) (λ _. IsSteady old new))
+    (λ fault. AtFault fault (IsSteady old new) (IsSteady old new) (HasFault IsStuck old new)
+    (λ _. IsSteady old new))
 
 -- The reader counted one fault where serving stopped at its fault, and none elsewhere, unless the writer failed after it.
 abbrev pub ReaderCounts : {T : Type 0} → CountsOf → CountsOf → Result T ServeFault → Type 0
 ReaderCounts old new result = MatchResult result (λ _. IsSteady old new)
-    (λ fault. AtFault fault (IsSteady old new) (HasFault IsReadOut old new) (IsSteady old new ⊎ HasFault IsReadOut old new) (λ _. IsSteady old new))
+    (λ fault. AtFault fault (IsSteady old new) (HasFault IsReadOut old new)
+    (IsSteady old new ⊎ HasFault IsReadOut old new) (λ _. IsSteady old new))
 
 -- All that was written was flushed, unless the writer failed.
 abbrev pub WriterFlushed : {T : Type 0} → CountsOf → Result T ServeFault → Type 0
 WriterFlushed counts result = MatchResult result (λ _. IsFlushed counts)
-    (λ fault. AtFault fault (IsFlushed counts) (IsFlushed counts) (Unit {0}) (λ _. IsFlushed counts))
+    (λ fault.
+    AtFault fault (IsFlushed counts) (IsFlushed counts) (Unit {0}) (λ _. IsFlushed counts))
 
 -- ---- lines and blocks, by a counted writer with what is pending before and later
 
@@ -98,13 +103,16 @@ WriterFlushed counts result = MatchResult result (λ _. IsFlushed counts)
 abbrev pub FailsAnswer : {F D : Type 0} → AnsweringOf F → F → F → List ℕ → (D → Option (List ℕ))
     → CountedDevice D → Vec ℕ → CountedDevice D → Vec ℕ → ServeFault → Type 0
 FailsAnswer A f g line contents old pending new later fault =
-    AtFault fault ⊥ ⊥ (WithAnswer A f line g (CutsBy contents old pending new)) (λ e. A.stops e f line g × SendsBy contents old pending new later [])
+    AtFault fault ⊥ ⊥ (WithAnswer A f line g (CutsBy contents old pending new))
+    (λ e. A.stops e f line g × SendsBy contents old pending new later [])
 
 -- says the same of the last line, where there is one
 abbrev pub FailsLast : {F D : Type 0} → AnsweringOf F → F → F → Vec ℕ → (D → Option (List ℕ))
     → CountedDevice D → Vec ℕ → CountedDevice D → Vec ℕ → ServeFault → Type 0
 FailsLast A f g last contents old pending new later fault =
-    AtFault fault ⊥ ⊥ (WithAnswers A f (last_of last.items) g (CutsBy contents old pending new)) (λ e. (last.items ≢ []) × A.stops e f last.items g × SendsBy contents old pending new later [])
+    AtFault fault ⊥ ⊥ (WithAnswers A f (last_of last.items) g (CutsBy contents old pending new))
+    (λ e. (last.items ≢ []) × A.stops e f last.items g
+    × SendsBy contents old pending new later [])
 
 -- the line that was held with its end isn't too long, its answer was sent, and nothing is held
 abbrev pub Ends : {F D : Type 0} → AnsweringOf F → F → F → Vec ℕ → List ℕ → Vec ℕ
@@ -120,8 +128,10 @@ abbrev pub FailsLine : {F D : Type 0} → AnsweringOf F → F → F → Vec ℕ 
 FailsLine A f g held end contents old pending new later fault = AtFault fault
     ((g ≡ f) × SendsBy contents old pending new later [] × (limit < length (held.items ++ end)))
     ⊥
-    ((length (held.items ++ end) ≤ limit) × WithAnswer A f (held.items ++ end) g (CutsBy contents old pending new))
-    (λ e. (length (held.items ++ end) ≤ limit) × StopsOne A e f (held.items ++ end) g × SendsBy contents old pending new later [])
+    ((length (held.items ++ end) ≤ limit)
+    × WithAnswer A f (held.items ++ end) g (CutsBy contents old pending new))
+    (λ e. (length (held.items ++ end) ≤ limit) × StopsOne A e f (held.items ++ end) g
+    × SendsBy contents old pending new later [])
 
 -- of what was held and the block this many lines end, their answers were sent, and the rest is held
 abbrev pub Feeds : {F D : Type 0} → AnsweringOf F → F → F → Vec ℕ → List ℕ → Vec ℕ
@@ -130,12 +140,26 @@ Feeds A f g held block left contents old pending new later n =
     (lines : List (List ℕ)) × Splits (held.items ++ block) lines left.items
     × (n ≡ length lines) × WithAnswers A f lines g (SendsBy contents old pending new later)
 
+-- the start of a line that is held, and a block that was read behind it
+pub record IsNextBlock (held block : List ℕ) : Type 0 where
+  pub line : IsLine held
+  pub few : length block ≤ block_size
+
+-- the block was fed: what is held now is the start of a line, and the block has no more lines than bytes
+pub record FeedsBlock {F D : Type 0} (A : AnsweringOf F) (f g : F) (held : Vec ℕ) (block : List ℕ)
+    (left : Vec ℕ) (contents : D → Option (List ℕ)) (old : CountedDevice D) (pending : Vec ℕ)
+    (new : CountedDevice D) (later : Vec ℕ) (n : ℕ) : Type 0 where
+  pub fed : Feeds A f g held block left contents old pending new later n
+  pub line : IsLine left.items
+  pub count : n ≤ length block
+
 -- a fault among the lines of what was held and the block, which isn't the reader's
 abbrev pub StopsFeeding : {F D : Type 0} → AnsweringOf F → F → F → Vec ℕ → List ℕ
     → (D → Option (List ℕ)) → CountedDevice D → Vec ℕ
     → CountedDevice D → Vec ℕ → ServeFault → Type 0
 StopsFeeding A f g held block contents old pending new later =
-    Stopped A f g (held.items ++ block) (SendsBy contents old pending new later) (CutsBy contents old pending new) (λ _. ⊥) ⊥
+    Stopped A f g (held.items ++ block) (SendsBy contents old pending new later)
+    (CutsBy contents old pending new) (λ _. ⊥) ⊥
 
 -- the last line was answered, where there is one, and n are it and the lines before
 abbrev pub EndsAll : {F D : Type 0} → AnsweringOf F → F → F → Vec ℕ → ℕ
@@ -202,8 +226,17 @@ IsBounded c = (c.calls ≤ bound) × (c.given < bound)
 abbrev pub HasGrown : CountsOf → CountsOf → Type 0
 HasGrown old new = (old.calls ≤ new.calls) × (old.given ≤ new.given)
 
+-- what was counted of the reader and the writer while lines were served
+pub record CountsServing {T : Type 0} (reader_old reader_new writer_old writer_new : CountsOf)
+    (result : Result T ServeFault) : Type 0 where
+  pub reader : ReaderCounts reader_old reader_new result
+  pub writer : WriterCounts writer_old writer_new result
+  pub bounded : OnOk result (IsBounded reader_new)
+  pub grown : HasGrown reader_old reader_new
+
 -- Each line of the reader is answered by a line to the writer, and the states go from f to g.
-pub record Serves {F : Type 0} (A : AnsweringOf F) (f g : F) (d : DevicesOf) (result : Result ℕ ServeFault) : Type 0 where
+pub record Serves {F : Type 0} (A : AnsweringOf F) (f g : F) (d : DevicesOf)
+    (result : Result ℕ ServeFault) : Type 0 where
   pub all : IfOk result (ServesAll A f g d)
   pub stopped : IfErr result (StopsServing A f g d)
   pub reader : ReaderCounts d.reader_old d.reader_new result

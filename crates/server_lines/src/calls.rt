@@ -33,8 +33,10 @@ impl<D> DeviceCalls<D> {
     /// A device that wasn't called yet.
     pub fn new(device: D) -> DeviceCalls<D>
         ensures device { result.device ≡ device }
-        ensures calls { (result.calls ≡ 0) × (result.given ≡ 0) }
-        ensures faults { (result.failed ≡ 0) × (result.interrupted ≡ 0) }
+        ensures calls { (result.calls ≡ 0)
+            × (result.given ≡ 0) }
+        ensures faults { (result.failed ≡ 0)
+            × (result.interrupted ≡ 0) }
         ensures flushed { result.flushed ≡ true }
     {
         DeviceCalls {
@@ -80,8 +82,10 @@ impl<D> DeviceCalls<D> {
     fn count_fault(&mut self, fault: CallFault)
         ensures same { (self.new.device ≡ self.old.device)
             × (self.new.calls ≡ self.old.calls) × (self.new.given ≡ self.old.given) }
-        ensures flushed { self.new.flushed ≡ self.old.flushed }
-        ensures failed { self.new.failed ≡ failed_after (Err fault) self.old.failed }
+        ensures flushed { self.new.flushed
+            ≡ self.old.flushed }
+        ensures failed { self.new.failed
+            ≡ failed_after (Err fault) self.old.failed }
         ensures interrupted { self.new.interrupted
             ≡ interrupted_after (Err fault) self.old.interrupted }
     {
@@ -101,8 +105,10 @@ impl<D> DeviceCalls<D> {
     // Counts a call.
     fn count(&mut self, outcome: Result<usize, CallFault>)
         ensures device { self.new.device ≡ self.old.device }
-        ensures flushed { self.new.flushed ≡ self.old.flushed }
-        ensures counts { CountsCall self.old self.new outcome }
+        ensures flushed { self.new.flushed
+            ≡ self.old.flushed }
+        ensures counts { CountsCall
+            self.old self.new outcome }
     {
         let calls = &mut self.calls;
         *calls = calls.saturating_add(1);
@@ -122,8 +128,10 @@ impl<R: Read> DeviceCalls<R> {
     pub fn read(&mut self, block: &mut [u8]) -> Result<usize, CallFault>
         ensures bytes { ReadConsumes (R.remaining self.old.device)
             (R.remaining self.new.device) result block.new }
-        ensures within { IfOk result (λ n. n ≤ length block.new) }
-        ensures counts { CountsCall self.old self.new result }
+        ensures within { IfOk result
+            (λ n. n ≤ length block.new) }
+        ensures counts { CountsCall
+            self.old self.new result }
     {
         let outcome = match self.device.read(block) {
             Ok(n) => Ok(n),
@@ -141,8 +149,10 @@ impl<W: Write> DeviceCalls<W> {
         requires { 0 < length bytes.now }
         ensures bytes { WriteAppends (W.contents self.old.device)
             (W.contents self.new.device) result bytes.now }
-        ensures some { IfOk result (λ n. (0 < n) × (n ≤ length bytes.now)) }
-        ensures counts { CountsCall self.old self.new result }
+        ensures some { IfOk result
+            (λ n. (0 < n) × (n ≤ length bytes.now)) }
+        ensures counts { CountsCall
+            self.old self.new result }
         ensures flushed { self.new.flushed ≡ false }
     {
         let outcome = match self.device.write(bytes) {
@@ -158,8 +168,10 @@ impl<W: Write> DeviceCalls<W> {
 
     /// Flushes the writer. A flush that is interrupted has failed.
     pub fn flush(&mut self) -> Result<(), CallFault>
-        ensures bytes { Keeps (W.contents self.old.device) (W.contents self.new.device) }
-        ensures counts { CountsCall self.old self.new (flushed result) }
+        ensures bytes { Keeps (W.contents self.old.device)
+            (W.contents self.new.device) }
+        ensures counts { CountsCall self.old self.new
+            (flushed result) }
         ensures flushed { self.new.flushed ≡ is_ok result }
     {
         match self.device.flush() {

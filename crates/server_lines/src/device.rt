@@ -2,7 +2,7 @@
 
 ghost use Rattle.std.specs.Prelude.{◌≡◌, ℕ, List, ◌++◌, ◌<◌, ◌≤◌, ◌+◌, ◌-◌, ◌^◌, length, take, drop, OnOk, OnErr, IfOk, true};
 ghost use Rattle.std.specs.Io.KnownBytes.{Appends, Keeps, ReadConsumes, WriteAppends};
-ghost use Rattle.server_lines.specs.Devices.{device_of, faults_of, counts_of, counted, CountsFaults, IsFlushed, IsReadOut, IsStuck, CountsRead, CountsNone};
+ghost use Rattle.server_lines.specs.Devices.{device_of, faults_of, counts_of, counted, nothing_counted, CountsFaults, IsFlushed, IsReadOut, IsStuck, CountsRead, CountsNone};
 ghost use Rattle.server_lines.specs.Output.{IsCut};
 
 use crate::calls::{CallFault, DeviceCalls};
@@ -30,7 +30,8 @@ impl<D> CountedDevice<D> {
     /// A device without a fault.
     pub fn new(device: D) -> CountedDevice<D>
         ensures device { device_of result ≡ device }
-        ensures counts { counts_of result ≡ record { faults = 0; calls = 0; given = 0; failed = 0; interrupted = 0; flushed = true } }
+        ensures counts { counts_of result
+            ≡ nothing_counted }
     {
         CountedDevice {
             called: DeviceCalls::new(device),
@@ -56,7 +57,8 @@ impl<D> CountedDevice<D> {
     // Counts a fault.
     fn fault(&mut self) -> DeviceFault
         ensures called { self.new.called ≡ self.old.called }
-        ensures one { faults_of self.new ≡ counted (faults_of self.old) }
+        ensures one { faults_of self.new
+            ≡ counted (faults_of self.old) }
     {
         let faults = &mut self.faults;
         *faults = faults.saturating_add(1);
@@ -69,14 +71,17 @@ impl<R: Read> CountedDevice<R> {
     pub fn read(&mut self, block: &mut [u8]) -> Result<usize, DeviceFault>
         ensures bytes { ReadConsumes (R.remaining (device_of self.old))
             (R.remaining (device_of self.new)) result block.new }
-        ensures within { IfOk result (λ n. n ≤ length block.new) }
+        ensures within { IfOk result
+            (λ n. n ≤ length block.new) }
 
         // A fault is that of a call which failed, or a bound was met.
         ensures faults { CountsFaults IsReadOut (counts_of self.old) (counts_of self.new) result }
 
         // Past a bound nothing is read any more.
-        ensures ok { IfOk result (CountsRead self.old self.new) }
-        ensures err { OnErr result (CountsNone self.old self.new) }
+        ensures ok { IfOk result
+            (CountsRead self.old self.new) }
+        ensures err { OnErr result
+            (CountsNone self.old self.new) }
     {
         while self.called.calls() < BOUND && self.called.bytes_given() < BOUND {
             match self.called.read(block) {
@@ -95,7 +100,8 @@ impl<W: Write> CountedDevice<W> {
         requires { 0 < length bytes.now }
         ensures bytes { WriteAppends (W.contents (device_of self.old))
             (W.contents (device_of self.new)) result bytes.now }
-        ensures some { IfOk result (λ n. (0 < n) × (n ≤ length bytes.now)) }
+        ensures some { IfOk result
+            (λ n. (0 < n) × (n ≤ length bytes.now)) }
         ensures faults { CountsFaults IsStuck (counts_of self.old) (counts_of self.new) result }
     {
         while self.called.interruptions() < BOUND {
@@ -136,7 +142,8 @@ impl<W: Write> CountedDevice<W> {
     pub fn flush(&mut self) -> Result<(), DeviceFault>
         ensures bytes { Keeps (W.contents (device_of self.old)) (W.contents (device_of self.new)) }
         ensures faults { CountsFaults IsStuck (counts_of self.old) (counts_of self.new) result }
-        ensures flushed { OnOk result (IsFlushed (counts_of self.new)) }
+        ensures flushed { OnOk result
+            (IsFlushed (counts_of self.new)) }
     {
         match self.called.flush() {
             Ok(()) => Ok(()),

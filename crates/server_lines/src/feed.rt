@@ -3,8 +3,8 @@
 ghost use Rattle.std.specs.Prelude.{◌≡◌, ◌++◌, ◌<◌, ◌≤◌, ◌+◌, ◌-◌, ◌^◌, length, OnOk, IfOk, IfErr};
 ghost use Rattle.server_lines.specs.Answering.{by_calls};
 ghost use Rattle.server_lines.specs.Devices.{counts_of};
-ghost use Rattle.server_lines.specs.Lines.{limit, IsLine};
-ghost use Rattle.server_lines.specs.Serving.{block_size, Ends, EndsAll, FailsLast, FailsLine, Feeds, StopsFeeding, WriterCounts};
+ghost use Rattle.server_lines.specs.Lines.{limit};
+ghost use Rattle.server_lines.specs.Serving.{Ends, EndsAll, FailsLast, FailsLine, FeedsBlock, IsNextBlock, StopsFeeding, WriterCounts};
 
 use crate::device::CountedDevice;
 use crate::fault::{LineFault, ServeFault};
@@ -25,11 +25,12 @@ fn finish_line<F: FnMut(&[u8]) -> Result<String, LineFault>, W: Write>(
 ) -> Result<(), ServeFault>
     requires callable { F.IsAlwaysCallable answer.old }
     requires held { length held.old.items ≤ limit }
-    ensures ok { OnOk result (Ends (by_calls F.FnMut) answer.old answer.new held.old line.now held.new
-        W.contents writer.old pending.old writer.new pending.new) }
+    ensures ok { OnOk result (Ends (by_calls F.FnMut) answer.old answer.new held.old
+        line.now held.new W.contents writer.old pending.old writer.new pending.new) }
     ensures err { IfErr result (FailsLine (by_calls F.FnMut) answer.old answer.new held.old line.now
         W.contents writer.old pending.old writer.new pending.new) }
-    ensures faults { WriterCounts (counts_of writer.old) (counts_of writer.new) result }
+    ensures faults { WriterCounts (counts_of writer.old)
+        (counts_of writer.new) result }
     ensures callable { F.IsAlwaysCallable answer.new }
 {
     if line.len() > LIMIT - held.len() {
@@ -62,15 +63,13 @@ pub fn feed<F: FnMut(&[u8]) -> Result<String, LineFault>, W: Write>(
     block: &[u8],
 ) -> Result<usize, ServeFault>
     requires callable { F.IsAlwaysCallable answer.old }
-    requires held { IsLine held.old.items }
-    requires few { length block.now ≤ block_size }
-    ensures ok { IfOk result (Feeds (by_calls F.FnMut) answer.old answer.new held.old block.now held.new
-        W.contents writer.old pending.old writer.new pending.new) }
-    ensures held { OnOk result (IsLine held.new.items) }
-    ensures count { IfOk result (λ n. n ≤ length block.now) }
-    ensures err { IfErr result (StopsFeeding (by_calls F.FnMut) answer.old answer.new held.old block.now
-        W.contents writer.old pending.old writer.new pending.new) }
-    ensures faults { WriterCounts (counts_of writer.old) (counts_of writer.new) result }
+    requires block { IsNextBlock held.old.items block.now }
+    ensures ok { IfOk result (FeedsBlock (by_calls F.FnMut) answer.old answer.new held.old
+        block.now held.new W.contents writer.old pending.old writer.new pending.new) }
+    ensures err { IfErr result (StopsFeeding (by_calls F.FnMut) answer.old answer.new held.old
+        block.now W.contents writer.old pending.old writer.new pending.new) }
+    ensures faults { WriterCounts (counts_of writer.old)
+        (counts_of writer.new) result }
     ensures callable { F.IsAlwaysCallable answer.new }
 {
     let mut rest = block;
@@ -108,7 +107,8 @@ pub fn finish<F: FnMut(&[u8]) -> Result<String, LineFault>, W: Write>(
         W.contents writer.old pending.old writer.new pending.new) }
     ensures err { IfErr result (FailsLast (by_calls F.FnMut) answer.old answer.new held.now
         W.contents writer.old pending.old writer.new pending.new) }
-    ensures faults { WriterCounts (counts_of writer.old) (counts_of writer.new) result }
+    ensures faults { WriterCounts (counts_of writer.old)
+        (counts_of writer.new) result }
 {
     if held.is_empty() {
         return Ok(count);

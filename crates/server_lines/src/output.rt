@@ -40,7 +40,8 @@ pub fn send<W: Write>(
 
 // Adds a short text to what is pending, where there is room.
 fn keep(pending: &mut Vec<u8>, text: &[u8]) -> bool
-    ensures { pending.new.items ≡ (if result then pending.old.items ++ text.now else pending.old.items) }
+    ensures { pending.new.items
+        ≡ (if result then pending.old.items ++ text.now else pending.old.items) }
 {
     pending.len() < PENDING && text.len() < PENDING && pending.extend_from_slice(text).is_ok()
 }
@@ -106,7 +107,8 @@ pub fn answer_line<F: FnMut(&[u8]) -> Result<String, LineFault>, W: Write>(
         (SendsBy W.contents writer.old pending.old writer.new pending.new)) }
     ensures err { IfErr result (FailsAnswer (by_calls F.FnMut) answer.old answer.new line.now
         W.contents writer.old pending.old writer.new pending.new) }
-    ensures faults { WriterCounts (counts_of writer.old) (counts_of writer.new) result }
+    ensures faults { WriterCounts (counts_of writer.old)
+        (counts_of writer.new) result }
     ensures callable { F.IsAlwaysCallable answer.new }
 {
     match answer(line) {
@@ -128,7 +130,8 @@ pub fn close<W: Write>(
         (W.contents (device_of writer.new)) pending.old.items) }
     ensures err { OnErr result (IsCut (W.contents (device_of writer.old))
         (W.contents (device_of writer.new)) pending.old.items) }
-    ensures flushed { OnOk result (IsFlushed (counts_of writer.new)) }
+    ensures flushed { OnOk result
+        (IsFlushed (counts_of writer.new)) }
     ensures faults { CountsFaults IsStuck (counts_of writer.old) (counts_of writer.new) result }
 {
     match send(writer, pending) {

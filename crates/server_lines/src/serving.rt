@@ -1,10 +1,10 @@
 //! Serving: each line is answered by a line.
 
-ghost use Rattle.std.specs.Prelude.{◌≡◌, [], ◌++◌, ◌<◌, ◌≤◌, ◌+◌, ◌^◌, length, OnErr, OnOk, IfOk, IfErr, vec_len};
+ghost use Rattle.std.specs.Prelude.{◌≡◌, [], ◌++◌, ◌<◌, ◌≤◌, ◌+◌, ◌^◌, length, OnErr, IfOk, IfErr, vec_len};
 ghost use Rattle.std.specs.Io.KnownBytes.{ReadConsumes};
 ghost use Rattle.server_lines.specs.Answering.{by_calls};
 ghost use Rattle.server_lines.specs.Devices.{counts_of, device_of, devices, CountsFaults, CountsNone, CountsRead, IsReadOut};
-ghost use Rattle.server_lines.specs.Serving.{ServesBy, StopsBy, ServesAllBy, StopsServingBy, ReaderCounts, WriterCounts, WriterFlushed, IsBounded, HasGrown, Serves};
+ghost use Rattle.server_lines.specs.Serving.{ServesBy, StopsBy, ServesAllBy, StopsServingBy, CountsServing, WriterFlushed, Serves};
 
 use crate::device::{CountedDevice, DeviceFault};
 use crate::fault::{LineFault, ServeFault};
@@ -32,10 +32,13 @@ fn read_block<R: Read>(
     requires { pending.now.items ≡ [] }
     ensures bytes { ReadConsumes (R.remaining (device_of reader.old))
         (R.remaining (device_of reader.new)) result block.new }
-    ensures within { IfOk result (λ n. n ≤ length block.new) }
+    ensures within { IfOk result
+        (λ n. n ≤ length block.new) }
     ensures faults { CountsFaults IsReadOut (counts_of reader.old) (counts_of reader.new) result }
-    ensures ok { IfOk result (CountsRead reader.old reader.new) }
-    ensures err { OnErr result (CountsNone reader.old reader.new) }
+    ensures ok { IfOk result
+        (CountsRead reader.old reader.new) }
+    ensures err { OnErr result
+        (CountsNone reader.old reader.new) }
 {
     reader.read(block)
 }
@@ -57,10 +60,8 @@ fn serve_lines<F: FnMut(&[u8]) -> Result<String, LineFault>, R: Read, W: Write>(
         (devices R.remaining W.contents reader.old reader.new writer.old writer.new)) }
     ensures err { IfErr result (StopsBy F.FnMut answer.old answer.new pending.new
         (devices R.remaining W.contents reader.old reader.new writer.old writer.new)) }
-    ensures reader { ReaderCounts (counts_of reader.old) (counts_of reader.new) result }
-    ensures writer { WriterCounts (counts_of writer.old) (counts_of writer.new) result }
-    ensures bounded { OnOk result (IsBounded (counts_of reader.new)) }
-    ensures grown { HasGrown (counts_of reader.old) (counts_of reader.new) }
+    ensures counts { CountsServing (counts_of reader.old) (counts_of reader.new)
+        (counts_of writer.old) (counts_of writer.new) result }
 {
     let mut held = Vec::new(alloc);
     let mut count = 0u64;
@@ -100,10 +101,8 @@ fn serve_blocks<F: FnMut(&[u8]) -> Result<String, LineFault>, R: Read, W: Write>
         (devices R.remaining W.contents reader.old reader.new writer.old writer.new)) }
     ensures err { IfErr result (StopsBy F.FnMut answer.old answer.new pending.new
         (devices R.remaining W.contents reader.old reader.new writer.old writer.new)) }
-    ensures reader { ReaderCounts (counts_of reader.old) (counts_of reader.new) result }
-    ensures writer { WriterCounts (counts_of writer.old) (counts_of writer.new) result }
-    ensures bounded { OnOk result (IsBounded (counts_of reader.new)) }
-    ensures grown { HasGrown (counts_of reader.old) (counts_of reader.new) }
+    ensures counts { CountsServing (counts_of reader.old) (counts_of reader.new)
+        (counts_of writer.old) (counts_of writer.new) result }
 {
     let mut block = match new_block(alloc) {
         Ok(block) => block,
@@ -127,11 +126,10 @@ fn serve_all<F: FnMut(&[u8]) -> Result<String, LineFault>, R: Read, W: Write>(
         (devices R.remaining W.contents reader.old reader.new writer.old writer.new)) }
     ensures err { IfErr result (StopsServingBy F.FnMut answer.old answer.new
         (devices R.remaining W.contents reader.old reader.new writer.old writer.new)) }
-    ensures reader { ReaderCounts (counts_of reader.old) (counts_of reader.new) result }
-    ensures writer { WriterCounts (counts_of writer.old) (counts_of writer.new) result }
-    ensures flushed { WriterFlushed (counts_of writer.new) result }
-    ensures bounded { OnOk result (IsBounded (counts_of reader.new)) }
-    ensures grown { HasGrown (counts_of reader.old) (counts_of reader.new) }
+    ensures counts { CountsServing (counts_of reader.old) (counts_of reader.new)
+        (counts_of writer.old) (counts_of writer.new) result }
+    ensures flushed { WriterFlushed
+        (counts_of writer.new) result }
 {
     let mut pending = Vec::new(alloc);
     match serve_blocks(alloc, answer, reader, writer, &mut pending) {

@@ -27,16 +27,21 @@ abbrev pub Place : Lft → RattleType
 Place κ = option.the_row (HandRow κ)
 
 abbrev pub joined : ℕ → Ptr → PlannedOf → Ptr → Option (ByHandOf HandedIn) → Fml
-joined a p x q c = fex (Global × Global) (λ g. fsep (lender g.0 PlannedRow a p x) (boxed g.1 (Place (a ∷ [])) q c))
+joined a p x q c =
+    fex (Global × Global) (λ g. fsep (lender g.0 PlannedRow a p x) (boxed g.1 (Place (a ∷ [])) q c))
 
 module _ {E : Type 0} where
   -- a call may be made on this planned request, this place and this value, wherever they are
   abbrev pub CallableAt : (Bor PlannedOf → MutBor (Option (ByHandOf HandedIn)) → MutBor E → Type 0)
       → PlannedOf → Option (ByHandOf HandedIn) → E → Type 0
-  CallableAt pre x c e = (b : Bor PlannedOf) (p : MutBor (Option (ByHandOf HandedIn))) (r : MutBor E) → b.now ≡ x → p.now ≡ c → r.now ≡ e → pre b p r
+  CallableAt pre x c e = (b : Bor PlannedOf) (p : MutBor (Option (ByHandOf HandedIn)))
+      (r : MutBor E) → b.now ≡ x → p.now ≡ c → r.now ≡ e → pre b p r
 
   -- a call on these left that place and that value
-  pub record CalledAt (post : Bor PlannedOf → MutBor (Option (ByHandOf HandedIn)) → MutBor E → MutBor (Option (ByHandOf HandedIn)) → MutBor E → Type 0) (x : PlannedOf) (c : Option (ByHandOf HandedIn)) (e : E) (c' : Option (ByHandOf HandedIn)) (e' : E) : Type 0 where
+  pub record CalledAt (post : Bor PlannedOf → MutBor (Option (ByHandOf HandedIn))
+      → MutBor E → MutBor (Option (ByHandOf HandedIn)) → MutBor E → Type 0)
+      (x : PlannedOf) (c : Option (ByHandOf HandedIn)) (e : E)
+      (c' : Option (ByHandOf HandedIn)) (e' : E) : Type 0 where
     pub planned : Bor PlannedOf
     pub place : MutBor (Option (ByHandOf HandedIn))
     pub left : MutBor (Option (ByHandOf HandedIn))

@@ -16,4 +16,5 @@ module _ (g : Global) where
 
   -- the box is lent for a lifetime a of its own, which lasts as long as this is owned
   abbrev pub lender : (R : RattleType) → ℕ → Ptr → R.Denot → Fml
-  lender R a p x = fsep (flft (a ∷ []) full_share) (fsep (lent_at R p x (a ∷ [])) (flent (a ∷ []) (boxed R p x)))
+  lender R a p x =
+      fsep (flft (a ∷ []) full_share) (fsep (lent_at R p x (a ∷ [])) (flent (a ∷ []) (boxed R p x)))

@@ -46,7 +46,8 @@ module _ {E : Type 0} where
       → b.now ≡ orders → r.now ≡ e → pre b r
 
   -- a call on these orders and this value left that value
-  pub record HasSeen (post : Bor (List Pending) → MutBor E → MutBor E → Type 0) (orders : List Pending) (e e' : E) : Type 0 where
+  pub record HasSeen (post : Bor (List Pending) → MutBor E → MutBor E → Type 0)
+      (orders : List Pending) (e e' : E) : Type 0 where
     pub orders_seen : Bor (List Pending)
     pub value : MutBor E
     pub changed : MutBor E

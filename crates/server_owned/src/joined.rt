@@ -75,7 +75,8 @@ impl JoinedRequest {
             &'b mut Option<ByHand<'p, HandedIn>>,
             &'e mut E,
         ) -> R,
-        requires { CallableAt (F.pre f) self.old.of self.old.state value.old }
+        requires { CallableAt
+            (F.pre f) self.old.of self.old.state value.old }
         ensures of { self.new.of ≡ self.old.of }
         ensures called { CalledAt (λ b p e p' e'. F.post f b p e result p' e')
             self.old.of self.old.state value.old self.new.state value.new }

@@ -1,8 +1,8 @@
 //! A client that is answered by hand, with all that it needs.
-ghost use Rattle.std.specs.Prelude.{◌≡◌, ◌≤◌, ◌↔◌, true, length, slice_get, IsSome, IfOk, IfErr, IfSome, OnOk, OnErr, IsErrOf};
+ghost use Rattle.std.specs.Prelude.{◌≡◌, ◌≤◌, length, slice_get, IsSome, IfOk, IfErr, IfSome, OnOk, OnErr};
 ghost use Rattle.load_rounds.specs.Histories.{any_tell};
 ghost use Rattle.rounds_by_hand.specs.Hands.{IsOver, handed, pending_in};
-ghost use Rattle.rounds_by_hand.specs.Pending.{TakesAnswer, is_in_at};
+ghost use Rattle.rounds_by_hand.specs.Pending.{RefusesAnswer, TakesAnswer};
 ghost use Rattle.server.specs.Clients.{IsSameClient};
 ghost use Rattle.server.specs.Hands.{Ends, GivesUp, GoesOn, GoesOnIfMay, Responds, Steps, by_hand_of};
 ghost use Rattle.server_owned.specs.Owned.{CallableOn, CalledOn, HasCalled, SeesOrders, HasSeen, orders_at};
@@ -51,9 +51,12 @@ impl OwnedByHand {
         client: ClientSession<HandedIn>,
         planned: PlannedRequest,
     ) -> Result<OwnedByHand, ClientSession<HandedIn>>
-        requires { planned.loaders ≤ length client.session.loaders }
-        ensures begun { IfOk result (λ owned. owned ≡ by_hand_of client planned handed) }
-        ensures back { IfErr result (λ back. back ≡ client) }
+        requires { planned.loaders
+            ≤ length client.session.loaders }
+        ensures begun { IfOk result (λ owned.
+            owned ≡ by_hand_of client planned handed) }
+        ensures back { IfErr result
+            (λ back. back ≡ client) }
     {
         let Ok(joined) = JoinedRequest::new(alloc, planned) else {
             return Err(client);
@@ -68,7 +71,8 @@ impl OwnedByHand {
     // Calls a function on the `ByHand`.
     fn on_hand<R, F: for<'p, 'b> FnOnce(&'b mut ByHand<'p, HandedIn>) -> R>(&mut self, f: F) -> R
         requires { CallableOn (F.pre f) self.old }
-        ensures { CalledOn (λ b b'. F.post f b result b') self.old self.new }
+        ensures { CalledOn (λ b b'.
+            F.post f b result b') self.old self.new }
     {
         self.joined
             .with(
@@ -91,7 +95,8 @@ impl OwnedByHand {
         value: &mut E,
         f: F,
     ) -> R
-        requires { SeesOrders (F.pre f) (pending_in self.old.far) value.old }
+        requires { SeesOrders (F.pre f)
+            (pending_in self.old.far) value.old }
         ensures seen { HasSeen (λ b e e'. F.post f b e result e')
             (pending_in self.old.far) value.old value.new }
         ensures same { self.new ≡ self.old }
@@ -113,12 +118,18 @@ impl OwnedByHand {
     ///
     /// Only when out of memory, as those of [`ByHand::advance`].
     pub fn advance(&mut self) -> Result<ClientAdvance, AllocError>
-        ensures stepped { IfOk result (Steps self.old self.new) }
-        ensures ended { OnErr result (Ends self.old self.new) }
-        ensures underway { GoesOn any_tell self.old self.new }
-        ensures answered { IfOk result (Responds any_tell self.old self.new) }
-        ensures same { IsSameClient self.old.client self.new.client }
-        ensures planned { self.new.planned ≡ self.old.planned }
+        ensures stepped { IfOk result
+            (Steps self.old self.new) }
+        ensures ended { OnErr result
+            (Ends self.old self.new) }
+        ensures underway { GoesOn any_tell
+            self.old self.new }
+        ensures answered { IfOk result
+            (Responds any_tell self.old self.new) }
+        ensures same { IsSameClient
+            self.old.client self.new.client }
+        ensures planned { self.new.planned
+            ≡ self.old.planned }
     {
         self.on_hand(
             |hand|
@@ -143,30 +154,22 @@ impl OwnedByHand {
         number: usize,
         answer: Result<Vec<Item>, FetchFault>,
     ) -> Result<(), TakeFault>
-        ensures no_order { IsErrOf result TakeFault.NoSuchOrder
-            ↔ (length (pending_in self.old.far) ≤ number) }
-        ensures answered { IsErrOf result TakeFault.Answered
-            ↔ (is_in_at (slice_get (pending_in self.old.far) number) ≡ true) }
-        ensures none { IsErrOf result TakeFault.NoSuchOrder → self.new ≡ self.old }
-        ensures kept { IsErrOf result TakeFault.Answered → self.new ≡ self.old }
-        ensures over { IsErrOf result TakeFault.NoMemory → IsOver self.new.far }
+        ensures refused { RefusesAnswer (pending_in self.old.far) number
+            self.old self.new (IsOver self.new.far) result }
         ensures taken { OnOk result
             (TakesAnswer (pending_in self.old.far) number answer (pending_in self.new.far)) }
         ensures underway { OnOk result (IfSome (slice_get (pending_in self.old.far) number)
             (GoesOnIfMay any_tell answer self.old self.new)) }
-        ensures stopped { OnErr result (GoesOn any_tell self.old self.new) }
+        ensures stopped { OnErr result
+            (GoesOn any_tell self.old self.new) }
         ensures client { self.new.client ≡ self.old.client }
-        ensures planned { self.new.planned ≡ self.old.planned }
+        ensures planned { self.new.planned
+            ≡ self.old.planned }
     {
         self.on_hand(
             move |hand|
-                ensures no_order { IsErrOf result TakeFault.NoSuchOrder
-                    ↔ (length (pending_in hand.old.far) ≤ number) }
-                ensures answered { IsErrOf result TakeFault.Answered
-                    ↔ (is_in_at (slice_get (pending_in hand.old.far) number) ≡ true) }
-                ensures none { IsErrOf result TakeFault.NoSuchOrder → hand.new ≡ hand.old }
-                ensures kept { IsErrOf result TakeFault.Answered → hand.new ≡ hand.old }
-                ensures over { IsErrOf result TakeFault.NoMemory → IsOver hand.new.far }
+                ensures refused { RefusesAnswer (pending_in hand.old.far) number
+                    hand.old hand.new (IsOver hand.new.far) result }
                 ensures taken { OnOk result (TakesAnswer (pending_in hand.old.far)
                     number answer (pending_in hand.new.far)) }
                 ensures underway { OnOk result (IfSome (slice_get (pending_in hand.old.far) number)
@@ -204,7 +207,8 @@ fn call_on<'p, R, F: for<'q, 'b> FnOnce(&'b mut ByHand<'q, HandedIn>) -> R>(
     f: F,
 ) -> Option<R>
     requires { IfSome place.old (CallableOn (F.pre f)) }
-    ensures { HasCalled (λ b r b'. F.post f b r b') place.old result place.new }
+    ensures { HasCalled (λ b r b'.
+        F.post f b r b') place.old result place.new }
 {
     match place {
         Some(hand) => Some(f(hand)),

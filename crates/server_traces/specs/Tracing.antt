@@ -48,7 +48,8 @@ pub record TracedOf (S : Type 0) : Type 0 where
 
 module _ {S : Type 0} where
   abbrev pub traced_of : {T : Type 0} → (T → Option (List ℕ)) → TracedClient S T → TracedOf S
-  traced_of contents traced = record { client = traced.client; device = trace_device contents traced.trace }
+  traced_of contents traced =
+      record { client = traced.client; device = trace_device contents traced.trace }
 
   -- the trace of what a session asked since it started again, and of `count` calls of execution key
   -- by key, with a line feed
@@ -109,13 +110,17 @@ module _ {S : Type 0} where
 
   -- ---- the same, of a traced client whose device's contents a function says
 
-  module _ {T : Type 0} (contents : T → Option (List ℕ)) (A : AnsweringOf (ClientOf S)) (old : TracedClient S T) where
+  module _ {T : Type 0} (contents : T → Option (List ℕ)) (A : AnsweringOf (ClientOf S))
+      (old : TracedClient S T) where
     abbrev pub TracesBy : List ℕ → TracedClient S T → String Global → Type 0
-    TracesBy line new text = TracesLine A (traced_of contents old) line (string_bytes text) (traced_of contents new)
+    TracesBy line new text =
+        TracesLine A (traced_of contents old) line (string_bytes text) (traced_of contents new)
 
     abbrev pub StopsBy : List ℕ → TracedClient S T → LineFault → Type 0
-    StopsBy line new fault = StopsTracing A fault (traced_of contents old) line (traced_of contents new)
+    StopsBy line new fault =
+        StopsTracing A fault (traced_of contents old) line (traced_of contents new)
 
     -- its lines are served with their trace
-    pub record ServesTraced (new : TracedClient S T) (d : DevicesOf) (result : Result ℕ ServeFault) : Type 0 where
+    pub record ServesTraced (new : TracedClient S T) (d : DevicesOf)
+        (result : Result ℕ ServeFault) : Type 0 where
       pub serves : Serves (tracing A) (traced_of contents old) (traced_of contents new) d result

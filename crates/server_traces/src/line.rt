@@ -17,8 +17,10 @@ use std::thread::Threads;
 
 // The trace of a session, and of `count` calls of execution key by key, with its line feed.
 fn trace_line<S>(alloc: Global, session: &Session<S>, count: u64) -> Result<String, LineFault>
-    ensures ok { IfOk result (λ text. string_bytes text ≡ session_line session.now count) }
-    ensures err { IfErr result (λ fault. fault ≡ LineFault.NoMemory) }
+    ensures ok { IfOk result (λ text. string_bytes text
+        ≡ session_line session.now count) }
+    ensures err { IfErr result
+        (λ fault. fault ≡ LineFault.NoMemory) }
 {
     match write_trace(alloc, session, Some(count)) {
         Ok(mut text) => {
@@ -51,8 +53,10 @@ fn trace_answer<S>(
     client: &mut ClientSession<S>,
     line: &[u8],
 ) -> Result<String, LineFault>
-    ensures ok { IfOk result (λ text. SaysTrace client.old line.now (string_bytes text)) }
-    ensures err { IfErr result (λ fault. fault ≡ LineFault.NoMemory) }
+    ensures ok { IfOk result (λ text.
+        SaysTrace client.old line.now (string_bytes text)) }
+    ensures err { IfErr result
+        (λ fault. fault ≡ LineFault.NoMemory) }
     ensures same { client.new ≡ client.old }
 {
     match client.loads_read(line) {

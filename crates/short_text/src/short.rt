@@ -29,8 +29,10 @@ impl Model for Short {
 impl Short {
     // A copy of a text, where it is short.
     pub(crate) fn of(text: &str) -> Option<Short>
-        ensures some { IsSome result ↔ (length text.now ≤ 30) }
-        ensures value { IfSome result (λ short. short ≡ text.now) }
+        ensures some { IsSome result
+            ↔ (length text.now ≤ 30) }
+        ensures value { IfSome result
+            (λ short. short ≡ text.now) }
     {
         if text.len() > MOST {
             return None;
@@ -71,7 +73,8 @@ impl Short {
     }
 
     pub(crate) fn make_ascii_lowercase(&mut self)
-        ensures { self.new ≡ map to_ascii_lowercase self.old }
+        ensures { self.new
+            ≡ map to_ascii_lowercase self.old }
     {
         let len = self.len as usize;
         self.bytes[..len].make_ascii_lowercase();

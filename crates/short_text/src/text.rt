@@ -113,7 +113,8 @@ impl Text {
 
     /// Makes `A` to `Z` small. Every other character stays.
     pub fn make_ascii_lowercase(&mut self)
-        ensures { self.new ≡ map to_ascii_lowercase self.old }
+        ensures { self.new
+            ≡ map to_ascii_lowercase self.old }
     {
         match &mut self.held {
             TextBytes::Short(short) => short.make_ascii_lowercase(),

@@ -36,7 +36,8 @@ pub fn numbers_of(alloc: Global, words: &[&str]) -> Result<Vec<usize>> {
 /// The members of the field of a number, all of which come before it.
 fn members_of(numbers: &[usize], field: usize) -> Result<FieldSet>
     requires few { field ≤ 1024 }
-    ensures { IfOk result (λ members. (c : ℕ) → has members c ≡ true → c < field) }
+    ensures { IfOk result (λ members.
+        (c : ℕ) → has members c ≡ true → c < field) }
 {
     let mut members = FieldSet::new();
     for member in numbers {
@@ -56,7 +57,8 @@ fn field_of<'t>(
     line: &'t str,
 ) -> Result<Field>
     requires few { number ≤ 1024 }
-    ensures { IfOk result (λ field. (c : ℕ) → has field.members c ≡ true → c < number) }
+    ensures { IfOk result (λ field.
+        (c : ℕ) → has field.members c ≡ true → c < number) }
 {
     let words: Vec<&str> = line.split_whitespace().collect(alloc)?;
     let [key, name, parent, arguments, shape, numbers @ ..] = words.as_slice() else {
@@ -77,8 +79,10 @@ fn field_of<'t>(
 
 /// The fields that lines say, by their numbers from 0.
 pub fn fields_of(alloc: Global, lines: &[&str]) -> Result<Vec<Field>>
-    ensures few { IfOk result (λ fields. length fields.items ≤ 1024) }
-    ensures order { IfOk result (λ fields. AreInOrder fields.items) }
+    ensures few { IfOk result
+        (λ fields. length fields.items ≤ 1024) }
+    ensures order { IfOk result
+        (λ fields. AreInOrder fields.items) }
 {
     let mut met = Vec::new(alloc);
     let mut fields = Vec::new(alloc);

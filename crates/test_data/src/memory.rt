@@ -82,7 +82,8 @@ fn replies(alloc: Global, written: &str) -> Result<Vec<Reply>> {
 
 /// Tells whether there is a loader for each reply.
 fn have_loaders(memory: &Memory, replies: &[Reply]) -> bool
-    ensures { IsTrue result → All (λ (r : Reply). r.loader < length memory.now.modes) replies.now }
+    ensures { IsTrue result → All (λ (r : Reply).
+        r.loader < length memory.now.modes) replies.now }
 {
     for reply in replies {
         if reply.loader >= memory.modes().len() {

@@ -8,7 +8,7 @@ ghost use Rattle.execution.specs.Rounds.{may_at, AreReplies};
 ghost use Rattle.execution.specs.Executes.{GrowsTo};
 ghost use Rattle.load_rounds.specs.Sessions.{state_of, memory_of};
 ghost use Rattle.load_rounds.specs.Headline.{HasHeadline};
-ghost use Rattle.load_rounds.specs.ByHand.{AreReceived, IsAsked, RunsOnFrom, orders_in, run_of};
+ghost use Rattle.load_rounds.specs.ByHand.{AreReceived, AwaitsReplies, RunsOnFrom, orders_in, run_of};
 ghost use Rattle.load_rounds.specs.declared.by_hand.Stage.TheVariants.{Ready, Out};
 
 use crate::logs::push_batch;
@@ -36,7 +36,8 @@ fn run_all<S: LocalSource>(
     orders: Vec<Order>,
     loaders: &[Loader<S>],
 ) -> Result<Vec<Reply>, AllocError>
-    requires { All (λ (o : OrderOf). o.loader < length loaders.now) orders.items }
+    requires { All (λ (o : OrderOf).
+        o.loader < length loaders.now) orders.items }
     ensures { IfOk result (λ replies.
         AreReplies (may_at S.may_tell loaders.now) orders.items (map reply_of replies.items)) }
 {
@@ -53,7 +54,8 @@ fn put_all<R: Wait + AllocGlobal>(
     shelf: &Shelf,
     replies: Vec<Reply>,
 ) -> Result<Vec<Receipt>>
-    ensures shelf { IfOk result (λ receipts. All (IsOn shelf.now) receipts.items) }
+    ensures shelf { IfOk result
+        (λ receipts. All (IsOn shelf.now) receipts.items) }
     ensures shown { IfOk result (λ receipts.
         map shown receipts.items ≡ map reply_of replies.items) }
 {
@@ -74,8 +76,10 @@ pub fn receive_replies<S: LocalSource, R: Wait + AllocGlobal>(
     loaders: &[Loader<S>],
     shelf: &Shelf,
 ) -> Result<Vec<Receipt>>
-    requires { All (λ (o : OrderOf). o.loader < length loaders.now) orders.items }
-    ensures shelf { IfOk result (λ receipts. All (IsOn shelf.now) receipts.items) }
+    requires { All (λ (o : OrderOf).
+        o.loader < length loaders.now) orders.items }
+    ensures shelf { IfOk result
+        (λ receipts. All (IsOn shelf.now) receipts.items) }
     ensures received { IfOk result (λ receipts.
         AreReceived (may_at S.may_tell loaders.now) orders.items (map shown receipts.items)) }
 {
@@ -92,11 +96,14 @@ pub fn run_round<'p, E: Drop, P: Execute<'p, E>, S: LocalSource, R: Wait + Alloc
     session: &mut Session<S>,
     orders: Vec<Order>,
 ) -> Result<()>
-    requires out { run.old.stage ≡ Out }
-    requires latest { IsAsked (P.program run.old.plan) (state_of session.old) }
-    requires batches { orders.items ≡ orders_in (state_of session.old) (P.program run.old.plan) }
-    requires below { All (λ (o : OrderOf). o.loader < length session.old.loaders) orders.items }
-    ensures ready { OnOk result (run.new ≡ run_of run.old.plan run.old.rounds Ready) }
+    requires out { AwaitsReplies (P.program run.old.plan)
+        run.old.stage (state_of session.old) }
+    requires batches { orders.items ≡ orders_in
+        (state_of session.old) (P.program run.old.plan) }
+    requires below { All (λ (o : OrderOf). o.loader
+        < length session.old.loaders) orders.items }
+    ensures ready { OnOk result (run.new
+        ≡ run_of run.old.plan run.old.rounds Ready) }
     ensures run { OnOk result (RunsOnFrom S.may_tell (P.program run.old.plan)
         Out (state_of session.old) (state_of session.new) run.old run.new) }
     ensures grown { OnOk result (GrowsTo (memory_of session.old) (memory_of session.new)) }
@@ -127,7 +134,8 @@ pub fn answer_and_note<'p, E: Drop, P: Execute<'p, E>, S: LocalSource, R: Wait +
     session: &mut Session<S>,
     noted: &mut NotedRounds<'_>,
 ) -> Result<Answer>
-    requires { P.loaders plan.now ≤ length session.old.loaders }
+    requires { P.loaders plan.now
+        ≤ length session.old.loaders }
     ensures { IfOk result (HasHeadline S.may_tell (state_of session.old) (state_of session.new)
         (P.program plan.now) (P.text_of plan.now)) }
 {
@@ -148,7 +156,8 @@ fn drop_midway<'p, E: Drop, P: Execute<'p, E>, S: LocalSource>(
     session: &mut Session<S>,
     plan: &'p P,
 ) -> Result<(Stage, Stage)>
-    requires { P.loaders plan.now ≤ length session.old.loaders }
+    requires { P.loaders plan.now
+        ≤ length session.old.loaders }
 {
     let mut run = session.begin(plan)?;
     let begun = run.stage();

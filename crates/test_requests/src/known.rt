@@ -33,7 +33,8 @@ pub fn wants_text(alloc: Global, world: &World, loaders: usize, wants: &Wants) -
 
 /// The answer of a plan, or what it waits for, by building it.
 fn evaluate_text(alloc: Global, world: &World, plan: &Plan, memory: &Memory) -> Result<String>
-    requires { length (plan_of plan.now).bindings.loaders ≤ length memory.now.modes }
+    requires { length (plan_of plan.now).bindings.loaders
+        ≤ length memory.now.modes }
 {
     let mut wants = Wants::new(alloc, memory)?;
     match evaluate(alloc, plan, memory, &mut wants)? {
@@ -44,7 +45,8 @@ fn evaluate_text(alloc: Global, world: &World, plan: &Plan, memory: &Memory) -> 
 
 /// Does the same, written straight from the rows.
 fn write_text(alloc: Global, world: &World, plan: &Plan, memory: &Memory) -> Result<String>
-    requires { length (plan_of plan.now).bindings.loaders ≤ length memory.now.modes }
+    requires { length (plan_of plan.now).bindings.loaders
+        ≤ length memory.now.modes }
 {
     let mut wants = Wants::new(alloc, memory)?;
     let mut state = RootState::new(plan);

@@ -29,8 +29,10 @@ fn poll_state(
 ) -> Result<String>
     requires loaders { length (plan_in state.old).bindings.loaders ≤ length memory.now.modes }
     requires fits { FitsMemory state.old memory.now }
-    ensures fits { OnOk result ((m : MemoryOf) → GrowsTo memory.now m → FitsMemory state.new m) }
-    ensures same_plan { plan_in state.new ≡ plan_in state.old }
+    ensures fits { OnOk result ((m : MemoryOf)
+        → GrowsTo memory.now m → FitsMemory state.new m) }
+    ensures same_plan { plan_in state.new
+        ≡ plan_in state.old }
 {
     let mut wants = Wants::new(alloc, memory)?;
     match state.poll(alloc, memory, &mut wants)? {
@@ -71,8 +73,10 @@ fn compare_states(
 ) -> Result<String>
     requires loaders { length (plan_in state.old).bindings.loaders ≤ length memory.now.modes }
     requires fits { FitsMemory state.old memory.now }
-    ensures fits { OnOk result ((m : MemoryOf) → GrowsTo memory.now m → FitsMemory state.new m) }
-    ensures same_plan { plan_in state.new ≡ plan_in state.old }
+    ensures fits { OnOk result ((m : MemoryOf)
+        → GrowsTo memory.now m → FitsMemory state.new m) }
+    ensures same_plan { plan_in state.new
+        ≡ plan_in state.old }
 {
     let anew = known::report(alloc, world, plan, memory)?;
     let kept = poll_state(alloc, world, state, memory)?;
@@ -107,7 +111,8 @@ pub fn answer_and_compare<S: LocalSource, R: Wait + AllocGlobal>(
     plan: &Plan,
     session: &mut Session<S>,
 ) -> Result<Answer>
-    requires { length (plan_of plan.now).bindings.loaders ≤ length session.old.loaders }
+    requires { length (plan_of plan.now).bindings.loaders
+        ≤ length session.old.loaders }
 {
     let alloc = rt.alloc();
     let mut run = session.begin(plan)?;

@@ -56,7 +56,8 @@ fn answer_together<'p, E: Drop, P: Execute<'p, E>, S: LocalSource, R: Wait + All
     plans: &'p [P],
     session: &mut Session<S>,
 ) -> Result<Vec<Answer>>
-    requires { All (λ plan. P.loaders plan ≤ length session.old.loaders) plans.now }
+    requires { All (λ plan. P.loaders plan
+        ≤ length session.old.loaders) plans.now }
     ensures { IfOk result (AreAnswers S.may_tell (state_of session.old)
         (state_of session.new) (requests P.program P.text_of plans.now)) }
 {

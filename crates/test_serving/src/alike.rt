@@ -179,7 +179,8 @@ fn answer_alike<R: Threads + Wait + AllocGlobal + Sync>(
     plan: &Plan,
     workers: usize,
 ) -> Result<Answer, WorkFault>
-    requires { length (plan_seen plan.now).bindings.loaders ≤ length session.old.loaders }
+    requires { length (plan_seen plan.now).bindings.loaders
+        ≤ length session.old.loaders }
 {
     answer_with(rt, session, plan, workers)
 }

@@ -235,7 +235,8 @@ fn answer_with_probe<R: Threads + Wait + Sync>(
     plan: &Plan,
     workers: usize,
 ) -> Result<Answer, WorkFault>
-    requires { length (plan_seen plan.now).bindings.loaders ≤ length session.old.loaders }
+    requires { length (plan_seen plan.now).bindings.loaders
+        ≤ length session.old.loaders }
 {
     answer_with(rt, session, plan, workers)
 }

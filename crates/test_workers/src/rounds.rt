@@ -68,7 +68,8 @@ fn first_round<'p, S: Source, E: Drop, P: Execute<'p, E>, R: Threads + Wait + Al
     plan: &'p P,
     workers: usize,
 ) -> Result<String, Fail>
-    requires loaders { P.loaders plan.now ≤ length session.old.loaders }
+    requires loaders { P.loaders plan.now
+        ≤ length session.old.loaders }
     requires count { (0 < workers) × (workers ≤ 16) }
 {
     let mut run = session.begin(plan)?;

@@ -50,9 +50,11 @@ has_column sheet column = list_any (bytes_eq column) sheet.names
 -- the source by one column or by two, which have to be there
 abbrev pub source_by_columns : SheetOf → List ℕ
     → Option (List ℕ) → KeyMode → Result SourceOf WorldFault
-source_by_columns sheet column None mode = if has_column sheet column then Ok (source_by (rows_of sheet) column mode) else Err NoSuchColumn
+source_by_columns sheet column None mode =
+    if has_column sheet column then Ok (source_by (rows_of sheet) column mode) else Err NoSuchColumn
 source_by_columns sheet column (Some second) mode =
-    if has_column sheet column && has_column sheet second then Ok (source_by_two (rows_of sheet) column second mode) else Err NoSuchColumn
+    if has_column sheet column && has_column sheet second
+    then Ok (source_by_two (rows_of sheet) column second mode) else Err NoSuchColumn
 
 -- the source of a loader over its table: of all rows, or by its columns
 abbrev pub source_over : SheetOf → Option ByOf → Result SourceOf WorldFault

@@ -35,12 +35,14 @@ pub record HasSources (w : WorldOf) : Type 0 where
   pub each : length w.sources ≡ length w.bindings.loaders
 
 -- the bindings that a text says over a schema, with no table given twice
-pub record IsRead (defs : List Definition) (text : List ℕ) (tables : List TableOf) (b : BindingsOf) : Type 0 where
+pub record IsRead (defs : List Definition) (text : List ℕ) (tables : List TableOf)
+    (b : BindingsOf) : Type 0 where
   pub accepts : bindings_of defs text ≡ accepted b
   pub once : ¬ (Repeats (names_of tables))
 
 -- a world over a schema
-pub record IsWorldOver (defs : List Definition) (text : List ℕ) (tables : List TableOf) (w : WorldOf) : Type 0 where
+pub record IsWorldOver (defs : List Definition) (text : List ℕ) (tables : List TableOf)
+    (w : WorldOf) : Type 0 where
   pub same : tree_of w.definitions ≡ defs
   pub read : IsRead defs text tables w.bindings
   pub answered : sources_for (sheet_named tables) w.bindings.loaders ≡ Ok w.sources
@@ -55,20 +57,23 @@ LacksSource defs text tables fault = (b : BindingsOf) × IsRead defs text tables
 abbrev pub IsRefusalOver : List Definition → List ℕ → List TableOf → WorldFault → Type 0
 IsRefusalOver defs text tables world.BadLimit = ⊥
 IsRefusalOver defs text tables (world.Schema fault) = RefusesBindings defs text fault
-IsRefusalOver defs text tables world.DuplicateTable = ((b : BindingsOf) × (bindings_of defs text ≡ accepted b)) × Repeats (names_of tables)
+IsRefusalOver defs text tables world.DuplicateTable =
+    ((b : BindingsOf) × (bindings_of defs text ≡ accepted b)) × Repeats (names_of tables)
 IsRefusalOver defs text tables world.NoSuchTable = LacksSource defs text tables world.NoSuchTable
 IsRefusalOver defs text tables world.NoSuchColumn = LacksSource defs text tables world.NoSuchColumn
 IsRefusalOver defs text tables world.NoMemory = Unit {0}
 
 -- The texts, the tables and the limit are this world: each part accepts its own.
-pub record IsWorld (text bindings : List ℕ) (tables : List TableOf) (max : Option ℕ) (w : WorldOf) : Type 0 where
+pub record IsWorld (text bindings : List ℕ) (tables : List TableOf) (max : Option ℕ)
+    (w : WorldOf) : Type 0 where
   pub fits : IsLimit max
   pub limited : w.limit ≡ max
   pub says : IsSchema text (tree_of w.definitions)
   pub over : IsWorldOver (tree_of w.definitions) bindings tables w
 
 -- with a limit that fits and a schema, there is no world for this
-pub record IsRefusedOver (text bindings : List ℕ) (tables : List TableOf) (max : Option ℕ) (fault : WorldFault) : Type 0 where
+pub record IsRefusedOver (text bindings : List ℕ) (tables : List TableOf) (max : Option ℕ)
+    (fault : WorldFault) : Type 0 where
   pub fits : IsLimit max
   pub defs : List Definition
   pub says : IsSchema text defs
@@ -80,9 +85,12 @@ abbrev pub IsRefusal : List ℕ → List ℕ → List TableOf → Option ℕ →
 IsRefusal text bindings tables max world.BadLimit = ¬ (IsLimit max)
 IsRefusal text bindings tables max (world.Schema fault) = (IsLimit max × IsFaultOf text fault)
     ⊎ IsRefusedOver text bindings tables max (world.Schema fault)
-IsRefusal text bindings tables max world.DuplicateTable = IsRefusedOver text bindings tables max world.DuplicateTable
-IsRefusal text bindings tables max world.NoSuchTable = IsRefusedOver text bindings tables max world.NoSuchTable
-IsRefusal text bindings tables max world.NoSuchColumn = IsRefusedOver text bindings tables max world.NoSuchColumn
+IsRefusal text bindings tables max world.DuplicateTable =
+    IsRefusedOver text bindings tables max world.DuplicateTable
+IsRefusal text bindings tables max world.NoSuchTable =
+    IsRefusedOver text bindings tables max world.NoSuchTable
+IsRefusal text bindings tables max world.NoSuchColumn =
+    IsRefusedOver text bindings tables max world.NoSuchColumn
 IsRefusal text bindings tables max world.NoMemory = IsLimit max
 
 -- both are the same world, wherever its schema lies in memory
@@ -100,7 +108,8 @@ MakesWorld w (Err fault) = fault ≡ world.NoMemory
 -- ---- over a server
 
 -- the world of this server with this limit, whose loaders have their sources in these tables
-pub record IsWorldOf (s : ServerOf) (limit : Option ℕ) (tables : List TableOf) (w : WorldOf) : Type 0 where
+pub record IsWorldOf (s : ServerOf) (limit : Option ℕ) (tables : List TableOf)
+    (w : WorldOf) : Type 0 where
   pub server : server_of w ≡ s
   pub limited : w.limit ≡ limit
   pub once : ¬ (Repeats (names_of tables))

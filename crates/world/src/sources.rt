@@ -42,7 +42,8 @@ fn source_parts(
     tables: &mut HashMap<String, IndexedTable>,
     line: &LoaderLine,
 ) -> Result<SourceBasis, WorldFault>
-    ensures same { (q : List ℕ) → get_by_text tables.new q ≡ get_by_text tables.old q }
+    ensures same { (q : List ℕ) → get_by_text tables.new q
+        ≡ get_by_text tables.old q }
     ensures ok { IfOk result (λ s.
         source_for (get_by_text tables.old) (loader_of line.now) ≡ Ok (source_of s)) }
     ensures err { IfErr result

@@ -71,7 +71,8 @@ impl IndexedTable {
 
     // The index of the column at a place that was made for this mode.
     fn find(&self, column: usize, mode: KeyMode) -> Option<&Arc<ColumnIndex>>
-        ensures { IfSome result (λ x. arc_value x.now ≡ index_of self.now column mode) }
+        ensures { IfSome result (λ x. arc_value x.now
+            ≡ index_of self.now column mode) }
     {
         for kept in &self.indices {
             if kept.column == column && kept.index.mode() == mode {
@@ -89,10 +90,13 @@ impl IndexedTable {
         column: &str,
         mode: KeyMode,
     ) -> Result<Arc<ColumnIndex>, WorldFault>
-        requires { Some place ≡ position (λ n. bytes_eq n column.now) self.old.names }
+        requires { Some place ≡ position
+            (λ n. bytes_eq n column.now) self.old.names }
         ensures same { self.new ≡ self.old }
-        ensures ok { IfOk result (λ x. arc_value x ≡ index_of self.old place mode) }
-        ensures err { IfErr result (λ e. e ≡ WorldFault.NoMemory) }
+        ensures ok { IfOk result (λ x.
+            arc_value x ≡ index_of self.old place mode) }
+        ensures err { IfErr result
+            (λ e. e ≡ WorldFault.NoMemory) }
     {
         let Ok(index) = ColumnIndex::new(alloc, &self.table, column, mode) else {
             return Err(WorldFault::NoMemory);
@@ -197,7 +201,8 @@ pub fn by_name(
     ensures found { IfOk result (λ named.
         (q : List ℕ) → get_by_text named q ≡ sheet_named (map table_of tables.items) q) }
     ensures once { OnOk result (¬ (Repeats (names_of (map table_of tables.items)))) }
-    ensures err { IfErr result (IsRefusedTables (map table_of tables.items)) }
+    ensures err { IfErr result
+        (IsRefusedTables (map table_of tables.items)) }
 {
     let mut named = HashMap::new(alloc);
     for (name, table) in tables {

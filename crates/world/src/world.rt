@@ -45,8 +45,10 @@ impl Model for World {
 
 // A limit that may be set, if there is one.
 fn batch_limit(max: Option<u32>) -> Result<Option<u32>, WorldFault>
-    ensures ok { IfOk result (λ limit. (limit ≡ max) × IsLimit max) }
-    ensures err { IfErr result (λ e. (e ≡ WorldFault.BadLimit) × ¬ (IsLimit max)) }
+    ensures ok { IfOk result
+        (λ limit. (limit ≡ max) × IsLimit max) }
+    ensures err { IfErr result
+        (λ e. (e ≡ WorldFault.BadLimit) × ¬ (IsLimit max)) }
 {
     match max {
         None => Ok(None),
@@ -141,7 +143,8 @@ impl World {
     /// Returns how many loaders there are. They are numbered from 0 in the order of their lines.
     pub fn loaders(&self) -> usize
         ensures sources { result ≡ length self.now.sources }
-        ensures bindings { result ≡ length self.now.bindings.loaders }
+        ensures bindings { result ≡ length
+            self.now.bindings.loaders }
     {
         self.sources.len()
     }
@@ -149,7 +152,8 @@ impl World {
     /// The source of the loader of this number. It takes no memory, and indexes nothing.
     pub fn source(&self, loader: usize) -> CsvSource<'_>
         requires { loader < length self.now.sources }
-        ensures { (d : SourceOf) → result ≡ get_or self.now.sources loader d }
+        ensures { (d : SourceOf)
+            → result ≡ get_or self.now.sources loader d }
     {
         self.sources[loader].source()
     }

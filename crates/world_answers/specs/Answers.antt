@@ -33,7 +33,8 @@ item_at sources loader key = item_from (slice_get sources loader) key
 -- the text of *Execution tree* and *Completion* with each load answered at once, by the rows of its key; where that is longer than
 -- the service's limit, the text of its refusal. No memory, batch or round is in it.
 abbrev pub IsDirectText : ServiceOf → PlanOf → List ℕ → Type 0
-IsDirectText s plan text = IsTextOf (text_within s.most) (plan_program plan) (direct (item_at s.world.sources)) text
+IsDirectText s plan text =
+    IsTextOf (text_within s.most) (plan_program plan) (direct (item_at s.world.sources)) text
 
 -- ---- the session of a request
 
@@ -44,11 +45,13 @@ may_tell source keys answer = answer ≡ given (map (item_of_key source) keys)
 -- The plan, which is of a valid document, was answered by this text in a session of the world,
 -- which was new when it was opened and is in this state after `rounds` rounds: its log holds all
 -- that was asked, in batches of at most the world's limit.
-pub record AnswersAnew (s : ServiceOf) (plan : PlanOf) (after : StateOf SourceOf) (text : List ℕ) (rounds : ℕ) : Type 0 where
+pub record AnswersAnew (s : ServiceOf) (plan : PlanOf) (after : StateOf SourceOf) (text : List ℕ)
+    (rounds : ℕ) : Type 0 where
   pub valid : IsPlan plan
   pub begun : SessionOf SourceOf
   pub over : IsOver s.world begun
-  pub headline : Headline may_tell (state_of begun) after (plan_program plan) (text_within s.most) text rounds
+  pub headline : Headline may_tell (state_of begun) after (plan_program plan)
+      (text_within s.most) text rounds
 
 -- ---- *Program output*, of one request
 

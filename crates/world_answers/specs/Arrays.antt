@@ -17,10 +17,12 @@ use Rattle.world_answers.specs.Sessions.{IsOver}
 
 -- The plans were answered by these texts over one session of the world, which was new when it was opened and is in this state after all of
 -- them: its log holds what was asked, in batches of at most the world's limit.
-pub record AnswersTogether (s : ServiceOf) (plans : List PlanOf) (after : StateOf SourceOf) (reports : List ReportOf) : Type 0 where
+pub record AnswersTogether (s : ServiceOf) (plans : List PlanOf) (after : StateOf SourceOf)
+    (reports : List ReportOf) : Type 0 where
   pub begun : SessionOf SourceOf
   pub over : IsOver s.world begun
-  pub headline : SharedHeadline may_tell (state_of begun) after (requests_within s.most plans) reports
+  pub headline : SharedHeadline may_tell (state_of begun) after
+      (requests_within s.most plans) reports
 
 -- says what stands in the place of a value: its refusal, or the text of direct execution of its plan
 abbrev pub IsInPlace : ServiceOf → Option RequestOf → PlaceOf → Type 0
@@ -30,7 +32,8 @@ IsInPlace s value (answered plan report) = HasPlan (server_in s) value plan
 
 -- The text answers an array of these values by a service. Each value is answered in its place. The plans are of valid documents, and were
 -- all answered over one session, with the headline.
-pub record AnswersArray (s : ServiceOf) (values : List (Option RequestOf)) (text : List ℕ) : Type 0 where
+pub record AnswersArray (s : ServiceOf) (values : List (Option RequestOf))
+    (text : List ℕ) : Type 0 where
   pub places : List PlaceOf
   pub each : AllZip (IsInPlace s) values places
   pub report : text ≡ array_text (map text_in places)

@@ -32,7 +32,8 @@ pub record IsClientOf (s : ServiceOf) (c : ClientOf SourceOf) : Type 0 where
 
 -- A line is answered by this text in the client's session, from which it starts again: the loaders were asked exactly the batches of a
 -- lawful log for that line's plans, and nothing else. And the text is the one that answers the line, that of direct execution.
-pub record AnswersLine (s : ServiceOf) (c : ClientOf SourceOf) (line text : List ℕ) (later : ClientOf SourceOf) : Type 0 where
+pub record AnswersLine (s : ServiceOf) (c : ClientOf SourceOf) (line text : List ℕ)
+    (later : ClientOf SourceOf) : Type 0 where
   pub served : ServesLine may_tell c line text later
   pub direct : IsAnswer s line text
 

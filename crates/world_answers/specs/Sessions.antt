@@ -8,18 +8,21 @@ use Rattle.world.specs.Worlds.{WorldOf}
 
 -- the loader of a name over its source: it compares keys as the source does, and has asked nothing
 abbrev pub loader_over : Option ℕ → List ℕ → SourceOf → LoaderOf SourceOf
-loader_over limit name source = record { name = name; source = source; mode = source.mode; limit = limit; log = []; orders = 0 }
+loader_over limit name source =
+    record { name = name; source = source; mode = source.mode; limit = limit; log = []; orders = 0 }
 
 -- the loaders of lines over their sources, in order
 abbrev pub loaders_over : Option ℕ → List bindings.LoaderOf
     → List SourceOf → List (LoaderOf SourceOf)
 loaders_over limit [] sources = []
 loaders_over limit (line ∷ lines) [] = []
-loaders_over limit (line ∷ lines) (source ∷ sources) = loader_over limit line.name source ∷ loaders_over limit lines sources
+loaders_over limit (line ∷ lines) (source ∷ sources) =
+    loader_over limit line.name source ∷ loaders_over limit lines sources
 
 -- the new session of a world: the loaders of its bindings over its sources, and nothing is known
 abbrev pub session_over : WorldOf → SessionOf SourceOf
-session_over w = record { loaders = loaders_over w.limit w.bindings.loaders w.sources; pairs = []; rounds = 0 }
+session_over w =
+    record { loaders = loaders_over w.limit w.bindings.loaders w.sources; pairs = []; rounds = 0 }
 
 -- The session is one of a world, new but for the counts of orders.
 pub record IsOver (w : WorldOf) (s : SessionOf SourceOf) : Type 0 where

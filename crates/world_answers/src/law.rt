@@ -20,6 +20,6 @@ pub fn one_answer()
 
 /// The lines that are served in a client's session of a service have the text of direct execution each, whoever runs the batches.
 pub fn lines_are_direct()
-    ensures { (s : ServiceOf) (c later : ClientOf SourceOf) (d : DevicesOf) (result : Result ℕ ServeFault) → IsClientOf s c
-        → AreDirect s c later d result }
+    ensures { (s : ServiceOf) (c later : ClientOf SourceOf) (d : DevicesOf)
+        (result : Result ℕ ServeFault) → IsClientOf s c → AreDirect s c later d result }
 {}

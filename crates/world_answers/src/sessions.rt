@@ -21,9 +21,11 @@ fn gated_session<'w, G: Gate + Copy>(
     world: &'w World,
     gate: G,
 ) -> Result<Session<GatedSource<'w, G>>, AllocError>
-    ensures opened { IfOk result (λ session. session ≡ session_over world.now) }
+    ensures opened { IfOk result
+        (λ session. session ≡ session_over world.now) }
     // Each loader of the bindings is there.
-    ensures each { OnOk result (length world.now.sources ≡ length world.now.bindings.loaders) }
+    ensures each { OnOk result (length world.now.sources
+        ≡ length world.now.bindings.loaders) }
 {
     let mut loaders = Vec::with_capacity(alloc, world.loaders())?;
     for (number, line) in world.bindings().loaders().iter().enumerate() {
@@ -66,7 +68,8 @@ impl<'w> Service<'w> {
         alloc: Global,
         gate: G,
     ) -> Result<ClientSession<GatedSource<'w, G>>, AllocError>
-        ensures { IfOk result (IsClientOf (service_of self.now)) }
+        ensures { IfOk result
+            (IsClientOf (service_of self.now)) }
     {
         let session = gated_session(alloc, self.world, gate)?;
         let server = self.world.server().clone()?;

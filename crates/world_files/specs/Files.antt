@@ -17,7 +17,8 @@ IsTableFrom holds given table = (table.name ≡ string_bytes given.name)
     × IsSheetOf (holds (string_bytes given.file)) table.sheet
 
 -- The texts and the tables, in their order, are all that these files hold, where that is known.
-pub record AreFrom (holds : Holdings) (files : WorldFiles) (schema bindings : List ℕ) (tables : List TableOf) : Type 0 where
+pub record AreFrom (holds : Holdings) (files : WorldFiles) (schema bindings : List ℕ)
+    (tables : List TableOf) : Type 0 where
   pub schema_whole : IsTextOf (holds (string_bytes files.schema)) schema
   pub bindings_whole : IsTextOf (holds (string_bytes files.bindings)) bindings
   pub tables_whole : AllZip (IsTableFrom holds) files.tables.items tables
@@ -40,13 +41,16 @@ pub record IsRefusedFrom (holds : Holdings) (files : WorldFiles) (fault : WorldF
 
 -- the file of one of the tables can't be opened, or holds none
 abbrev pub IsUnopenedFrom : Holdings → List TableFile → OpenFault → Type 0
-IsUnopenedFrom holds tables fault = (place : ℕ) × IsSomeAnd (slice_get tables place) (λ given. IsUnopened (holds (string_bytes given.file)) place fault)
+IsUnopenedFrom holds tables fault = (place : ℕ) × IsSomeAnd (slice_get tables place)
+    (λ given. IsUnopened (holds (string_bytes given.file)) place fault)
 
 -- Reason why these files give no world: one of them can't be read; or a table is refused, of what its file holds; or what they all
 -- hold is no world. Of memory this says nothing.
 abbrev pub IsUnmadeFrom : Holdings → WorldFiles → OpenFault → Type 0
 IsUnmadeFrom holds files (opening.Unread file reason) = IsFileOf files file
-IsUnmadeFrom holds files (opening.Table place fault reason) = IsSomeAnd (slice_get files.tables.items place) (λ given. IsSheetFault (holds (string_bytes given.file)) fault)
+IsUnmadeFrom holds files (opening.Table place fault reason) =
+    IsSomeAnd (slice_get files.tables.items place)
+    (λ given. IsSheetFault (holds (string_bytes given.file)) fault)
 IsUnmadeFrom holds files (opening.World fault) = IsRefusedFrom holds files fault
 IsUnmadeFrom holds files (opening.Uncreated reason) = ⊥
 IsUnmadeFrom holds files opening.NoMemory = Unit {0}

@@ -33,4 +33,5 @@ IsCreatedAt (Some file) path = string_bytes file.path ≡ path
 -- gives what was written to the file that was created, by its path
 abbrev pub written_in : Option CreatedFile → Holdings
 written_in None path = None
-written_in (Some file) path = if bytes_eq (string_bytes file.path) path then Some file.bytes.items else None
+written_in (Some file) path =
+    if bytes_eq (string_bytes file.path) path then Some file.bytes.items else None

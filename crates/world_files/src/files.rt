@@ -58,7 +58,8 @@ fn schema_file<D: Folder>(alloc: Global, folder: &D, path: &str) -> Result<Strin
 
 // The text of the bindings' file.
 fn bindings_file<D: Folder>(alloc: Global, folder: &D, path: &str) -> Result<String, OpenFault>
-    ensures ok { IfOk result (λ text. IsTextOf (D.holds folder.now path.now) (string_bytes text)) }
+    ensures ok { IfOk result (λ text. IsTextOf
+        (D.holds folder.now path.now) (string_bytes text)) }
     ensures err { IfErr result (IsUnread Bindings) }
 {
     let file = match folder.open(path) {
@@ -78,8 +79,10 @@ fn table_file<D: Folder>(
     path: &str,
     place: usize,
 ) -> Result<Table, OpenFault>
-    ensures ok { IfOk result (IsSheetOf (D.holds folder.now path.now)) }
-    ensures err { IfErr result (IsUnopened (D.holds folder.now path.now) place) }
+    ensures ok { IfOk result
+        (IsSheetOf (D.holds folder.now path.now)) }
+    ensures err { IfErr result
+        (IsUnopened (D.holds folder.now path.now) place) }
 {
     match folder.open(path) {
         Ok(file) => read_table(alloc, file, place),
@@ -144,8 +147,10 @@ pub fn open_world<D: Folder>(
     folder: &D,
     files: &WorldFiles,
 ) -> Result<World, OpenFault>
-    ensures ok { IfOk result (IsWorldFrom (D.holds folder.now) files.now) }
-    ensures err { IfErr result (IsUnmadeFrom (D.holds folder.now) files.now) }
+    ensures ok { IfOk result
+        (IsWorldFrom (D.holds folder.now) files.now) }
+    ensures err { IfErr result
+        (IsUnmadeFrom (D.holds folder.now) files.now) }
     ensures located { IfErr result (IsLocated files.now) }
 {
     let schema = match schema_file(alloc, folder, files.schema.as_str()) {
@@ -194,9 +199,12 @@ pub fn open_requests<D: Folder>(folder: &D, path: &str) -> Result<D::File, OpenF
 ///
 /// `Uncreated` with the reason, and want of memory.
 pub fn create_trace<D: Folder>(folder: &mut D, path: &str) -> Result<D::Created, OpenFault>
-    ensures empty { IfOk result (λ file. D.Created.contents file ≡ D.fresh) }
-    ensures created { OnOk result (D.is_created folder.new path.now) }
-    ensures others { WritesNoOther path.now (D.written folder.old) (D.written folder.new) }
+    ensures empty { IfOk result
+        (λ file. D.Created.contents file ≡ D.fresh) }
+    ensures created { OnOk result
+        (D.is_created folder.new path.now) }
+    ensures others { WritesNoOther path.now
+        (D.written folder.old) (D.written folder.new) }
     ensures err { IfErr result IsUncreated }
 {
     match folder.create(path) {

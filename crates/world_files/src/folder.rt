@@ -47,8 +47,10 @@ pub trait Folder {
     ///
     /// Returns why it can't be created.
     fn create(&mut self, path: &str) -> io::Result<Self::Created>
-        ensures empty { IfOk result (λ file. Self.Created.contents file ≡ fresh) }
-        ensures created { OnOk result (is_created self.new path.now) }
+        ensures empty { IfOk result
+            (λ file. Self.Created.contents file ≡ fresh) }
+        ensures created { OnOk result
+            (is_created self.new path.now) }
         ensures others { WritesNoOther path.now (written self.old) (written self.new) };
 
     /// Ends the writing of the file that was created at a path: what was written is what it holds.
@@ -156,7 +158,8 @@ impl<'b> MemoryFolder<'b> {
 
     /// Returns what was written to the file that was created and closed at a path.
     pub fn file_bytes(&self, path: &str) -> Option<&[u8]>
-        ensures { option_map (λ bytes. bytes.now) result ≡ written_in self.now.created path.now }
+        ensures { option_map (λ bytes. bytes.now) result
+            ≡ written_in self.now.created path.now }
     {
         match &self.created {
             Some(created) if created.path.as_str() == path => Some(created.bytes.as_slice()),
@@ -186,8 +189,10 @@ impl<'b> Folder for MemoryFolder<'b> {
     fn open(&self, path: &str) -> io::Result<&'b [u8]>
         ensures ok { IfOk result (λ file.
             IsAllOf (held_in self.now.files.now path.now) (Some file.now)) }
-        ensures found { IfOk result (λ file. held_in self.now.files.now path.now ≡ Some file.now) }
-        ensures err { OnErr result (held_in self.now.files.now path.now ≡ None) }
+        ensures found { IfOk result (λ file. held_in
+            self.now.files.now path.now ≡ Some file.now) }
+        ensures err { OnErr result
+            (held_in self.now.files.now path.now ≡ None) }
     {
         for file in self.files {
             if file.path == path {
@@ -198,8 +203,10 @@ impl<'b> Folder for MemoryFolder<'b> {
     }
 
     fn create(&mut self, path: &str) -> io::Result<Vec<u8>>
-        ensures empty { IfOk result (λ file. Some file.items ≡ Some []) }
-        ensures created { OnOk result (IsCreatedAt self.new.created path.now) }
+        ensures empty { IfOk result
+            (λ file. Some file.items ≡ Some []) }
+        ensures created { OnOk result
+            (IsCreatedAt self.new.created path.now) }
         ensures others { WritesNoOther path.now
             (written_in self.old.created) (written_in self.new.created) }
         ensures files { self.new.files ≡ self.old.files }
@@ -215,7 +222,8 @@ impl<'b> Folder for MemoryFolder<'b> {
         requires { IsCreatedAt self.old.created path.now }
         ensures written { IsWritten (written_in self.new.created path.now)
             (Some []) (Some file.items) }
-        ensures found { written_in self.new.created path.now ≡ Some file.items }
+        ensures found { written_in self.new.created path.now
+            ≡ Some file.items }
         ensures others { WritesNoOther path.now
             (written_in self.old.created) (written_in self.new.created) }
         ensures files { self.new.files ≡ self.old.files }

@@ -21,7 +21,8 @@ const MAX_TABLE: u32 = 4_294_967_295;
 /// Returns what a failed call on a file is. Want of memory is in no file.
 pub fn unread(file: InputFile, reason: io::Error) -> OpenFault
     ensures unread { IsUnread file result }
-    ensures reason { (result ≡ OpenFault.NoMemory) ⊎ (result ≡ OpenFault.Unread file reason) }
+    ensures reason { (result ≡ OpenFault.NoMemory)
+        ⊎ (result ≡ OpenFault.Unread file reason) }
 {
     if reason.kind() == ErrorKind::OutOfMemory {
         return OpenFault::NoMemory;
@@ -40,8 +41,10 @@ fn no_text() -> io::Error {
 ///
 /// Returns why the reader fails; and where it gives no UTF-8, or gives more.
 pub fn read_text<R: Read + Drop>(alloc: Global, reader: R, most: u32) -> io::Result<String>
-    ensures ok { IfOk result (λ text. IsTextOf (R.remaining reader) (string_bytes text)) }
-    ensures within { IfOk result (λ text. string_len text ≤ most) }
+    ensures ok { IfOk result (λ text.
+        IsTextOf (R.remaining reader) (string_bytes text)) }
+    ensures within { IfOk result
+        (λ text. string_len text ≤ most) }
 {
     let text = match io::read_to_string(alloc, reader.take(most as u64 + 1)) {
         Ok(text) => text,
@@ -95,7 +98,8 @@ pub fn read_schema<R: Read + Drop>(alloc: Global, reader: R) -> io::Result<Strin
 
 // Returns what a refused table is. Of a file that couldn't be read its reader has kept the reason.
 fn open_fault_of(place: usize, fault: TableFault, kept: Option<io::Error>) -> OpenFault
-    ensures { result ≡ OpenFault.Table place fault (reason_of fault kept) }
+    ensures { result ≡ OpenFault.Table place fault
+        (reason_of fault kept) }
 {
     let reason = match fault {
         TableFault::ReadFault => kept,
@@ -118,8 +122,10 @@ pub fn read_table<R: Read + Drop>(
     reader: R,
     place: usize,
 ) -> Result<Table, OpenFault>
-    ensures ok { IfOk result (IsSheetOf (R.remaining reader)) }
-    ensures err { IfErr result (IsUnopened (R.remaining reader) place) }
+    ensures ok { IfOk result
+        (IsSheetOf (R.remaining reader)) }
+    ensures err { IfErr result
+        (IsUnopened (R.remaining reader) place) }
 {
     let mut front = BoundedReader::new(reader, MAX_TABLE);
     let table = Table::read(alloc, &mut front);

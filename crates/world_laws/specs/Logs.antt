@@ -8,7 +8,8 @@ use Rattle.execution.specs.Program.{Program}
 use Rattle.execution.specs.Rounds.{RuleOf, modes_of, AreLimited, HasLoaders, RespectsCacheKeys, HoldsItems, IsLawful, key_by_key}
 
 -- The loaders of a program are there, and no limit is 0. Equal cache keys have equal items, and what the memory holds are items.
-pub record AnswersKeyByKey (item : ℕ → KeyOf → ItemOf) (rules : List RuleOf) (p : Program) (M : Memory) : Type 0 where
+pub record AnswersKeyByKey (item : ℕ → KeyOf → ItemOf) (rules : List RuleOf) (p : Program)
+    (M : Memory) : Type 0 where
   pub limited : AreLimited rules
   pub loaders : HasLoaders (length rules) p
   pub alike : RespectsCacheKeys (modes_of rules) item

@@ -11,15 +11,18 @@ use Rattle.world_answers.specs.Answers.{IsAnsweredAnew}
 use Rattle.world_answers.specs.Services.{ServiceOf}
 
 -- the plan is that of the operation that is asked for, with these values given for its variables
-pub record IsPlanFor (w : WorldOf) (d : Document) (name : Option (List ℕ)) (given : Data) (plan : PlanOf) : Type 0 where
+pub record IsPlanFor (w : WorldOf) (d : Document) (name : Option (List ℕ)) (given : Data)
+    (plan : PlanOf) : Type 0 where
   pub definitions : plan.definitions ≡ tree_of w.definitions
   pub bindings : plan.bindings ≡ w.bindings
   pub fragments : plan.fragments ≡ d.fragments
-  pub prepares : prepared (tree_of w.definitions) d.operations name given ≡ Ok (record { operation = plan.operation; variables = plan.variables })
+  pub prepares : prepared (tree_of w.definitions) d.operations name given
+      ≡ Ok (record { operation = plan.operation; variables = plan.variables })
 
 -- The document isn't valid, for a fault; or it is, and its operation can't be prepared, for a fault; or the operation's plan is
 -- answered, in a session of the world that was new.
-pub data IsRefusedOrAnswered (s : ServiceOf) (d : Document) (name : Option (List ℕ)) (given : Data) : Type 0 where
+pub data IsRefusedOrAnswered (s : ServiceOf) (d : Document) (name : Option (List ℕ))
+    (given : Data) : Type 0 where
   invalid : (f : FaultOf) → IsVerdict (tree_of s.world.definitions) d (Some f)
       → IsRefusedOrAnswered s d name given
   unprepared : (f : Unprepared) → IsValid (tree_of s.world.definitions) d

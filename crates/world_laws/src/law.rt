@@ -33,7 +33,8 @@ pub fn texts_are_read()
 /// (section 5.3.2 of the GraphQL specification of October 2021), which is a relation, it can be told for each selection set whether
 /// it can be merged, and else which response key fails first.
 pub fn documents_have_verdicts()
-    ensures { (defs : List Definition) (d : Document) → (v : Option FaultOf) × IsVerdict defs d v }
+    ensures { (defs : List Definition) (d : Document)
+        → (v : Option FaultOf) × IsVerdict defs d v }
 {}
 
 /// Direct execution, in which each load is answered by its key's item, has an answer for every program. Over sources that
@@ -49,15 +50,15 @@ pub fn answers_are_there()
 /// Each plan over the bindings of a world has an answer, whatever the limit: a text that is that of direct execution, and a session
 /// of the world, new at first, in which it was answered with the headline. So only being out of memory keeps a plan from its answer.
 pub fn plans_are_answered()
-    ensures { (s : ServiceOf) (plan : PlanOf) → HasSources s.world → plan.bindings ≡ s.world.bindings
-        → IsPlan plan → (text : List ℕ) × IsAnsweredAnew s plan text }
+    ensures { (s : ServiceOf) (plan : PlanOf) → HasSources s.world → plan.bindings
+        ≡ s.world.bindings → IsPlan plan → (text : List ℕ) × IsAnsweredAnew s plan text }
 {}
 
 /// Each request to a service whose query is a document comes to a fault of the document, or to one of the choice of its operation
 /// and its variables, or to an answer.
 pub fn requests_are_answered()
-    ensures { (s : ServiceOf) (d : Document) (name : Option (List ℕ)) (given : Data) → HasSources s.world
-        → IsRefusedOrAnswered s d name given }
+    ensures { (s : ServiceOf) (d : Document) (name : Option (List ℕ)) (given : Data)
+        → HasSources s.world → IsRefusedOrAnswered s d name given }
 {}
 
 /// Each line has an answer by a service, and so exactly one (`one_answer` of `world_answers`): it is no request, or its query is no

@@ -13,7 +13,8 @@ use gq_lexer::Place;
 use schema_syntax::{ArgumentDefinition, FieldDefinition};
 
 fn bad_default(schema: &Schema, argument: &ArgumentDefinition) -> Option<Place>
-    ensures { result ≡ bad_default (tree_of schema.now) (argument_of argument.now) }
+    ensures { result ≡ bad_default (tree_of schema.now)
+        (argument_of argument.now) }
 {
     let default = argument.default.as_ref()?;
     if accepts(schema, &argument.of_type, default) {
@@ -47,7 +48,8 @@ fn bad_default_in(schema: &Schema, fields: &[FieldDefinition]) -> Option<Place>
 
 /// The first default of the text that is not of its argument's type (section 3.6.1).
 pub fn first_bad_default(schema: &Schema) -> Option<Place>
-    ensures { result ≡ first_bad_default (tree_of schema.now) }
+    ensures { result ≡ first_bad_default
+        (tree_of schema.now) }
 {
     for indexed in schema.definitions() {
         if let Some(place) = bad_default_in(schema, own_fields(&indexed.definition)) {

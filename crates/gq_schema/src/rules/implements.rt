@@ -27,7 +27,8 @@ struct Arguments<'a> {
 
 impl<'a> Arguments<'a> {
     fn of(alloc: Global, arguments: &'a [ArgumentDefinition]) -> Result<Arguments<'a>, AllocError>
-        ensures { IfOk result (λ all. all.arguments.now ≡ arguments.now) }
+        ensures { IfOk result
+            (λ all. all.arguments.now ≡ arguments.now) }
     {
         let mut places: NameIndices = HashMap::new(alloc);
         for (i, argument) in arguments.iter().enumerate() {
@@ -68,7 +69,8 @@ fn has_arguments(own: &Arguments, wanted: &[ArgumentDefinition]) -> bool
 }
 
 fn is_required(argument: &ArgumentDefinition) -> bool
-    ensures { result ≡ is_required (argument_of argument.now) }
+    ensures { result ≡ is_required
+        (argument_of argument.now) }
 {
     argument.of_type.is_non_null() && argument.default.is_none()
 }
@@ -131,7 +133,8 @@ fn has_field(
 }
 
 fn implements(alloc: Global, schema: &Schema, ty: &str, interface: &str) -> Result<bool, AllocError>
-    ensures { IfOk result (λ good. good ≡ implements (tree_of schema.now) ty.now interface.now) }
+    ensures { IfOk result (λ good. good ≡ implements
+        (tree_of schema.now) ty.now interface.now) }
 {
     for wanted in schema.fields(interface) {
         if !has_field(alloc, schema, ty, wanted)? {
@@ -185,7 +188,8 @@ fn bad_interface_in(
 /// Of arguments types alone are compared: an object's argument may lack the default of the interface's, or have
 /// another.
 pub fn first_bad_interface(alloc: Global, schema: &Schema) -> Result<Option<Place>, AllocError>
-    ensures { IfOk result (λ place. place ≡ first_bad_interface (tree_of schema.now)) }
+    ensures { IfOk result (λ place.
+        place ≡ first_bad_interface (tree_of schema.now)) }
 {
     for indexed in schema.definitions() {
         let place = bad_interface_in(alloc, schema, &indexed.definition)?;

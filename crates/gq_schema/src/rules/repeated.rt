@@ -28,7 +28,8 @@ fn note<'a>(seen: &mut EarlierNames<'a>, name: &'a Name) -> Result<bool, AllocEr
 }
 
 fn repeated_name(alloc: Global, names: &[Name]) -> Result<Option<Place>, AllocError>
-    ensures { IfOk result (λ place. place ≡ repeated_name [] (names_of names.now)) }
+    ensures { IfOk result (λ place.
+        place ≡ repeated_name [] (names_of names.now)) }
 {
     let mut seen: EarlierNames = HashSet::new(alloc);
     for name in names {
@@ -55,7 +56,8 @@ fn repeated_argument(
 }
 
 fn repeated_field(alloc: Global, fields: &[FieldDefinition]) -> Result<Option<Place>, AllocError>
-    ensures { IfOk result (λ place. place ≡ repeated_field [] (fields_of fields.now)) }
+    ensures { IfOk result (λ place.
+        place ≡ repeated_field [] (fields_of fields.now)) }
 {
     let mut seen: EarlierNames = HashSet::new(alloc);
     for field in fields {
@@ -103,7 +105,8 @@ fn repeated_type<'a>(
     seen: &mut EarlierNames<'a>,
     name: &'a Name,
 ) -> Result<Option<Place>, AllocError>
-    ensures place { IfOk result (λ place. place ≡ place_if_seen seen.old name.now) }
+    ensures place { IfOk result
+        (λ place. place ≡ place_if_seen seen.old name.now) }
     ensures noted { (q : List ℕ) → OnOk result
         (has_text seen.new q ≡ (bytes_eq q (string_bytes name.now.text) || has_text seen.old q)) }
 {
@@ -114,7 +117,8 @@ fn repeated_type<'a>(
 
 // The first name within a definition that is defined a second time.
 fn repeated_within(alloc: Global, definition: &Definition) -> Result<Option<Place>, AllocError>
-    ensures { IfOk result (λ place. place ≡ repeated_within (definition_of definition.now)) }
+    ensures { IfOk result (λ place. place
+        ≡ repeated_within (definition_of definition.now)) }
 {
     match definition {
         Definition::Schema(_) => Ok(None),
@@ -136,7 +140,8 @@ pub fn first_repeated(
     alloc: Global,
     definitions: &[Definition],
 ) -> Result<Option<Place>, AllocError>
-    ensures { IfOk result (λ place. place ≡ first_repeated (tree_of definitions.now)) }
+    ensures { IfOk result (λ place.
+        place ≡ first_repeated (tree_of definitions.now)) }
 {
     let mut earlier = EarlierDefinitions {
         types: HashSet::new(alloc),

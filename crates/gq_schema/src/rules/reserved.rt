@@ -20,7 +20,8 @@ fn reserved_name(name: &Name) -> Option<Place>
 }
 
 fn reserved_in(names: &[Name]) -> Option<Place>
-    ensures { result ≡ first_in reserved_name (names_of names.now) }
+    ensures { result ≡ first_in reserved_name
+        (names_of names.now) }
 {
     for name in names {
         if let Some(place) = reserved_name(name) {
@@ -31,7 +32,8 @@ fn reserved_in(names: &[Name]) -> Option<Place>
 }
 
 fn reserved_argument(arguments: &[ArgumentDefinition]) -> Option<Place>
-    ensures { result ≡ first_in reserved_argument (arguments_of arguments.now) }
+    ensures { result ≡ first_in reserved_argument
+        (arguments_of arguments.now) }
 {
     for argument in arguments {
         if let Some(place) = reserved_name(&argument.name) {
@@ -42,7 +44,8 @@ fn reserved_argument(arguments: &[ArgumentDefinition]) -> Option<Place>
 }
 
 fn reserved_field(fields: &[FieldDefinition]) -> Option<Place>
-    ensures { result ≡ first_in reserved_field (fields_of fields.now) }
+    ensures { result ≡ first_in reserved_field
+        (fields_of fields.now) }
 {
     for field in fields {
         let place = reserved_name(&field.name).or_else(|| reserved_argument(&field.arguments));
@@ -54,7 +57,8 @@ fn reserved_field(fields: &[FieldDefinition]) -> Option<Place>
 }
 
 fn reserved_definition(definition: &Definition) -> Option<Place>
-    ensures { result ≡ reserved_definition (definition_of definition.now) }
+    ensures { result ≡ reserved_definition
+        (definition_of definition.now) }
 {
     match definition {
         Definition::Schema(_) => None,
@@ -73,7 +77,8 @@ fn reserved_definition(definition: &Definition) -> Option<Place>
 
 /// The first name of the text that is defined and begins with two underscores (section 3).
 pub fn first_reserved(definitions: &[Definition]) -> Option<Place>
-    ensures { result ≡ first_reserved (tree_of definitions.now) }
+    ensures { result ≡ first_reserved
+        (tree_of definitions.now) }
 {
     for definition in definitions {
         if let Some(place) = reserved_definition(definition) {

@@ -73,13 +73,15 @@ fn broken_use(
 }
 
 fn broken_name(schema: &Schema, rule: TypeUseDemand, role: Role, name: &Name) -> Option<Place>
-    ensures { result ≡ broken_use (tree_of schema.now) rule role (name_of name.now) }
+    ensures { result ≡ broken_use
+        (tree_of schema.now) rule role (name_of name.now) }
 {
     broken_use(schema, rule, role, name.text.as_str(), name.place)
 }
 
 fn broken_type(schema: &Schema, rule: TypeUseDemand, role: Role, of_type: &TypeRef) -> Option<Place>
-    ensures { result ≡ broken_use (tree_of schema.now) rule role (core_of (type_of of_type.now)) }
+    ensures { result ≡ broken_use (tree_of schema.now)
+        rule role (core_of (type_of of_type.now)) }
 {
     broken_use(
         schema,
@@ -133,7 +135,8 @@ fn broken_fields(schema: &Schema, rule: TypeUseDemand, fields: &[FieldDefinition
 
 // The use of a definition's own name, where it is the root without a `schema`.
 fn broken_root(schema: &Schema, rule: TypeUseDemand, name: &Name) -> Option<Place>
-    ensures { result ≡ broken_root (tree_of schema.now) rule (name_of name.now) }
+    ensures { result ≡ broken_root
+        (tree_of schema.now) rule (name_of name.now) }
 {
     if !schema.declares_root() && name.text.as_str() == "Query" {
         broken_name(schema, rule, Role::Root, name)
@@ -143,7 +146,8 @@ fn broken_root(schema: &Schema, rule: TypeUseDemand, name: &Name) -> Option<Plac
 }
 
 fn broken_in(schema: &Schema, rule: TypeUseDemand, definition: &Definition) -> Option<Place>
-    ensures { result ≡ broken_in (tree_of schema.now) rule (definition_of definition.now) }
+    ensures { result ≡ broken_in (tree_of schema.now) rule
+        (definition_of definition.now) }
 {
     match definition {
         Definition::Schema(root) => broken_name(schema, rule, Role::Root, &root.query),
@@ -165,7 +169,8 @@ fn broken_in(schema: &Schema, rule: TypeUseDemand, definition: &Definition) -> O
 
 /// The first use in the text of a type's name that breaks the rule.
 pub fn first_broken(schema: &Schema, rule: TypeUseDemand) -> Option<Place>
-    ensures { result ≡ first_broken (tree_of schema.now) rule }
+    ensures { result ≡ first_broken
+        (tree_of schema.now) rule }
 {
     for indexed in schema.definitions() {
         if let Some(place) = broken_in(schema, rule, &indexed.definition) {

@@ -33,8 +33,10 @@ use std::alloc::{AllocError, Global};
 // The first member of a set whose response key has a conflict, by its number in the document.
 fn first_clashing<'d>(compared: &ComparedFields<'_, 'd>, set: ClashingSet<'d>) -> Option<usize>
     requires compared { IsCompared compared.now }
-    requires under { HasFieldsOf compared.now (set_in compared.now set) }
-    requires inside { IsInside (length compared.now.grounds.numbers.now) set }
+    requires under { HasFieldsOf compared.now
+        (set_in compared.now set) }
+    requires inside { IsInside
+        (length compared.now.grounds.numbers.now) set }
     ensures first { result ≡ first_clash (fields_in compared.now).one_key
         (clash_in compared.now) (set_in compared.now set.entry).members }
     ensures there { IfSome result (λ f.
@@ -61,9 +63,12 @@ fn first_clashing<'d>(compared: &ComparedFields<'_, 'd>, set: ClashingSet<'d>) -
 // The fault to report for a set in which two fields conflict.
 fn report<'d>(compared: &ComparedFields<'_, 'd>, set: ClashingSet<'d>) -> Option<Violation<'d>>
     requires compared { IsCompared compared.now }
-    requires under { HasFieldsOf compared.now (set_in compared.now set) }
-    requires inside { IsInside (length compared.now.grounds.numbers.now) set }
-    ensures { option_map broken_of result ≡ report_in compared.now (set_in compared.now set.entry) }
+    requires under { HasFieldsOf compared.now
+        (set_in compared.now set) }
+    requires inside { IsInside
+        (length compared.now.grounds.numbers.now) set }
+    ensures { option_map broken_of result ≡ report_in
+        compared.now (set_in compared.now set.entry) }
 {
     let number = first_clashing(compared, set)?;
     let field = &compared.grounds.parts.fields[number];
@@ -86,7 +91,8 @@ fn earlier<'d>(kept: ClashingSet<'d>, other: ClashingSet<'d>) -> ClashingSet<'d>
 
 // The set with the earliest `{`.
 fn earliest_set<'d>(sets: &[ClashingSet<'d>]) -> Option<ClashingSet<'d>>
-    ensures inside { (many : ℕ) → All (IsInside many) sets.now → IfSome result (IsInside many) }
+    ensures inside { (many : ℕ) → All (IsInside many)
+        sets.now → IfSome result (IsInside many) }
     ensures set { (spread : List ℕ → List ℕ) → option_map (clashing_of spread) result
         ≡ earliest_set (map (clashing_of spread) sets.now) }
 {
@@ -122,7 +128,8 @@ fn compare<'d>(
     grounds: Grounds<'_, 'd>,
     fragments: &[usize],
 ) -> Result<Option<Violation<'d>>, AllocError>
-    requires fragments { IsFragmentOrder fragments.now grounds }
+    requires fragments { IsFragmentOrder
+        fragments.now grounds }
     requires ranked { ∥ AreRanked (place_in (document_in grounds).fragments)
         (document_in grounds).fragments ∥₁ }
     ensures { IfOk result (λ report.
@@ -178,9 +185,12 @@ pub fn field_selection_merging<'d>(
 ) -> Result<Option<Violation<'d>>, AllocError>
     requires listed { parts_in parts.now
         ≡ parts_of (parts_in parts.now).definitions (parts_in parts.now).document }
-    requires graph { graph.now ≡ graph_of (parts_in parts.now) }
-    requires cycles { fragment_spreads_must_not_form_cycles (parts_in parts.now) ≡ [] }
-    requires few { length (parts_in parts.now).fields ≤ 1024 }
+    requires graph { graph.now
+        ≡ graph_of (parts_in parts.now) }
+    requires cycles { fragment_spreads_must_not_form_cycles
+        (parts_in parts.now) ≡ [] }
+    requires few { length (parts_in parts.now).fields
+        ≤ 1024 }
     ensures { IfOk result (λ report. IsMerging (parts_in parts.now) (option_map broken_of report)) }
 {
     if agree_by_key(alloc, parts)? {

@@ -25,7 +25,8 @@ fn rank_of(ranks: &[usize], fragment: usize) -> usize
 }
 
 fn are_at_most(ranks: &[usize], rank: usize, fragments: &[usize]) -> bool
-    ensures { result ≡ are_at_most ranks.now rank fragments.now }
+    ensures { result ≡ are_at_most
+        ranks.now rank fragments.now }
 {
     fragments
         .iter()
@@ -33,7 +34,8 @@ fn are_at_most(ranks: &[usize], rank: usize, fragments: &[usize]) -> bool
 }
 
 fn are_under(ranks: &[usize], rank: usize, fragments: &[usize]) -> bool
-    ensures { result ≡ are_under ranks.now rank fragments.now }
+    ensures { result ≡ are_under
+        ranks.now rank fragments.now }
 {
     fragments
         .iter()
@@ -42,7 +44,8 @@ fn are_under(ranks: &[usize], rank: usize, fragments: &[usize]) -> bool
 
 // Tells whether what each fragment spreads has at most its rank.
 fn is_ordered(ranks: &[usize], graph: &Graph) -> bool
-    ensures { IsTrue result → IsOrdered ranks.now graph.now }
+    ensures { IsTrue result
+        → IsOrdered ranks.now graph.now }
 {
     (0..graph.len()).all(|fragment| {
         let row = graph.row(Owner::Fragment(fragment));
@@ -59,7 +62,8 @@ fn is_cyclic(
     fragment: usize,
 ) -> Result<bool, AllocError>
     requires { IsOrdered ranks.now graph.now }
-    ensures { IfOk result (λ cyclic. cyclic ≡ is_cyclic graph.now fragment) }
+    ensures { IfOk result
+        (λ cyclic. cyclic ≡ is_cyclic graph.now fragment) }
 {
     let owner = Owner::Fragment(fragment);
     if are_under(ranks, rank_of(ranks, fragment), graph.row(owner)) {
@@ -71,7 +75,8 @@ fn is_cyclic(
 
 // Tells whether what is broken at this place would stand before all so far.
 fn stands_first(earliest: &EarliestViolation, place: Place) -> bool
-    ensures { result ≡ stands_first (option_map broken_of earliest.now.found) place }
+    ensures { result ≡ stands_first
+        (option_map broken_of earliest.now.found) place }
 {
     match earliest.found {
         Some(kept) => place.is_before(kept.place),

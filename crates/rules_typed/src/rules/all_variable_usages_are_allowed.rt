@@ -35,7 +35,8 @@ fn mark_span(
     marks: &mut Vec<bool>,
 ) -> Result<(), AllocError>
     requires places { ArePlaces table.now.places uses.now }
-    requires kinds { AreKinds table.now.kinds (map use_of uses.now) }
+    requires kinds { AreKinds table.now.kinds
+        (map use_of uses.now) }
     ensures { OnOk result (MarksForbidden uses.now span.now marks.old.items marks.new.items) }
 {
     let sets = allowing_sets(alloc, &table.kinds, uses, span)?;
@@ -48,7 +49,8 @@ fn mark_span(
 
 // The uses that an operation forbids, a mark for each.
 fn forbidden_marks(alloc: Global, parts: &Parts, graph: &Graph) -> Result<Vec<bool>, AllocError>
-    ensures { IfOk result (λ marks. AreForbidden graph.now parts.now marks.items) }
+    ensures { IfOk result (λ marks.
+        AreForbidden graph.now parts.now marks.items) }
 {
     let table = UsageKinds {
         places: places_of(alloc, &parts.uses)?,
@@ -67,7 +69,8 @@ fn forbidden_marks(alloc: Global, parts: &Parts, graph: &Graph) -> Result<Vec<bo
 
 // Tells whether a place is marked.
 fn is_marked(marks: &[bool], place: usize) -> bool
-    ensures { result ≡ slice_index_or marks.now place false }
+    ensures { result ≡ slice_index_or
+        marks.now place false }
 {
     marks.get(place).copied().unwrap_or(false)
 }

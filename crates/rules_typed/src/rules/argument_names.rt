@@ -13,7 +13,8 @@ use rules_parts::{ArgumentPart, EarliestViolation, FieldPart, Parts, Violation};
 
 // The fault of an argument that isn't defined.
 fn unknown_argument<'d>(part: &ArgumentPart<'d>) -> Option<Violation<'d>>
-    ensures { option_map broken_of result ≡ unknown_argument (argument_part_of part.now) }
+    ensures { option_map broken_of result
+        ≡ unknown_argument (argument_part_of part.now) }
 {
     if !part.is_known || part.definition.is_some() {
         return None;
@@ -33,7 +34,8 @@ fn add_all<'d>(earliest: &mut EarliestViolation<'d>, arguments: &'d [Argument])
 
 // The arguments of `__typename`, which has none.
 fn add_type_name_arguments<'d>(earliest: &mut EarliestViolation<'d>, part: &FieldPart<'d>)
-    ensures { AddsBroken earliest.old earliest.new (type_name_arguments (field_part_of part.now)) }
+    ensures { AddsBroken earliest.old earliest.new
+        (type_name_arguments (field_part_of part.now)) }
 {
     if is_type_name(part) {
         add_all(earliest, &part.field.arguments);
@@ -49,7 +51,8 @@ fn add_type_name_arguments<'d>(earliest: &mut EarliestViolation<'d>, part: &Fiel
 /// | `{user(id:1,age:2){name}}` | `5.4.1 Argument Names: age` | 12, the argument | Give only arguments that the field or directive defines. |
 #[tactic(auto, using(crate::proofs::Keeping::keep_next, crate::proofs::Keeping::keep_before))]
 pub fn argument_names<'d>(parts: &Parts<'d>) -> Option<Violation<'d>>
-    ensures { option_map broken_of result ≡ earliest (argument_names (parts_in parts.now)) }
+    ensures { option_map broken_of result
+        ≡ earliest (argument_names (parts_in parts.now)) }
 {
     let mut earliest = EarliestViolation::new();
     for part in &parts.arguments {

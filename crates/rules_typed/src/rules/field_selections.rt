@@ -11,13 +11,15 @@ use rules_parts::{EarliestViolation, FieldPart, Parts, Violation};
 
 /// Tells whether it is `__typename` of a composite type, which each has (section 4.1).
 pub fn is_type_name(part: &FieldPart) -> bool
-    ensures { result ≡ is_type_name (field_part_of part.now) }
+    ensures { result ≡ is_type_name
+        (field_part_of part.now) }
 {
     part.parent.is_some() && part.field.name.as_str() == "__typename"
 }
 
 fn unknown_field<'d>(part: &FieldPart<'d>) -> Option<Violation<'d>>
-    ensures { option_map broken_of result ≡ unknown_field (field_part_of part.now) }
+    ensures { option_map broken_of result
+        ≡ unknown_field (field_part_of part.now) }
 {
     if part.parent.is_none() || part.definition.is_some() || is_type_name(part) {
         return None;
@@ -34,7 +36,8 @@ fn unknown_field<'d>(part: &FieldPart<'d>) -> Option<Violation<'d>>
 /// inside fragments on its members. |
 #[tactic(auto, using(crate::proofs::Keeping::keep_next))]
 pub fn field_selections<'d>(parts: &Parts<'d>) -> Option<Violation<'d>>
-    ensures { option_map broken_of result ≡ earliest (field_selections (parts_in parts.now)) }
+    ensures { option_map broken_of result
+        ≡ earliest (field_selections (parts_in parts.now)) }
 {
     let mut earliest = EarliestViolation::new();
     for part in &parts.fields {

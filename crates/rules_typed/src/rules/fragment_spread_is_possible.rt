@@ -21,7 +21,8 @@ fn can_be_any(schema: &Schema, ty: &str, names: &[String]) -> bool
 
 /// Tells whether an object type is a possible type of both.
 pub fn may_overlap(schema: &Schema, one: &str, other: &str) -> bool
-    ensures { result ≡ may_overlap (tree_of schema.now) one.now other.now }
+    ensures { result ≡ may_overlap
+        (tree_of schema.now) one.now other.now }
 {
     match schema.possible_types(one) {
         Some(names) => can_be_any(schema, other, names),
@@ -41,7 +42,8 @@ fn is_impossible(schema: &Schema, parent: Option<&str>, fragment_type: Option<&s
 
 // The name, where it is that of a composite type.
 fn composite<'d>(schema: &Schema, name: &'d str) -> Option<&'d str>
-    ensures { option_copied result ≡ composite_in (tree_of schema.now) name.now }
+    ensures { option_copied result
+        ≡ composite_in (tree_of schema.now) name.now }
 {
     let kind = schema.kind_of(name)?;
     if kind.is_leaf() { None } else { Some(name) }
@@ -49,7 +51,8 @@ fn composite<'d>(schema: &Schema, name: &'d str) -> Option<&'d str>
 
 // The composite type that the fragment of a number is for.
 fn fragment_type<'d>(parts: &Parts<'d>, fragment: usize) -> Option<&'d str>
-    ensures { option_copied result ≡ fragment_type (parts_in parts.now) fragment }
+    ensures { option_copied result
+        ≡ fragment_type (parts_in parts.now) fragment }
 {
     let fragment = parts.document.fragments.get(fragment)?;
     composite(parts.schema, fragment.condition.name.as_str())

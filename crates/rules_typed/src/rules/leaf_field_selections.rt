@@ -13,7 +13,8 @@ use rules_parts::{EarliestViolation, FieldPart, Parts, Violation};
 
 // Returns what a field's type is, without lists and `!`.
 fn kind_of_field(schema: &Schema, part: &FieldPart) -> Option<TypeKind>
-    ensures { result ≡ kind_of_field (tree_of schema.now) (field_part_of part.now) }
+    ensures { result ≡ kind_of_field
+        (tree_of schema.now) (field_part_of part.now) }
 {
     if is_type_name(part) {
         return Some(TypeKind::Scalar);
@@ -42,7 +43,8 @@ fn misfit_field<'d>(schema: &Schema, part: &FieldPart<'d>) -> Option<Violation<'
 /// | `{users}` | `5.3.3 Leaf Field Selections: users` | 2, the field | Select fields of a composite type, and none of a scalar or enum. |
 #[tactic(auto, using(crate::proofs::Keeping::keep_next))]
 pub fn leaf_field_selections<'d>(parts: &Parts<'d>) -> Option<Violation<'d>>
-    ensures { option_map broken_of result ≡ earliest (leaf_field_selections (parts_in parts.now)) }
+    ensures { option_map broken_of result ≡ earliest
+        (leaf_field_selections (parts_in parts.now)) }
 {
     let mut earliest = EarliestViolation::new();
     for part in &parts.fields {

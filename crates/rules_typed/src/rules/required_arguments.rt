@@ -20,26 +20,30 @@ fn is_null(literal: &Literal) -> bool
 }
 
 fn is_required(argument: &ArgDef) -> bool
-    ensures { result ≡ is_required (schema.argument_of argument.now) }
+    ensures { result ≡ is_required
+        (schema.argument_of argument.now) }
 {
     argument.of_type.is_non_null() && argument.default.is_none()
 }
 
 fn is_called(argument: &Argument, name: &str) -> bool
-    ensures { result ≡ is_called name.now (argument_of argument.now) }
+    ensures { result ≡ is_called name.now
+        (argument_of argument.now) }
 {
     name == argument.name.as_str()
 }
 
 fn has_value(argument: &Argument) -> bool
-    ensures { result ≡ not (is_null (argument_of argument.now).value) }
+    ensures { result ≡ not
+        (is_null (argument_of argument.now).value) }
 {
     !is_null(&argument.value)
 }
 
 // Tells whether an argument of a name is given, and the first of the name isn't the literal `null`.
 fn is_given(arguments: &[Argument], name: &str) -> bool
-    ensures { result ≡ is_given (arguments_of arguments.now) name.now }
+    ensures { result ≡ is_given
+        (arguments_of arguments.now) name.now }
 {
     arguments
         .iter()
@@ -65,7 +69,8 @@ fn first_missing<'d>(defined: &'d [ArgDef], arguments: &[Argument]) -> Option<&'
 }
 
 fn missing_argument<'d>(list: &ArgumentList<'d>) -> Option<Violation<'d>>
-    ensures { option_map broken_of result ≡ missing_argument (argument_list_of list.now) }
+    ensures { option_map broken_of result
+        ≡ missing_argument (argument_list_of list.now) }
 {
     let name = first_missing(list.definitions?, list.arguments)?;
     Some(Violation::of_name(name, list.place))
@@ -80,7 +85,8 @@ fn missing_argument<'d>(list: &ArgumentList<'d>) -> Option<Violation<'d>>
 /// without a default. The first missing one is reported. |
 #[tactic(auto, using(crate::proofs::Keeping::keep_next))]
 pub fn required_arguments<'d>(parts: &Parts<'d>) -> Option<Violation<'d>>
-    ensures { option_map broken_of result ≡ earliest (required_arguments (parts_in parts.now)) }
+    ensures { option_map broken_of result ≡ earliest
+        (required_arguments (parts_in parts.now)) }
 {
     let mut earliest = EarliestViolation::new();
     for list in &parts.argument_lists {

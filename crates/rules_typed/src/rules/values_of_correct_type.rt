@@ -56,7 +56,8 @@ fn wrong_default<'d>(schema: &Schema, variable: &'d VariableDefinition) -> Optio
 /// | `query($i:ID=true){user(id:$i){name}}` | `5.6.1 Values of Correct Type: $i` | 13, the value | Give a default of the variable's type. |
 #[tactic(auto, using(crate::proofs::Keeping::keep_next, crate::proofs::Keeping::keep_before))]
 pub fn values_of_correct_type<'d>(parts: &Parts<'d>) -> Option<Violation<'d>>
-    ensures { option_map broken_of result ≡ earliest (values_of_correct_type (parts_in parts.now)) }
+    ensures { option_map broken_of result ≡ earliest
+        (values_of_correct_type (parts_in parts.now)) }
 {
     let mut earliest = EarliestViolation::new();
     for part in &parts.arguments {

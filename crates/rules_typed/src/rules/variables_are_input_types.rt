@@ -13,7 +13,8 @@ use gq_schema::Schema;
 use rules_parts::{EarliestViolation, Parts, VariablePart, Violation};
 
 fn is_list_of_lists(of_type: &TypeRef) -> bool
-    ensures { result ≡ is_list_of_lists (type_of of_type.now) }
+    ensures { result ≡ is_list_of_lists
+        (type_of of_type.now) }
 {
     match of_type {
         TypeRef::Named { .. } => false,
@@ -23,7 +24,8 @@ fn is_list_of_lists(of_type: &TypeRef) -> bool
 
 /// Tells whether the name at a type's core is that of a scalar or an enum.
 pub fn is_of_leaf(schema: &Schema, of_type: &TypeRef) -> bool
-    ensures { result ≡ is_of_leaf (tree_of schema.now) (type_of of_type.now) }
+    ensures { result ≡ is_of_leaf
+        (tree_of schema.now) (type_of of_type.now) }
 {
     match schema.kind_of(of_type.innermost_name()) {
         Some(kind) => kind.is_leaf(),
@@ -32,7 +34,8 @@ pub fn is_of_leaf(schema: &Schema, of_type: &TypeRef) -> bool
 }
 
 fn is_input_type(schema: &Schema, of_type: &TypeRef) -> bool
-    ensures { result ≡ is_input_type (tree_of schema.now) (type_of of_type.now) }
+    ensures { result ≡ is_input_type
+        (tree_of schema.now) (type_of of_type.now) }
 {
     is_of_leaf(schema, of_type) && !is_list_of_lists(of_type)
 }

@@ -40,7 +40,8 @@ fn lacking_uses(
 
 // Tells whether a place is noted.
 fn is_noted(noted: &[bool], place: usize) -> bool
-    ensures { result ≡ slice_index_or noted.now place false }
+    ensures { result ≡ slice_index_or
+        noted.now place false }
 {
     noted.get(place).copied().unwrap_or(false)
 }
@@ -59,7 +60,8 @@ pub fn all_variable_uses_defined<'d>(
     uses: &VariableUses<'_, 'd>,
     graph: &Graph,
 ) -> Result<Option<Violation<'d>>, AllocError>
-    requires { graph.now ≡ graph_of (parts_in uses.now.parts.now) }
+    requires { graph.now
+        ≡ graph_of (parts_in uses.now.parts.now) }
     ensures { IfOk result (λ broken. option_map broken_of broken
         ≡ earliest (all_variable_uses_defined (parts_in uses.now.parts.now))) }
 {

@@ -76,7 +76,8 @@ pub fn all_variables_used<'d>(
     uses: &VariableUses<'_, 'd>,
     graph: &Graph,
 ) -> Result<Option<Violation<'d>>, AllocError>
-    requires { graph.now ≡ graph_of (parts_in uses.now.parts.now) }
+    requires { graph.now
+        ≡ graph_of (parts_in uses.now.parts.now) }
     ensures { IfOk result (λ broken.
         option_map broken_of broken ≡ earliest (all_variables_used (parts_in uses.now.parts.now))) }
 {

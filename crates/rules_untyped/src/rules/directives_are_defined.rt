@@ -26,7 +26,8 @@ fn add_undefined<'d>(list: &DirectiveList<'d>, earliest: &mut EarliestViolation<
 ///
 /// | `{users{id@upper}}` | `5.7.1 Directives Are Defined: upper` | 10, the `@` | Use only `@skip` and `@include`. |
 pub fn directives_are_defined<'d>(parts: &Parts<'d>) -> Option<Violation<'d>>
-    ensures { option_map broken_of result ≡ earliest (directives_are_defined (parts_in parts.now)) }
+    ensures { option_map broken_of result ≡ earliest
+        (directives_are_defined (parts_in parts.now)) }
 {
     let mut earliest = EarliestViolation::new();
     for list in &parts.directive_lists {

@@ -21,20 +21,20 @@ resume-requires g c =
     let p : Program = g.P.Execute.program c.args.plan.now in
     let size = between-loaders g.S.Source.may_answer p (state_of c.args.session.now) (state_of c.loop-progress.session) c.loop-progress.run.rounds c.loop-progress.invariant.between in
     let same : c.loop-progress.run.plan ≡ c.args.plan.now = ap (λ (r : RunOf _). r.plan) c.loop-progress.invariant.run in
-    λ κs. ((refl, tt), (ap (λ (r : RunOf _). r.stage) c.loop-progress.invariant.run, (rw c.loop-progress.invariant.run (omega (arith, c.requires.loaders, size)), rw same c.loop-progress.invariant.fits)))
+    λ κs. ((refl, tt), (record { ready = ap (λ (r : RunOf _). r.stage) c.loop-progress.invariant.run; within = rw c.loop-progress.invariant.run (omega (arith, c.requires.loaders, size)) }, rw same c.loop-progress.invariant.fits))
 
 pub returns-in_err-answer-clause-stopped : goal.returns-in_err-answer-clause-stopped
 returns-in_err-answer-clause-stopped g c =
     let same : c.loop-progress.run.plan ≡ c.args.plan.now = ap (λ (r : RunOf _). r.plan) c.loop-progress.invariant.run in
     let between = rw (← same) at c.loop-progress.invariant.between in
-    let failed = rw c.in_err-answer.ensures.failed at c.in_err-answer.ensures.run (state_of c.args.session.now) between in
+    let failed = rw c.in_err-answer.ensures.failed.failed at c.in_err-answer.ensures.run.since (state_of c.args.session.now) between in
     on-err c.from_residual-in_err-answer.result (rw same at failed)
 
 pub returns-in-Finished-clause-answer : goal.returns-in-Finished-clause-answer
 returns-in-Finished-clause-answer g c =
     let same : c.loop-progress.run.plan ≡ c.args.plan.now = ap (λ (r : RunOf _). r.plan) c.loop-progress.invariant.run in
     let between = rw (← same) at c.loop-progress.invariant.between in
-    let done = c.in_ok-answer.ensures.answer (state_of c.args.session.now) between in
+    let done = c.in_ok-answer.ensures.run.answer (state_of c.args.session.now) between in
     rw (c.in-Finished.is, same) at done
 
 pub make_round-requires : goal.make_round-requires
@@ -43,7 +43,7 @@ make_round-requires g c =
     let next = rw c.in-Round.is at c.in_ok-answer.ensures.next in
     let same : c.resume.new.self.plan ≡ c.loop-progress.run.plan = ap (λ (r : RunOf _). r.plan) next.1 in
     let orders = round-orders p (state_of c.loop-progress.session) (state_of c.resume.new.session) c.in-Round.orders.items next.0 in
-    λ κs. (record { shared = c.type_bounds.sync-S.shared }, (record { shared = c.type_bounds.sync-R.shared }, ((refl, tt), (c.requires.count, (ap (λ (r : RunOf _). r.stage) next.1, (rw same (round-asked p (state_of c.loop-progress.session) (state_of c.resume.new.session) c.in-Round.orders.items next.0), rw same (sym orders)))))))
+    λ κs. (record { shared = c.type_bounds.sync-S.shared }, (record { shared = c.type_bounds.sync-R.shared }, ((refl, tt), (c.requires.count, (record { out = ap (λ (r : RunOf _). r.stage) next.1; latest = rw same (round-asked p (state_of c.loop-progress.session) (state_of c.resume.new.session) c.in-Round.orders.items next.0) }, rw same (sym orders))))))
 
 pub returns-in_err-make_round-in-Round-clause-stopped : goal.returns-in_err-make_round-in-Round-clause-stopped
 returns-in_err-make_round-in-Round-clause-stopped g c =
@@ -51,7 +51,7 @@ returns-in_err-make_round-in-Round-clause-stopped g c =
     let between = rw (← same) at c.loop-progress.invariant.between in
     let next = rw c.in-Round.is at c.in_ok-answer.ensures.next in
     let kept : c.resume.new.self.plan ≡ c.args.plan.now = ap (λ (r : RunOf _). r.plan) next.1 ∙ same in
-    let run = c.in_ok-answer.ensures.run (state_of c.args.session.now) between in
+    let run = c.in_ok-answer.ensures.run.since (state_of c.args.session.now) between in
     let out : IsRun g.S.Source.may_answer (g.P.Execute.program c.resume.new.self.plan) (state_of c.args.session.now) (state_of c.resume.new.session) c.resume.new.self.rounds Out = rw next.1 (rw next.1 at run) in
     let lost = c.in_err-make_round-in-Round.ensures.lost (state_of c.args.session.now) out in
     on-err c.from_residual-in_err-make_round-in-Round.result (rw kept at lost)
@@ -62,20 +62,20 @@ loop-progress-preserved g c =
     let between = rw (← same) at c.loop-progress.invariant.between in
     let next = rw c.in-Round.is at c.in_ok-answer.ensures.next in
     let kept : c.resume.new.self.plan ≡ c.args.plan.now = ap (λ (r : RunOf _). r.plan) next.1 ∙ same in
-    let run = c.in_ok-answer.ensures.run (state_of c.args.session.now) between in
+    let run = c.in_ok-answer.ensures.run.since (state_of c.args.session.now) between in
     let out : IsRun g.S.Source.may_answer (g.P.Execute.program c.resume.new.self.plan) (state_of c.args.session.now) (state_of c.resume.new.session) c.resume.new.self.rounds Out = rw next.1 (rw next.1 at run) in
-    let stores = c.in_ok-make_round-in-Round.ensures.made (state_of c.args.session.now) out in
+    let stores = c.in_ok-make_round-in-Round.ensures.made.stored (state_of c.args.session.now) out in
     let made = rw kept at stores in
-    let ready = c.in_ok-make_round-in-Round.ensures.ready in
+    let ready = c.in_ok-make_round-in-Round.ensures.made.ready in
     record {
       run = rw (ready, kept) refl;
       between = rw ready made;
-      fits = rw same at c.in_ok-answer.ensures.fits (memory_of c.make_round.new.session) c.in_ok-make_round-in-Round.ensures.grown;
+      fits = rw same at c.in_ok-answer.ensures.fits (memory_of c.make_round.new.session) c.in_ok-make_round-in-Round.ensures.made.grown;
     }
 
 pub loop-progress-smaller : goal.loop-progress-smaller
 loop-progress-smaller g c =
     let next = rw c.in-Round.is at c.in_ok-answer.ensures.next in
     let more : c.resume.new.self.rounds ≡ c.loop-progress.run.rounds + 1 = ap (λ (r : RunOf _). r.rounds) next.1 in
-    let kept : c.make_round.new.run.rounds ≡ c.resume.new.self.rounds = ap (λ (r : RunOf _). r.rounds) c.in_ok-make_round-in-Round.ensures.ready in
-    omega (arith, more, kept, c.resume.ensures.bounded)
+    let kept : c.make_round.new.run.rounds ≡ c.resume.new.self.rounds = ap (λ (r : RunOf _). r.rounds) c.in_ok-make_round-in-Round.ensures.made.ready in
+    omega (arith, more, kept, c.resume.ensures.run.bounded)

@@ -1,13 +1,14 @@
-use Rattle.std.proofs.Common.{map, refl}
+use Rattle.std.proofs.Common.{map, refl, subst}
+use Rattle.std.proofs.lemmas.Result.{on_err_weaker}
 use Rattle.load_memory.specs.Shelves.{shown}
 use Rattle.execution.specs.Program.{Program}
 use Rattle.load_rounds.specs.Sessions.{StateOf, state_of}
-use Rattle.load_rounds.specs.ByHand.{RunOf, run_of, IsRun}
-use Rattle.load_rounds.specs.declared.by_hand.Stage.TheVariants.{Ready, Out, Failed}
+use Rattle.load_rounds.specs.ByHand.{RunOf, run_of, IsRun, TakesReplies}
+use Rattle.load_rounds.specs.declared.by_hand.Stage.TheVariants.{Out, Failed}
 use Rattle.load_rounds.proofs.Growing.{received-grows}
 use Rattle.load_rounds.proofs.Runs.{out-stops, on-ok}
 use Rattle.load_rounds.proofs.States.{on-err}
-use Rattle.batch_workers.proofs.Receipts.{received, have-loaders, ok-run, err-run}
+use Rattle.batch_workers.proofs.Receipts.{received, have-loaders, err-run}
 use Rattle.batch_workers.proofs.answer.make_round.Goals as goal
 
 pub returns-in_err-shelf-clause-lost : goal.returns-in_err-shelf-clause-lost
@@ -31,7 +32,7 @@ take-requires g c =
     let s = state_of c.args.session.now in
     let answered = rw c.loaders.ensures at c.in_ok-receipts.ensures.answered in
     let round = received may s.loaders c.in_ok-shelf.shelf c.args.orders.items c.in_ok-receipts.receipts.items answered in
-    λ κs. ((refl, tt), (c.requires.out, (c.requires.latest, (rw c.as_slice.ensures.value c.in_ok-receipts.ensures.shelved, rw (c.as_slice.ensures.value, ← c.requires.orders) round))))
+    λ κs. ((refl, tt), (c.requires.out, record { on = rw c.as_slice.ensures.value c.in_ok-receipts.ensures.shelved; round = rw (c.as_slice.ensures.value, ← c.requires.orders) round }))
 
 pub returns-clause-made : goal.returns-clause-made
 returns-clause-made g c =
@@ -40,7 +41,13 @@ returns-clause-made g c =
     let p : Program = g.P.Execute.program run.plan in
     let s = state_of c.args.session.now in
     let t = state_of c.take.new.session in
-    ok-run (λ (u : RunOf _). (begun : StateOf _) → IsRun may p begun s run.rounds Out → IsRun may p begun t u.rounds u.stage) c.take.result c.take.new.self (run_of run.plan run.rounds Ready) c.take.ensures.run c.take.ensures.ready
+    let shown = map shown c.as_slice.result.now in
+    on-ok c.take.result
+    (λ (took : TakesReplies s t run c.take.new.self shown). record {
+      ready = took.ready;
+      stored = subst (λ (u : RunOf _). (begun : StateOf _) → IsRun may p begun s run.rounds Out → IsRun may p begun t u.rounds u.stage) took.ready c.take.ensures.run;
+      grown = received-grows c.args.session.now c.take.new.session shown took.stored;
+    }) c.take.ensures.taken
 
 pub returns-clause-lost : goal.returns-clause-lost
 returns-clause-lost g c =
@@ -49,7 +56,4 @@ returns-clause-lost g c =
     let p : Program = g.P.Execute.program run.plan in
     let s = state_of c.args.session.now in
     let t = state_of c.take.new.session in
-    err-run (λ (u : RunOf _). (begun : StateOf _) → IsRun may p begun s run.rounds Out → IsRun may p begun t u.rounds u.stage) c.take.result c.take.new.self (run_of run.plan run.rounds Failed) c.take.ensures.run c.take.ensures.failed
-
-pub returns-clause-grown : goal.returns-clause-grown
-returns-clause-grown g c = on-ok c.take.result (received-grows c.args.session.now c.take.new.session (map shown c.as_slice.result.now)) c.take.ensures.taken
+    err-run (λ (u : RunOf _). (begun : StateOf _) → IsRun may p begun s run.rounds Out → IsRun may p begun t u.rounds u.stage) c.take.result c.take.new.self (run_of run.plan run.rounds Failed) c.take.ensures.run (on_err_weaker c.take.result (λ lost. lost.failed) c.take.ensures.failed)

@@ -34,7 +34,7 @@ next_round-requires g c =
     let ready : IsRun may p old cur run.executions.rounds Ready = subst (λ (stage : Stage). IsRun may p old cur run.executions.rounds stage) was.stage was.begun.is in
     let size : length old.loaders ≡ length cur.loaders = sym (between-loaders may p old cur run.executions.rounds ready) in
     let enough = subst (λ n. All (λ plan. g.P.Execute.loaders plan ≤ n) c.args.plans.now) size c.requires.loaders in
-    λ κs. ((refl, tt), (was.stage, (subst (λ ps. All (λ plan. g.P.Execute.loaders plan ≤ length cur.loaders) ps) (sym was.plans) enough, was.fits)))
+    λ κs. ((refl, tt), (record { ready = was.stage; within = subst (λ ps. All (λ plan. g.P.Execute.loaders plan ≤ length cur.loaders) ps) (sym was.plans) enough }, was.fits))
 
 pub returns-in_err-answers-clause-stopped : goal.returns-in_err-answers-clause-stopped
 returns-in_err-answers-clause-stopped g c =
@@ -42,16 +42,16 @@ returns-in_err-answers-clause-stopped g c =
     let old = state_of c.args.session.now in
     let new = state_of c.next_round.new.session in
     let later = c.next_round.new.self in
-    let after = c.in_err-answers.ensures.run old c.loop-run.invariant.begun in
+    let after = c.in_err-answers.ensures.run.since old c.loop-run.invariant.begun in
     let stopped = run-stops may (together (requests g.P.Execute.program g.P.Execute.text_of later.plans)) old new later.executions.rounds later.stage after.is in
-    let same = c.in_err-answers.ensures.plans ∙ c.loop-run.invariant.plans in
+    let same = c.in_err-answers.ensures.left.plans ∙ c.loop-run.invariant.plans in
     on-err c.from_residual-in_err-answers.result (subst (λ ps. StopsAnswering may old new (together (requests g.P.Execute.program g.P.Execute.text_of ps))) same stopped)
 
 pub returns-in-Finished-clause-answers : goal.returns-in-Finished-clause-answers
 returns-in-Finished-clause-answers g c =
     let old = state_of c.args.session.now in
     let new = state_of c.next_round.new.session in
-    let done = rw c.in-Finished.is at c.in_ok-answers.ensures.answers in
+    let done = rw c.in-Finished.is at c.in_ok-answers.ensures.run.answers in
     subst (λ ps. SharedHeadline g.S.Source.may_answer old new (requests g.P.Execute.program g.P.Execute.text_of ps) (map report_of c.in-Finished.answers.items)) c.loop-run.invariant.plans (done old c.loop-run.invariant.begun)
 
 pub make_round-requires : goal.make_round-requires
@@ -60,31 +60,31 @@ make_round-requires g c =
     let next = rw c.in-Round.is at c.in_ok-answers.ensures.next in
     let p : Program = together (requests g.P.Execute.program g.P.Execute.text_of c.loop-run.run.plans) in
     let orders = round-orders p (state_of c.loop-run.session) (state_of c.next_round.new.session) c.in-Round.orders.items next.0 in
-    λ κs. (record { shared = c.type_bounds.sync-S.shared }, (record { shared = c.type_bounds.sync-R.shared }, ((refl, tt), (c.requires.count, (next.2, (rw c.in_ok-answers.ensures.plans (round-asked p (state_of c.loop-run.session) (state_of c.next_round.new.session) c.in-Round.orders.items next.0), (rw c.in_ok-answers.ensures.plans (sym orders), c.in_ok-answers.ensures.fits next.2)))))))
+    λ κs. (record { shared = c.type_bounds.sync-S.shared }, (record { shared = c.type_bounds.sync-R.shared }, ((refl, tt), (c.requires.count, (record { out = next.2; latest = rw c.in_ok-answers.ensures.left.plans (round-asked p (state_of c.loop-run.session) (state_of c.next_round.new.session) c.in-Round.orders.items next.0) }, (rw c.in_ok-answers.ensures.left.plans (sym orders), c.in_ok-answers.ensures.left.fitting next.2))))))
 
 pub returns-in_err-make_round-in-Round-clause-stopped : goal.returns-in_err-make_round-in-Round-clause-stopped
 returns-in_err-make_round-in-Round-clause-stopped g c =
     let old = state_of c.args.session.now in
-    let run = c.in_ok-answers.ensures.run old c.loop-run.invariant.begun in
+    let run = c.in_ok-answers.ensures.run.since old c.loop-run.invariant.begun in
     let lost = c.in_err-make_round-in-Round.ensures.lost old run in
-    let same = c.in_ok-answers.ensures.plans ∙ c.loop-run.invariant.plans in
+    let same = c.in_ok-answers.ensures.left.plans ∙ c.loop-run.invariant.plans in
     on-err c.from_residual-in_err-make_round-in-Round.result (subst (λ ps. StopsAnswering g.S.Source.may_answer old (state_of c.make_round.new.session) (together (requests g.P.Execute.program g.P.Execute.text_of ps))) same lost)
 
 pub loop-run-preserved : goal.loop-run-preserved
 loop-run-preserved g c =
     let old = state_of c.args.session.now in
-    let run = c.in_ok-answers.ensures.run old c.loop-run.invariant.begun in
-    let ready = c.in_ok-make_round-in-Round.ensures.ready in
+    let run = c.in_ok-answers.ensures.run.since old c.loop-run.invariant.begun in
+    let ready = c.in_ok-make_round-in-Round.ensures.made.ready in
     record {
-      plans = ap (λ r. r.plans) ready ∙ c.in_ok-answers.ensures.plans ∙ c.loop-run.invariant.plans;
+      plans = ap (λ r. r.plans) ready ∙ c.in_ok-answers.ensures.left.plans ∙ c.loop-run.invariant.plans;
       stage = ap (λ r. r.stage) ready;
-      begun = c.in_ok-make_round-in-Round.ensures.made old run;
-      fits = c.in_ok-make_round-in-Round.ensures.fits;
+      begun = c.in_ok-make_round-in-Round.ensures.made.stored old run;
+      fits = c.in_ok-make_round-in-Round.ensures.made.fitting;
     }
 
 pub loop-run-smaller : goal.loop-run-smaller
 loop-run-smaller g c =
     let next = rw c.in-Round.is at c.in_ok-answers.ensures.next in
     let more : c.next_round.new.self.executions.rounds ≡ c.loop-run.run.executions.rounds + 1 = next.1 in
-    let kept : c.make_round.new.run.executions.rounds ≡ c.next_round.new.self.executions.rounds = ap (λ r. r.executions.rounds) c.in_ok-make_round-in-Round.ensures.ready in
-    omega (arith, more, kept, c.next_round.ensures.bounded)
+    let kept : c.make_round.new.run.executions.rounds ≡ c.next_round.new.self.executions.rounds = ap (λ r. r.executions.rounds) c.in_ok-make_round-in-Round.ensures.made.ready in
+    omega (arith, more, kept, c.next_round.ensures.left.bounded)

@@ -16,11 +16,11 @@ returns-then-not-is_empty-clause-linked c =
     let value = rw (c.field-text.ensures, size) at c.bucket-bucket.ensures.value in
     let head = get_or_read _ _ _ lt c.index.ensures 0 in
     rw head (links-more (in_bucket c.args.mode (get_or s.names c.args.column [])) (rows_of s) c.args.links.now.first.items c.args.links.now.next.items c.args.row c.requires.linked c.bucket-bucket.result lt within
-    (λ other. in_bucket-text s c.args.column c.args.row c.args.mode (length c.args.links.now.first.items) other c.requires.rectangular c.requires.column c.requires.row (rw c.field-text.ensures at there) ∙ ap (λ n. n == other) (sym value)))
+    (λ other. in_bucket-text s c.args.column c.args.row c.args.mode (length c.args.links.now.first.items) other c.requires.column.rectangular c.requires.column.named c.requires.row (rw c.field-text.ensures at there) ∙ ap (λ n. n == other) (sym value)))
 
 pub returns-else-not-is_empty-clause-linked : goal.returns-else-not-is_empty-clause-linked
 returns-else-not-is_empty-clause-linked c =
     let s = c.args.sheet.now in
     let null : (length c.field-text.result.now == 0) ≡ true = sym c.is_empty.ensures ∙ c.if-not-is_empty.false in
     links-past (in_bucket c.args.mode (get_or s.names c.args.column [])) (rows_of s) c.args.links.now.first.items c.args.links.now.next.items c.args.row c.requires.linked
-    (λ other. in_bucket-null s c.args.column c.args.row c.args.mode (length c.args.links.now.first.items) other c.requires.rectangular c.requires.column c.requires.row (rw c.field-text.ensures at null))
+    (λ other. in_bucket-null s c.args.column c.args.row c.args.mode (length c.args.links.now.first.items) other c.requires.column.rectangular c.requires.column.named c.requires.row (rw c.field-text.ensures at null))

@@ -12,7 +12,7 @@ returns-then-is_empty-clause-linked c =
     let by = c.args.by in
     let null : (length c.field-one.result.now == 0) ≡ true = sym c.is_empty.ensures ∙ c.if-is_empty.true in
     links-past (pair_in_bucket by.mode (get_or s.names by.column []) (get_or s.names by.second [])) (rows_of s) c.args.links.now.first.items c.args.links.now.next.items c.args.row c.requires.linked
-    (λ other. in_bucket-first_null s by.column by.second c.args.row by.mode (length c.args.links.now.first.items) other c.requires.rectangular c.requires.columns.0 c.requires.columns.1 c.requires.row (rw c.field-one.ensures at null))
+    (λ other. in_bucket-first_null s by.column by.second c.args.row by.mode (length c.args.links.now.first.items) other c.requires.columns.rectangular c.requires.columns.named.0 c.requires.columns.named.1 c.requires.row (rw c.field-one.ensures at null))
 
 pub returns-then-is_empty-2-clause-linked : goal.returns-then-is_empty-2-clause-linked
 returns-then-is_empty-2-clause-linked c =
@@ -20,7 +20,7 @@ returns-then-is_empty-2-clause-linked c =
     let by = c.args.by in
     let null : (length c.field-two.result.now == 0) ≡ true = sym c.is_empty-2.ensures ∙ c.if-is_empty-2.true in
     links-past (pair_in_bucket by.mode (get_or s.names by.column []) (get_or s.names by.second [])) (rows_of s) c.args.links.now.first.items c.args.links.now.next.items c.args.row c.requires.linked
-    (λ other. in_bucket-second_null s by.column by.second c.args.row by.mode (length c.args.links.now.first.items) other c.requires.rectangular c.requires.columns.0 c.requires.columns.1 c.requires.row (rw c.field-two.ensures at null))
+    (λ other. in_bucket-second_null s by.column by.second c.args.row by.mode (length c.args.links.now.first.items) other c.requires.columns.rectangular c.requires.columns.named.0 c.requires.columns.named.1 c.requires.row (rw c.field-two.ensures at null))
 
 pub returns-clause-linked : goal.returns-clause-linked
 returns-clause-linked c =
@@ -34,5 +34,5 @@ returns-clause-linked c =
     let value = rw (c.field-one.ensures, c.field-two.ensures, size) at c.pair_bucket-bucket.ensures.value in
     let head = get_or_read _ _ _ lt c.index.ensures 0 in
     rw head (links-more (pair_in_bucket by.mode (get_or s.names by.column []) (get_or s.names by.second [])) (rows_of s) c.args.links.now.first.items c.args.links.now.next.items c.args.row c.requires.linked c.pair_bucket-bucket.result lt within
-    (λ other. in_bucket-pair s by.column by.second c.args.row by.mode (length c.args.links.now.first.items) other c.requires.rectangular c.requires.columns.0 c.requires.columns.1 c.requires.row (rw c.field-one.ensures at first_there) (rw c.field-two.ensures at second_there)
+    (λ other. in_bucket-pair s by.column by.second c.args.row by.mode (length c.args.links.now.first.items) other c.requires.columns.rectangular c.requires.columns.named.0 c.requires.columns.named.1 c.requires.row (rw c.field-one.ensures at first_there) (rw c.field-two.ensures at second_there)
     ∙ ap (λ n. n == other) (sym value)))

@@ -11,17 +11,15 @@ use Rattle.load_memory.proofs.store.make_room.Goals as goal
 pub returns-in_err-reserve-clause-own_keys : goal.returns-in_err-reserve-clause-own_keys
 returns-in_err-reserve-clause-own_keys c = HaveOwnKeys-set c.loop-loader.parts.items c.loop-loader.loader c.reserve.new.self c.loop-loader.invariant.own_keys c.reserve.ensures.unique
 
-pub returns-in_err-reserve-clause-pairs : goal.returns-in_err-reserve-clause-pairs
-returns-in_err-reserve-clause-pairs c = λ l q.
+pub returns-in_err-reserve-clause-same : goal.returns-in_err-reserve-clause-same
+returns-in_err-reserve-clause-same c =
     let parts = c.loop-loader.parts.items in
     let lt : c.loop-loader.loader < length parts = omega (arith, c.loop-loader.invariant.lined_up, c.loop-loader-test.true, c.loop-loader.auto.loader-end, c.len-loader-end.ensures) in
-    look-held parts c.loop-loader.loader c.reserve.new.self c.index_mut.result.now lt c.index_mut.ensures.value (λ q. ap (λ es. look_in es q) c.reserve.ensures.entries) l q ∙ c.loop-loader.invariant.pairs l q
-
-pub returns-in_err-reserve-clause-count : goal.returns-in_err-reserve-clause-count
-returns-in_err-reserve-clause-count c =
-    let parts = c.loop-loader.parts.items in
-    let lt : c.loop-loader.loader < length parts = omega (arith, c.loop-loader.invariant.lined_up, c.loop-loader-test.true, c.loop-loader.auto.loader-end, c.len-loader-end.ensures) in
-    counted-held parts c.loop-loader.loader c.reserve.new.self c.index_mut.result.now lt c.index_mut.ensures.value (ap length c.reserve.ensures.entries) ∙ c.loop-loader.invariant.count
+    let d : PartOf = c.index_mut.result.now in
+    record {
+      pairs = λ l q. look-held parts c.loop-loader.loader c.reserve.new.self d lt c.index_mut.ensures.value (λ q. ap (λ es. look_in es q) c.reserve.ensures.entries) l q ∙ c.loop-loader.invariant.pairs l q;
+      count = counted-held parts c.loop-loader.loader c.reserve.new.self d lt c.index_mut.ensures.value (ap length c.reserve.ensures.entries) ∙ c.loop-loader.invariant.count;
+    }
 
 room-next : (ps : _) (counts : _) (i : ℕ) (x : PartOf) → i < length ps → ((k : ℕ) → k < i → slice_index counts k ≤ room_at ps k) → slice_index counts i ≤ room_at (slice_set ps i x) i → (k : ℕ) → k < i + 1 → slice_index counts k ≤ room_at (slice_set ps i x) k
 room-next ps counts i x lt below here k le = elim (cases_eq k i) [

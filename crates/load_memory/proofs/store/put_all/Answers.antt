@@ -41,13 +41,13 @@ loop-pair-preserved-then-put c =
     let below = All-tail (λ (s : StagedPair). s.loader < length parts) s rest (rw is at was.loaders) in
     let size = length-set parts s.loader x in
     let found = c.if-put.true in
-    let more = counted-step parts s rest x d lt c.index_mut.ensures.value 1 (rw found at c.put.ensures.count) in
+    let more = counted-step parts s rest x d lt c.index_mut.ensures.value 1 (rw found at c.put.ensures.put.count) in
     record {
       lined_up = size ∙ was.lined_up;
       own_keys = HaveOwnKeys-set parts s.loader x was.own_keys c.put.ensures.own_keys;
       room = room-rest parts s rest x d lt c.index_mut.ensures.value room c.put.ensures.room;
       loaders = rw size below;
-      pairs = λ l q. stored-step parts s rest x d lt c.index_mut.ensures.value c.put.ensures.pairs l q ∙ rw is at was.pairs l q;
+      pairs = λ l q. stored-step parts s rest x d lt c.index_mut.ensures.value c.put.ensures.put.pairs l q ∙ rw is at was.pairs l q;
       count = omega (arith, more, was.count);
       most = omega (arith, was.most, ap length is);
     }
@@ -66,13 +66,13 @@ loop-pair-preserved c =
     let below = All-tail (λ (s : StagedPair). s.loader < length parts) s rest (rw is at was.loaders) in
     let size = length-set parts s.loader x in
     let found = c.if-put.false in
-    let more = counted-step parts s rest x d lt c.index_mut.ensures.value 0 (rw found at c.put.ensures.count) in
+    let more = counted-step parts s rest x d lt c.index_mut.ensures.value 0 (rw found at c.put.ensures.put.count) in
     record {
       lined_up = size ∙ was.lined_up;
       own_keys = HaveOwnKeys-set parts s.loader x was.own_keys c.put.ensures.own_keys;
       room = room-rest parts s rest x d lt c.index_mut.ensures.value room c.put.ensures.room;
       loaders = rw size below;
-      pairs = λ l q. stored-step parts s rest x d lt c.index_mut.ensures.value c.put.ensures.pairs l q ∙ rw is at was.pairs l q;
+      pairs = λ l q. stored-step parts s rest x d lt c.index_mut.ensures.value c.put.ensures.put.pairs l q ∙ rw is at was.pairs l q;
       count = omega (arith, more, was.count);
       most = omega (arith, was.most, ap length is);
     }

@@ -4,7 +4,8 @@ use Rattle.execution.specs.Sessions.{Forgot}
 use Rattle.load_rounds.specs.Sessions.{state_of, after_step}
 use Rattle.load_rounds.specs.SharedRuns.{IsRunAll}
 use Rattle.load_rounds.proofs.States.{on-err}
-use Rattle.rounds_by_hand.proofs.Far.{forgot-stops, tells-weaker, stops-weaker}
+use Rattle.rounds_by_hand.specs.Hands.{far_of}
+use Rattle.rounds_by_hand.proofs.Far.{forgot-stops, steps-weaker, stops-weaker}
 use Rattle.rounds_by_hand.proofs.steps.begin.Goals as goal
 
 pub returns-in_err-run-clause-stopped : goal.returns-in_err-run-clause-stopped
@@ -12,16 +13,16 @@ returns-in_err-run-clause-stopped g c =
     on-err c.from_residual.result (λ begun e. forgot-stops g.P.Execute.program g.P.Execute.text_of g.S.LocalSource.may_tell (state_of begun) (state_of c.begin_all.new.self) c.args.plans.now
     (c.in_err-run.ensures.forgot ∙ ap (λ s. after_step (state_of s) Forgot) e))
 
-pub returns-clause-tells : goal.returns-clause-tells
-returns-clause-tells g c =
+pub returns-clause-gone : goal.returns-clause-gone
+returns-clause-gone g c =
     let program = g.P.Execute.program in
     let text_of = g.P.Execute.text_of in
     let may = g.S.LocalSource.may_tell in
     let mid = c.begin_all.new.self in
     let run = c.in_ok-run.run' in
     IfOk-weaker c.go_on.result _ _
-    (λ gone tells. tells-weaker program text_of may (λ begun. c.args.session.now ≡ begun) (λ begun. IsRunAll program text_of may (state_of begun) (state_of mid) run) c.go_on.new.session c.args.plans.now run.plans gone.1 c.in_ok-run.ensures.run.0
-    (λ begun e. subst (λ s. IsRunAll program text_of may (state_of s) (state_of mid) run) e c.in_ok-run.ensures.begun) tells) c.go_on.ensures.tells
+    (λ gone steps. steps-weaker program text_of g.P.Execute.loaders g.P.Execute.fits may (λ begun. c.args.session.now ≡ begun) (λ begun. IsRunAll program text_of may (state_of begun) (state_of mid) run) c.go_on.new.session c.args.plans.now run.plans (far_of gone.0) gone.1 c.in_ok-run.ensures.run.0
+    (λ begun e. subst (λ s. IsRunAll program text_of may (state_of s) (state_of mid) run) e c.in_ok-run.ensures.begun) steps) c.go_on.ensures.gone
 
 pub returns-clause-stopped : goal.returns-clause-stopped
 returns-clause-stopped g c =

@@ -5,7 +5,7 @@ use Rattle.load_rounds.specs.Sessions.{state_of}
 use Rattle.load_rounds.specs.SharedRuns.{RunAllOf, IsRunAll}
 use Rattle.load_rounds.proofs.States.{on-err}
 use Rattle.rounds_by_hand.specs.Hands.{HasGone, out, far_of}
-use Rattle.rounds_by_hand.proofs.Far.{stops, goes-weaker, tells-weaker, stops-weaker}
+use Rattle.rounds_by_hand.proofs.Far.{stops, steps-weaker, stops-weaker}
 use Rattle.rounds_by_hand.proofs.steps.finish_round.Goals as goal
 
 pub returns-in_err-run-clause-stopped : goal.returns-in_err-run-clause-stopped
@@ -21,10 +21,10 @@ go_on-requires g c κs =
     let plans : run.plans ≡ c.args.run.plans = ap (λ (r : RunAllOf g.row.P.Denot g.row.E.Denot). r.plans) ready in
     let stage = ap (λ (r : RunAllOf g.row.P.Denot g.row.E.Denot). r.stage) ready in
     let enough = subst (λ n. All (λ plan. loaders plan ≤ n) run.plans) (sym c.store.ensures.loaders) (subst (All (λ plan. loaders plan ≤ length c.args.session.now.loaders)) (sym plans) c.requires.enough) in
-    ((refl, tt), (stage, (enough, c.in_ok-run.ensures.fits c.requires.fits)))
+    ((refl, tt), (record { ready = stage; within = enough }, c.in_ok-run.ensures.fits c.requires.fits))
 
-pub returns-clause-went : goal.returns-clause-went
-returns-clause-went g c =
+pub returns-clause-gone : goal.returns-clause-gone
+returns-clause-gone g c =
     let program = g.P.Execute.program in
     let text_of = g.P.Execute.text_of in
     let may = g.S.LocalSource.may_tell in
@@ -32,20 +32,8 @@ returns-clause-went g c =
     let run = c.in_ok-run.run' in
     let plans : run.plans ≡ c.args.run.plans = ap (λ (r : RunAllOf g.row.P.Denot g.row.E.Denot). r.plans) c.in_ok-run.ensures.ready in
     IfOk-weaker c.go_on.result _ _
-    (λ gone goes. goes-weaker program text_of may (λ begun. HasGone program text_of may begun c.args.session.now c.args.run.plans (out c.args.run c.args.pending.items)) (λ begun. IsRunAll program text_of may (state_of begun) (state_of mid) run) c.go_on.new.session c.args.run.plans run.plans (far_of gone.0) plans
-    (λ begun h. c.in_ok-run.ensures.ran h.2 (state_of begun) h.1) goes) c.go_on.ensures.went
-
-pub returns-clause-tells : goal.returns-clause-tells
-returns-clause-tells g c =
-    let program = g.P.Execute.program in
-    let text_of = g.P.Execute.text_of in
-    let may = g.S.LocalSource.may_tell in
-    let mid = c.store.new.session in
-    let run = c.in_ok-run.run' in
-    let plans : run.plans ≡ c.args.run.plans = ap (λ (r : RunAllOf g.row.P.Denot g.row.E.Denot). r.plans) c.in_ok-run.ensures.ready in
-    IfOk-weaker c.go_on.result _ _
-    (λ gone tells. tells-weaker program text_of may (λ begun. HasGone program text_of may begun c.args.session.now c.args.run.plans (out c.args.run c.args.pending.items)) (λ begun. IsRunAll program text_of may (state_of begun) (state_of mid) run) c.go_on.new.session c.args.run.plans run.plans gone.1 plans
-    (λ begun h. c.in_ok-run.ensures.ran h.2 (state_of begun) h.1) tells) c.go_on.ensures.tells
+    (λ gone steps. steps-weaker program text_of g.P.Execute.loaders g.P.Execute.fits may (λ begun. HasGone program text_of may begun c.args.session.now c.args.run.plans (out c.args.run c.args.pending.items)) (λ begun. IsRunAll program text_of may (state_of begun) (state_of mid) run) c.go_on.new.session c.args.run.plans run.plans (far_of gone.0) gone.1 plans
+    (λ begun h. c.in_ok-run.ensures.ran h.2 (state_of begun) h.1) steps) c.go_on.ensures.gone
 
 pub returns-clause-stopped : goal.returns-clause-stopped
 returns-clause-stopped g c =

@@ -1,25 +1,31 @@
+use Rattle.std.proofs.Common.{refl}
+use Rattle.execution.specs.Rounds.{may_at}
 use Rattle.load_rounds.specs.ByHand.{front_in}
 use Rattle.load_rounds.specs.Sessions.{state_of}
 use Rattle.load_rounds.specs.SharedRounds.{joint}
 use Rattle.load_rounds.proofs.States.{on-err}
-use Rattle.rounds_by_hand.proofs.Far.{stops, unasked-many, lost-many, out-with}
+use Rattle.rounds_by_hand.proofs.Far.{none-answered, stops, unasked-many, lost-many, out-with}
 use Rattle.rounds_by_hand.proofs.steps.go_on.Goals as goal
 
 pub returns-in_err-answers-clause-stopped : goal.returns-in_err-answers-clause-stopped
 returns-in_err-answers-clause-stopped g c =
-    on-err c.from_residual.result (λ begun is. stops g.P.Execute.program g.P.Execute.text_of g.S.LocalSource.may_tell (state_of begun) (state_of c.next_round.new.session) c.next_round.new.self c.args.run.plans c.next_round.ensures.plans (c.next_round.ensures.run (state_of begun) is))
+    on-err c.from_residual.result (λ begun is. stops g.P.Execute.program g.P.Execute.text_of g.S.LocalSource.may_tell (state_of begun) (state_of c.next_round.new.session) c.next_round.new.self c.args.run.plans c.next_round.ensures.left.plans (c.next_round.ensures.run.since (state_of begun) is))
 
 pub returns-in_err-answers-clause-loaders : goal.returns-in_err-answers-clause-loaders
 returns-in_err-answers-clause-loaders g c =
-    unasked-many (joint g.P.Execute.program g.P.Execute.text_of c.args.run.plans) (state_of c.args.session.now) (state_of c.next_round.new.session) c.in_err-answers.ensures.lost
+    unasked-many (joint g.P.Execute.program g.P.Execute.text_of c.args.run.plans) (state_of c.args.session.now) (state_of c.next_round.new.session) c.in_err-answers.ensures.failed.lost
 
-pub returns-in-Finished-clause-went : goal.returns-in-Finished-clause-went
-returns-in-Finished-clause-went g c = λ begun is.
-    stops g.P.Execute.program g.P.Execute.text_of g.S.LocalSource.may_tell (state_of begun) (state_of c.next_round.new.session) c.next_round.new.self c.args.run.plans c.next_round.ensures.plans (c.next_round.ensures.run (state_of begun) is)
+pub returns-in-Finished-clause-gone : goal.returns-in-Finished-clause-gone
+returns-in-Finished-clause-gone g c = record {
+  holds = tt;
+  step = refl;
+  went = λ begun is. stops g.P.Execute.program g.P.Execute.text_of g.S.LocalSource.may_tell (state_of begun) (state_of c.next_round.new.session) c.next_round.new.self c.args.run.plans c.next_round.ensures.left.plans (c.next_round.ensures.run.since (state_of begun) is);
+  tells = λ begun is. (rw c.in-Finished.is at c.in_ok-answers.ensures.run.answers) (state_of begun) is;
+}
 
 pub returns-in_err-all_out-in-Round-clause-stopped : goal.returns-in_err-all_out-in-Round-clause-stopped
 returns-in_err-all_out-in-Round-clause-stopped g c =
-    on-err c.from_residual-in_err-all_out-in-Round.result (λ begun is. stops g.P.Execute.program g.P.Execute.text_of g.S.LocalSource.may_tell (state_of begun) (state_of c.next_round.new.session) c.next_round.new.self c.args.run.plans c.next_round.ensures.plans (c.next_round.ensures.run (state_of begun) is))
+    on-err c.from_residual-in_err-all_out-in-Round.result (λ begun is. stops g.P.Execute.program g.P.Execute.text_of g.S.LocalSource.may_tell (state_of begun) (state_of c.next_round.new.session) c.next_round.new.self c.args.run.plans c.next_round.ensures.left.plans (c.next_round.ensures.run.since (state_of begun) is))
 
 pub returns-in_err-all_out-in-Round-clause-loaders : goal.returns-in_err-all_out-in-Round-clause-loaders
 returns-in_err-all_out-in-Round-clause-loaders g c =
@@ -27,16 +33,22 @@ returns-in_err-all_out-in-Round-clause-loaders g c =
     let next = rw c.in-Round.is at c.in_ok-answers.ensures.next in
     lost-many s (state_of c.next_round.new.session) (front_in s (joint g.P.Execute.program g.P.Execute.text_of c.args.run.plans)) next.0.entered
 
-pub returns-clause-holds : goal.returns-clause-holds
-returns-clause-holds g c =
+pub returns-clause-gone : goal.returns-clause-gone
+returns-clause-gone g c =
     let s = state_of c.args.session.now in
     let next = rw c.in-Round.is at c.in_ok-answers.ensures.next in
     let later = c.next_round.new.self in
-    let same = c.next_round.ensures.plans in
+    let same = c.next_round.ensures.left.plans in
     let pending = c.in_ok-all_out-in-Round.field-0.items in
     let with' = out-with g.P.Execute.program g.P.Execute.text_of s (state_of c.next_round.new.session) c.args.run.plans later c.in-Round.orders.items pending same next.2 next.0 c.in_ok-all_out-in-Round.ensures.orders c.in_ok-all_out-in-Round.ensures.out in
-    let fits = c.next_round.ensures.fits next.2 in
-    (rw (← c.run.view_is) at same, rw (← c.run.view_is) at with', rw (← c.run.view_is) at fits)
+    let fits = c.next_round.ensures.left.fitting next.2 in
+    let none = none-answered (may_at g.S.LocalSource.may_tell c.next_round.new.session.loaders) pending c.in_ok-all_out-in-Round.ensures.out in
+    record {
+      holds = (rw (← c.run.view_is) at same, rw (← c.run.view_is) at with', rw (← c.run.view_is) at fits);
+      step = c.in_ok-all_out-in-Round.ensures.out;
+      went = λ begun is. (rw (← c.run.view_is) at same, rw (← c.run.view_is) at c.next_round.ensures.run.since (state_of begun) is, none);
+      tells = tt;
+    }
 
 pub returns-clause-loaders : goal.returns-clause-loaders
 returns-clause-loaders g c =

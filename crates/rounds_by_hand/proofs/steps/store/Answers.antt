@@ -17,7 +17,7 @@ take_owned-requires g c κs =
     let s = state_of c.args.session.now in
     let p : Program = joint g.P.Execute.program g.P.Execute.text_of c.args.run.plans in
     let fit = rw c.loaders.ensures at (c.in_ok-replies.ensures.any c.requires.answers) in
-    ((refl, tt), (c.requires.stage, (c.requires.latest, received-in any_tell s p c.args.pending.items (map reply_of c.in_ok-replies.replies.items) c.requires.orders fit)))
+    ((refl, tt), (record { out = c.requires.stage; latest = c.requires.latest }, received-in any_tell s p c.args.pending.items (map reply_of c.in_ok-replies.replies.items) c.requires.orders fit))
 
 pub returns-clause-ran : goal.returns-clause-ran
 returns-clause-ran g c = λ told.

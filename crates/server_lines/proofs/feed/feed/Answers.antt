@@ -12,7 +12,7 @@ pub loop-line-init : goal.loop-line-init
 loop-line-init g c = record {
   answered = ([], [], refl, All-nil IsLine, refl, (refl, refl), sends_none _ _);
   callable = c.requires.callable;
-  held = c.requires.held;
+  held = c.requires.block.line;
   count = omega arith;
   steady = steady_same _;
 }
@@ -45,7 +45,7 @@ returns-in-Err-clause-err g c =
     let inv = c.loop-line.invariant in
     let cut = c.in-Some.ensures in
     stopped_at (by_calls g.F.FnMut) c.in-Err.fault _ c.loop-line.answer _ _ (g.W.Write.contents (device_of c.loop-line.writer)) _ _ c.loop-line.pending.items _ _ _ _ _ _ inv.answered.1 inv.answered.0 _ _
-    (omega (arith, inv.count, c.requires.few)) cut.0 inv.answered.2 inv.answered.3 inv.held cut.1 inv.answered.5 inv.answered.6 c.in-Err.ensures.err
+    (omega (arith, inv.count, c.requires.block.few)) cut.0 inv.answered.2 inv.answered.3 inv.held cut.1 inv.answered.5 inv.answered.6 c.in-Err.ensures.err
 
 pub returns-then-rest-len-clause-err : goal.returns-then-rest-len-clause-err
 returns-then-rest-len-clause-err g c =
@@ -84,5 +84,5 @@ returns-in-Err-extend_from_slice-clause-err g c =
         splits = record { whole = inv.answered.2; each = inv.answered.3 };
         answers = inv.answered.5;
       },
-      (inl refl, inv.answered.6, behind c.loop-line.held.items c.loop-line.rest.now inv.held (omega (arith, inv.count, c.requires.few))),
+      (inl refl, inv.answered.6, behind c.loop-line.held.items c.loop-line.rest.now inv.held (omega (arith, inv.count, c.requires.block.few))),
     )

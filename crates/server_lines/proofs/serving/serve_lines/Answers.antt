@@ -64,7 +64,7 @@ returns-in-Err-feed-clause-err g c =
 pub returns-in-Err-send-clause-err : goal.returns-in-Err-send-clause-err
 returns-in-Err-send-clause-err g c =
     let was = c.loop-n.invariant.answered in
-    let now = c.in-Ok-feed.ensures.ok in
+    let now = c.in-Ok-feed.ensures.ok.fed in
     let more = now.3 in (
       _,
       consumes_lines _ (g.R.Read.remaining (device_of c.loop-n.reader)) _ was.0 now.0 _ _ _ was.3 c.in-Ok.ensures.bytes.0 now.1,
@@ -77,7 +77,7 @@ returns-in-Err-send-clause-err g c =
 pub loop-n-preserved : goal.loop-n-preserved
 loop-n-preserved g c =
     let was = c.loop-n.invariant.answered in
-    let now = c.in-Ok-feed.ensures.ok in
+    let now = c.in-Ok-feed.ensures.ok.fed in
     let more = now.3 in
     let sent = c.in-Ok-send.ensures.ok in
     let counts = c.in-Ok.ensures.ok in
@@ -94,8 +94,8 @@ loop-n-preserved g c =
       );
       callable = c.in-Ok-feed.ensures.callable;
       sent = sent.0;
-      held = c.in-Ok-feed.ensures.held;
-      count = count_given c.loop-n.count c.in-Ok-feed.more (given_of c.loop-n.reader) (given_of c.read_block.new.reader) c.in-Ok.n c.read_block.new.block c.loop-n.invariant.count c.in-Ok-feed.ensures.count counts.given;
+      held = c.in-Ok-feed.ensures.ok.line;
+      count = count_given c.loop-n.count c.in-Ok-feed.more (given_of c.loop-n.reader) (given_of c.read_block.new.reader) c.in-Ok.n c.read_block.new.block c.loop-n.invariant.count c.in-Ok-feed.ensures.ok.count counts.given;
       grown = (omega (arith, c.loop-n.invariant.grown.0, counts.called), omega (arith, c.loop-n.invariant.grown.1, counts.given));
       block = c.read_block.auto.block ∙ c.loop-n.invariant.block;
       read = steady_trans c.loop-n.invariant.read c.in-Ok.ensures.faults;

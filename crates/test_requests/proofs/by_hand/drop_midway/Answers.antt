@@ -6,4 +6,4 @@ use Rattle.test_requests.proofs.by_hand.drop_midway.Goals as goal
 pub next_round-requires : goal.next_round-requires
 next_round-requires g c =
     let same = ap (λ (s : StateOf _). length s.loaders) c.begin.ensures.forgot in
-    λ κs. ((refl, tt), (ap (λ (r : RunOf _). r.stage) c.in_ok-run.ensures.run, rw c.in_ok-run.ensures.run (omega (arith, c.requires, same))))
+    λ κs. ((refl, tt), record { ready = ap (λ (r : RunOf _). r.stage) c.in_ok-run.ensures.run; within = rw c.in_ok-run.ensures.run (omega (arith, c.requires, same)) })

@@ -16,7 +16,7 @@ take-requires g c =
     let given : AreReceived (may_at g.S.LocalSource.may_tell loaders) c.args.orders.items (map shown found.receipts.items) =
     subst (λ ls. AreReceived (may_at g.S.LocalSource.may_tell ls) c.args.orders.items (map shown found.receipts.items)) c.loaders.ensures found.ensures.received in
     let here = subst (λ (os : List OrderOf). AreReceived (may_at g.S.LocalSource.may_tell loaders) os (map shown found.receipts.items)) c.requires.batches given in
-    λ κs. ((refl, tt), (c.requires.out, (c.requires.latest, (rw c.as_slice.ensures.value found.ensures.shelf, rw c.as_slice.ensures.value here))))
+    λ κs. ((refl, tt), (c.requires.out, record { on = rw c.as_slice.ensures.value found.ensures.shelf; round = rw c.as_slice.ensures.value here }))
 
 pub returns-clause-grown : goal.returns-clause-grown
-returns-clause-grown g c = received-grows c.args.session.now c.take.new.session (map shown c.as_slice.result.now) c.in_ok-take.ensures.taken
+returns-clause-grown g c = received-grows c.args.session.now c.take.new.session (map shown c.as_slice.result.now) c.in_ok-take.ensures.taken.stored

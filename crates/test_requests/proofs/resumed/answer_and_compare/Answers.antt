@@ -33,7 +33,7 @@ resume-requires g c =
     let same : c.loop-built.run.plan ≡ c.args.plan.now = ap (λ (r : RunOf Plan). r.plan) c.loop-built.invariant.run in
     let enough = subst (λ (x : Plan). length (plan_of x).bindings.loaders ≤ length c.loop-built.session.loaders) (sym same) (omega (arith, c.requires, size)) in
     let fits = subst (λ (x : Plan). (plan_in c.loop-built.written ≡ plan_of x) × FitsMemory c.loop-built.written (memory_of c.loop-built.session)) (sym same) c.loop-built.invariant.written in
-    λ κs. ((refl, tt), (ap (λ (r : RunOf Plan). r.stage) c.loop-built.invariant.run, (enough, fits)))
+    λ κs. ((refl, tt), (record { ready = ap (λ (r : RunOf Plan). r.stage) c.loop-built.invariant.run; within = enough }, fits))
 
 pub run_round-requires : goal.run_round-requires
 run_round-requires g c =
@@ -46,14 +46,14 @@ run_round-requires g c =
     let below = round-below p (state_of c.loop-built.session) (state_of now) items next.0 in
     let batches = subst (λ (x : Plan). items ≡ orders_in (state_of now) (plan_program (plan_of x))) (sym same) (sym orders) in
     let asked = subst (λ (x : Plan). IsAsked (plan_program (plan_of x)) (state_of now)) (sym same) (round-asked p (state_of c.loop-built.session) (state_of now) items next.0) in
-    λ κs. ((refl, tt), (ap (λ (r : RunOf Plan). r.stage) next.1, (asked, (batches, below))))
+    λ κs. ((refl, tt), (record { out = ap (λ (r : RunOf Plan). r.stage) next.1; latest = asked }, (batches, below)))
 
 pub loop-built-smaller : goal.loop-built-smaller
 loop-built-smaller g c =
     let next = rw c.in-Round.is at c.in_ok-answer.ensures.next in
     let more : c.resume.new.self.rounds ≡ c.loop-built.run.rounds + 1 = ap (λ (r : RunOf Plan). r.rounds) next.1 in
     let kept : c.run_round.new.run.rounds ≡ c.resume.new.self.rounds = ap (λ (r : RunOf Plan). r.rounds) c.in_ok-run_round-in-Round.ensures.ready in
-    omega (arith, more, kept, c.resume.ensures.bounded)
+    omega (arith, more, kept, c.resume.ensures.run.bounded)
 
 pub loop-built-preserved : goal.loop-built-preserved
 loop-built-preserved g c =
@@ -68,7 +68,7 @@ loop-built-preserved g c =
     let kept : c.resume.new.self.plan ≡ c.args.plan.now = same ∙ first in
     let rounds : c.run_round.new.run.rounds ≡ c.resume.new.self.rounds = ap (λ (r : RunOf Plan). r.rounds) took.ready in
     let before = subst (λ (x : Plan). IsBetween may (plan_program (plan_of x)) old (state_of c.loop-built.session) c.loop-built.run.rounds) (sym first) c.loop-built.invariant.between in
-    let asked = c.in_ok-answer.ensures.run old before in
+    let asked = c.in_ok-answer.ensures.run.since old before in
     let stage : c.resume.new.self.stage ≡ Out = ap (λ (r : RunOf Plan). r.stage) next.1 in
     let out = subst (λ (x : Plan). IsRun may (plan_program (plan_of x)) old (state_of now) c.resume.new.self.rounds Out) (sym same)
     (subst (λ (s : Stage). IsRun may (plan_program (plan_of c.loop-built.run.plan)) old (state_of now) c.resume.new.self.rounds s) stage asked) in

@@ -20,13 +20,13 @@ next_round-requires g c =
     let ready : IsRun may p old cur run.executions.rounds Ready = subst (λ (stage : Stage). IsRun may p old cur run.executions.rounds stage) was.stage was.begun.is in
     let size : length old.loaders ≡ length cur.loaders = sym (between-loaders may p old cur run.executions.rounds ready) in
     let enough = subst (λ n. All (λ plan. g.P.Execute.loaders plan ≤ n) c.args.plans.now) size c.requires in
-    λ κs. ((refl, tt), (was.stage, (subst (λ ps. All (λ plan. g.P.Execute.loaders plan ≤ length cur.loaders) ps) (sym was.plans) enough, was.fits)))
+    λ κs. ((refl, tt), (record { ready = was.stage; within = subst (λ ps. All (λ plan. g.P.Execute.loaders plan ≤ length cur.loaders) ps) (sym was.plans) enough }, was.fits))
 
 pub returns-in-Finished : goal.returns-in-Finished
 returns-in-Finished g c =
     let old = state_of c.args.session.now in
     let new = state_of c.next_round.new.session in
-    let done = rw c.in-Finished.is at c.in_ok-answers.ensures.answers in
+    let done = rw c.in-Finished.is at c.in_ok-answers.ensures.run.answers in
     subst (λ ps. AreAnswers g.S.LocalSource.may_tell old new (requests g.P.Execute.program g.P.Execute.text_of ps) c.in-Finished.answers) c.loop-run.invariant.plans (done old c.loop-run.invariant.begun)
 
 pub receive_replies-requires : goal.receive_replies-requires
@@ -42,17 +42,17 @@ take-requires g c =
     let orders = round-orders p (state_of c.loop-run.session) (state_of c.next_round.new.session) c.in-Round.orders.items next.0 in
     let found = c.in_ok-receipts-in-Round.ensures in
     let asked = round-asked p (state_of c.loop-run.session) (state_of c.next_round.new.session) c.in-Round.orders.items next.0 in
-    λ κs. ((refl, tt), (next.2, (rw c.in_ok-answers.ensures.plans asked, (rw c.as_slice.ensures.value found.shelf, rw (c.in_ok-answers.ensures.plans, orders, c.as_slice.ensures.value, ← c.loaders.ensures) found.received))))
+    λ κs. ((refl, tt), (record { out = next.2; latest = rw c.in_ok-answers.ensures.left.plans asked }, record { on = rw c.as_slice.ensures.value found.shelf; round = rw (c.in_ok-answers.ensures.left.plans, orders, c.as_slice.ensures.value, ← c.loaders.ensures) found.received }))
 
 pub loop-run-preserved : goal.loop-run-preserved
 loop-run-preserved g c =
     let old = state_of c.args.session.now in
     let next = rw c.in-Round.is at c.in_ok-answers.ensures.next in
-    let run = c.in_ok-answers.ensures.run old c.loop-run.invariant.begun in
+    let run = c.in_ok-answers.ensures.run.since old c.loop-run.invariant.begun in
     let took = c.in_ok-take-in-Round.ensures in
     record {
-      plans = ap (λ r. r.plans) took.ready ∙ c.in_ok-answers.ensures.plans ∙ c.loop-run.invariant.plans;
-      stage = ap (λ r. r.stage) took.ready;
+      plans = ap (λ r. r.plans) took.taken.ready ∙ c.in_ok-answers.ensures.left.plans ∙ c.loop-run.invariant.plans;
+      stage = ap (λ r. r.stage) took.taken.ready;
       begun = took.run old run;
-      fits = took.fits (c.in_ok-answers.ensures.fits next.2);
+      fits = took.taken.fitting (c.in_ok-answers.ensures.left.fitting next.2);
     }

@@ -10,7 +10,7 @@ use Rattle.test_workers.proofs.rounds.first_round.Goals as goal
 pub next_round-requires : goal.next_round-requires
 next_round-requires g c =
     let same = ap (λ (s : StateOf _). length s.loaders) c.begin.ensures.forgot in
-    λ κs. ((refl, tt), (ap (λ (r : RunOf _). r.stage) c.in_ok-run.ensures.run, rw c.in_ok-run.ensures.run (omega (arith, c.requires.loaders, same))))
+    λ κs. ((refl, tt), record { ready = ap (λ (r : RunOf _). r.stage) c.in_ok-run.ensures.run; within = rw c.in_ok-run.ensures.run (omega (arith, c.requires.loaders, same)) })
 
 pub run_round-requires-clause-loaders : goal.run_round-requires-clause-loaders
 run_round-requires-clause-loaders g c =
@@ -30,4 +30,4 @@ take-requires g c =
     let answered = rw c.loaders.ensures at c.in_ok-receipts.ensures.answered in
     let round = received may s.loaders c.in_ok-shelf.shelf c.in-Round.orders.items c.in_ok-receipts.receipts.items answered in
     let asked = round-asked p (state_of c.begin.new.self) s c.in-Round.orders.items next.0 in
-    λ κs. ((refl, tt), (out, (rw same asked, (rw c.as_slice-2.ensures.value c.in_ok-receipts.ensures.shelved, rw (same, orders, c.as_slice-2.ensures.value) round))))
+    λ κs. ((refl, tt), (record { out = out; latest = rw same asked }, record { on = rw c.as_slice-2.ensures.value c.in_ok-receipts.ensures.shelved; round = rw (same, orders, c.as_slice-2.ensures.value) round }))

@@ -44,9 +44,9 @@ invariant_of-self-2 c =
     let d : PartOf = c.index_mut.result.now in
     let p : PairOf = record { loader = c.args.loader; key = cache_of c.args.key; outcome = known (item_of c.args.item) } in
     let absent = look-found parts c.args.loader c.index.result.now c.args.key false lt c.index.ensures (sym c.if-contains_key.false ∙ c.contains_key.ensures) in
-    let put = pairs-put parts c.args.loader x d (cache_of c.args.key) (known (item_of c.args.item)) lt c.index_mut.ensures.value absent (rw c.from.ensures at e.pairs) in
+    let put = pairs-put parts c.args.loader x d (cache_of c.args.key) (known (item_of c.args.item)) lt c.index_mut.ensures.value absent (rw c.from.ensures at e.put.pairs) in
     AreParts-changed c.self.inside.modes.items parts c.self.inside.count c.self.inside.failed c.args.loader x d c.in_ok-count.count c.self.inside.failed c.self.invariant lt e.own_keys
-    (omega (arith, more, e.count, ap (λ (p : PartOf). length p.entries) c.index_mut.ensures.value))
+    (omega (arith, more, e.put.count, ap (λ (p : PartOf). length p.entries) c.index_mut.ensures.value))
     (λ none. AreUnfailed-put (pairs_from 0 parts) p (item_of c.args.item) (pairs_from 0 (slice_set parts c.args.loader x)) (c.self.invariant.unfailed none) absent refl put)
 
 pub returns-clause-found : goal.returns-clause-found
@@ -61,4 +61,4 @@ returns-clause-pairs c = λ l q.
     let key = cache_of c.args.key in
     let lt : c.args.loader < length parts = rw (c.self.invariant.lined_up, ap (λ (m : MemoryOf). m.modes) c.self.view_is) c.requires in
     let absent = look-found parts c.args.loader c.index.result.now c.args.key false lt c.index.ensures (sym c.if-contains_key.false ∙ c.contains_key.ensures) in
-    rw (← c.self.view_is) (pairs-put parts c.args.loader c.put_absent.new.part c.index_mut.result.now key (known (item_of c.args.item)) lt c.index_mut.ensures.value absent (rw c.from.ensures at c.in_ok-put_absent.ensures.pairs) l q)
+    rw (← c.self.view_is) (pairs-put parts c.args.loader c.put_absent.new.part c.index_mut.result.now key (known (item_of c.args.item)) lt c.index_mut.ensures.value absent (rw c.from.ensures at c.in_ok-put_absent.ensures.put.pairs) l q)

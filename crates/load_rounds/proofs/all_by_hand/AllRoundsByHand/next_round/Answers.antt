@@ -1,4 +1,5 @@
 use Rattle.std.proofs.Common.{◌≡◌, ◌≤◌, [], map, length, Some, subst, ◌∙◌, sym, arith, inl, inr, refl}
+use Rattle.std.proofs.lemmas.Result.{IfOk-from_err}
 use Rattle.std.specs.Prelude.{All}
 use Rattle.load_memory.specs.Pairs.{look}
 use Rattle.execution.specs.Loads.{read}
@@ -22,22 +23,30 @@ pub go_on-requires : goal.go_on-requires
 go_on-requires g c =
     let s = state_of c.args.session.now in
     let fit = rw (← c.self.view_is) at c.requires.fits in
-    let enough = rw (← c.self.view_is) at c.requires.loaders in
+    let enough = rw (← c.self.view_is) at c.requires.can.within in
     λ κs. ((refl, tt), (subst (λ ps. All (λ plan. g.P.Execute.loaders plan ≤ length s.loaders) ps) (sym fit.plans) enough, fit.parts))
 
 pub returns-in_err-go_on-clause-run : goal.returns-in_err-go_on-clause-run
-returns-in_err-go_on-clause-run g c = λ begun ready.
+returns-in_err-go_on-clause-run g c =
     let s = state_of c.args.session.now in
-    let stage = rw (← c.self.view_is) at c.requires.ready in
-    let was = rw stage at (rw (← c.self.view_is) at ready) in
-    run-failed g.P.Execute.program g.P.Execute.text_of g.P.Execute.loaders g.P.Execute.fits g.S.LocalSource.may_tell c.self.inside.plans.now begun s s c.self.inside.executions c.go_on.new.self was (inl refl)
+    let stage = rw (← c.self.view_is) at c.requires.can.ready in
+    record {
+      since = λ begun ready.
+          let was = rw stage at (rw (← c.self.view_is) at ready) in
+          run-failed g.P.Execute.program g.P.Execute.text_of g.P.Execute.loaders g.P.Execute.fits g.S.LocalSource.may_tell c.self.inside.plans.now begun s s c.self.inside.executions c.go_on.new.self was (inl refl);
+      answers = IfOk-from_err c.from_residual.result _ c.from_residual.ensures.0;
+    }
 
 pub returns-in_err-answers-in-None-clause-run : goal.returns-in_err-answers-in-None-clause-run
-returns-in_err-answers-in-None-clause-run g c = λ begun ready.
+returns-in_err-answers-in-None-clause-run g c =
     let s = state_of c.args.session.now in
-    let stage = rw (← c.self.view_is) at c.requires.ready in
-    let was = rw stage at (rw (← c.self.view_is) at ready) in
-    run-failed g.P.Execute.program g.P.Execute.text_of g.P.Execute.loaders g.P.Execute.fits g.S.LocalSource.may_tell c.self.inside.plans.now begun s s c.self.inside.executions c.take_answers.new.self was (inl refl)
+    let stage = rw (← c.self.view_is) at c.requires.can.ready in
+    record {
+      since = λ begun ready.
+          let was = rw stage at (rw (← c.self.view_is) at ready) in
+          run-failed g.P.Execute.program g.P.Execute.text_of g.P.Execute.loaders g.P.Execute.fits g.S.LocalSource.may_tell c.self.inside.plans.now begun s s c.self.inside.executions c.take_answers.new.self was (inl refl);
+      answers = IfOk-from_err c.from_residual-in_err-answers-in-None.result _ c.from_residual-in_err-answers-in-None.ensures.0;
+    }
 
 pub returns-in_ok-answers-in-None-clause-next : goal.returns-in_ok-answers-in-None-clause-next
 returns-in_ok-answers-in-None-clause-next g c =
@@ -62,26 +71,14 @@ returns-in_ok-answers-in-None-clause-next g c =
     rw (← c.self.view_is) (last, refl)
 
 pub returns-in_ok-answers-in-None-clause-run : goal.returns-in_ok-answers-in-None-clause-run
-returns-in_ok-answers-in-None-clause-run g c = λ begun ready.
-    let s = state_of c.args.session.now in
-    let stage = rw (← c.self.view_is) at c.requires.ready in
-    let was = rw stage at (rw (← c.self.view_is) at ready) in
-    let fit = rw (← c.self.view_is) at c.requires.fits in
-    let found = rw c.in-None.is at c.in_ok-go_on.ensures.found in
-    let none = subst (λ ps. front (session_modes s) (together (requests g.P.Execute.program g.P.Execute.text_of ps)) s.memory ≡ []) fit.plans found in
-    let same : c.take_answers.new.self.rounds ≡ c.self.inside.executions.rounds = omega (arith, c.in_ok-answers-in-None.ensures.counted, rw c.in-None.is at c.in_ok-go_on.ensures.counted) in
-    run-finished g.P.Execute.program g.P.Execute.text_of g.P.Execute.loaders g.P.Execute.fits g.S.LocalSource.may_tell c.self.inside.plans.now begun s c.self.inside.executions c.take_answers.new.self was same none
-
-pub returns-in_ok-answers-in-None-clause-answers : goal.returns-in_ok-answers-in-None-clause-answers
-returns-in_ok-answers-in-None-clause-answers g c = λ begun ready.
+returns-in_ok-answers-in-None-clause-run g c =
     let session = c.args.session.now in
     let m = memory_of session in
     let s = state_of session in
     let plans = c.self.inside.plans.now in
     let t = c.self.inside.executions in
     let ys = c.go_on.new.self.parts in
-    let stage = rw (← c.self.view_is) at c.requires.ready in
-    let was = rw stage at (rw (← c.self.view_is) at ready) in
+    let stage = rw (← c.self.view_is) at c.requires.can.ready in
     let fit = rw (← c.self.view_is) at c.requires.fits in
     let found = rw c.in-None.is at c.in_ok-go_on.ensures.found in
     let gone = c.in_ok-go_on.ensures.went in
@@ -89,32 +86,44 @@ returns-in_ok-answers-in-None-clause-answers g c = λ begun ready.
     let all = all-report g.P.Execute.program g.P.Execute.text_of g.P.Execute.loaders g.P.Execute.fits t.rounds m t.parts ys gone found in
     let kept = gone-fit g.P.Execute.program g.P.Execute.text_of g.P.Execute.loaders g.P.Execute.fits t.rounds m m t.parts ys gone (same-grows session session refl) in
     let are = gone-plans g.P.Execute.program g.P.Execute.text_of g.P.Execute.loaders g.P.Execute.fits t.rounds m t.parts ys gone ∙ fit.plans in
-    let shared = ready-shared g.P.Execute.program g.P.Execute.text_of g.P.Execute.loaders g.P.Execute.fits g.S.LocalSource.may_tell plans begun s t was in
-    let report = shared-gone g.P.Execute.program g.P.Execute.text_of g.P.Execute.loaders g.P.Execute.fits g.S.LocalSource.may_tell plans begun s t.parts ys t.rounds m shared gone in
-    let enough = rw (← c.self.view_is) at c.requires.loaders in
-    let headline = run-answers g.P.Execute.program g.P.Execute.text_of g.P.Execute.loaders g.P.Execute.fits g.S.LocalSource.may_tell plans begun session t.parts ys t.rounds report gone fit.plans enough c.go_on.ensures.limited are all kept none in
-    rw (← c.self.view_is) (subst (λ ts. SharedHeadline g.S.LocalSource.may_tell begun s (requests g.P.Execute.program g.P.Execute.text_of plans) ts) (sym c.in_ok-answers-in-None.ensures.answers) headline)
+    let enough = rw (← c.self.view_is) at c.requires.can.within in
+    let same : c.take_answers.new.self.rounds ≡ c.self.inside.executions.rounds = omega (arith, c.in_ok-answers-in-None.ensures.counted, rw c.in-None.is at c.in_ok-go_on.ensures.counted.counted) in
+    record {
+      since = λ begun ready.
+          let was = rw stage at (rw (← c.self.view_is) at ready) in
+          run-finished g.P.Execute.program g.P.Execute.text_of g.P.Execute.loaders g.P.Execute.fits g.S.LocalSource.may_tell c.self.inside.plans.now begun s c.self.inside.executions c.take_answers.new.self was same none;
+      answers = λ begun ready.
+          let was = rw stage at (rw (← c.self.view_is) at ready) in
+          let shared = ready-shared g.P.Execute.program g.P.Execute.text_of g.P.Execute.loaders g.P.Execute.fits g.S.LocalSource.may_tell plans begun s t was in
+          let report = shared-gone g.P.Execute.program g.P.Execute.text_of g.P.Execute.loaders g.P.Execute.fits g.S.LocalSource.may_tell plans begun s t.parts ys t.rounds m shared gone in
+          let headline = run-answers g.P.Execute.program g.P.Execute.text_of g.P.Execute.loaders g.P.Execute.fits g.S.LocalSource.may_tell plans begun session t.parts ys t.rounds report gone fit.plans enough c.go_on.ensures.limited are all kept none in
+          rw (← c.self.view_is) (subst (λ ts. SharedHeadline g.S.LocalSource.may_tell begun s (requests g.P.Execute.program g.P.Execute.text_of plans) ts) (sym c.in_ok-answers-in-None.ensures.answers) headline);
+    }
 
 pub cut-requires : goal.cut-requires
 cut-requires g c = let found = rw c.in-Some.is at c.in_ok-go_on.ensures.found in found.1
 
-pub returns-in_err-orders-in-Some-clause-lost : goal.returns-in_err-orders-in-Some-clause-lost
-returns-in_err-orders-in-Some-clause-lost g c =
+pub returns-in_err-orders-in-Some-clause-failed : goal.returns-in_err-orders-in-Some-clause-failed
+returns-in_err-orders-in-Some-clause-failed g c =
     let s = state_of c.args.session.now in
     let p : Program = together (requests g.P.Execute.program g.P.Execute.text_of c.self.inside.plans.now) in
     let fit = rw (← c.self.view_is) at c.requires.fits in
     let found : FindsAll p s (Some c.in-Some.wants) = subst (λ ps. FindsAll (together (requests g.P.Execute.program g.P.Execute.text_of ps)) s (Some c.in-Some.wants)) fit.plans (rw c.in-Some.is at c.in_ok-go_on.ensures.found) in
-    rw (← c.self.view_is) (on-err c.from_residual-in_err-orders-in-Some.result (inr (c.in_err-orders-in-Some.ensures.lost (front_in s p) found.2)))
+    rw (← c.self.view_is) (on-err c.from_residual-in_err-orders-in-Some.result (record { failed = refl; lost = inr (c.in_err-orders-in-Some.ensures.lost (front_in s p) found.2) }))
 
 pub returns-in_err-orders-in-Some-clause-run : goal.returns-in_err-orders-in-Some-clause-run
-returns-in_err-orders-in-Some-clause-run g c = λ begun ready.
+returns-in_err-orders-in-Some-clause-run g c =
     let s = state_of c.args.session.now in
     let p : Program = together (requests g.P.Execute.program g.P.Execute.text_of c.self.inside.plans.now) in
-    let stage = rw (← c.self.view_is) at c.requires.ready in
-    let was = rw stage at (rw (← c.self.view_is) at ready) in
+    let stage = rw (← c.self.view_is) at c.requires.can.ready in
     let fit = rw (← c.self.view_is) at c.requires.fits in
     let found : FindsAll p s (Some c.in-Some.wants) = subst (λ ps. FindsAll (together (requests g.P.Execute.program g.P.Execute.text_of ps)) s (Some c.in-Some.wants)) fit.plans (rw c.in-Some.is at c.in_ok-go_on.ensures.found) in
-    run-failed g.P.Execute.program g.P.Execute.text_of g.P.Execute.loaders g.P.Execute.fits g.S.LocalSource.may_tell c.self.inside.plans.now begun s (state_of c.cut.new.self) c.self.inside.executions c.go_on.new.self was (inr (c.in_err-orders-in-Some.ensures.lost (front_in s p) found.2))
+    record {
+      since = λ begun ready.
+          let was = rw stage at (rw (← c.self.view_is) at ready) in
+          run-failed g.P.Execute.program g.P.Execute.text_of g.P.Execute.loaders g.P.Execute.fits g.S.LocalSource.may_tell c.self.inside.plans.now begun s (state_of c.cut.new.self) c.self.inside.executions c.go_on.new.self was (inr (c.in_err-orders-in-Some.ensures.lost (front_in s p) found.2));
+      answers = IfOk-from_err c.from_residual-in_err-orders-in-Some.result _ c.from_residual-in_err-orders-in-Some.ensures.0;
+    }
 
 pub returns-in_ok-orders-in-Some-clause-next : goal.returns-in_ok-orders-in-Some-clause-next
 returns-in_ok-orders-in-Some-clause-next g c =
@@ -124,7 +133,7 @@ returns-in_ok-orders-in-Some-clause-next g c =
     let t = c.self.inside.executions in
     let p : Program = together (requests g.P.Execute.program g.P.Execute.text_of plans) in
     let fit = rw (← c.self.view_is) at c.requires.fits in
-    let enough = rw (← c.self.view_is) at c.requires.loaders in
+    let enough = rw (← c.self.view_is) at c.requires.can.within in
     let found : FindsAll p s (Some c.in-Some.wants) = subst (λ ps. FindsAll (together (requests g.P.Execute.program g.P.Execute.text_of ps)) s (Some c.in-Some.wants)) fit.plans (rw c.in-Some.is at c.in_ok-go_on.ensures.found) in
     let each = subst (λ ps. All (λ plan. g.P.Execute.loaders plan ≤ length s.loaders) ps) (sym fit.plans) enough in
     let within : HasLoaders (length s.loaders) p = subst (λ ps. HasLoaders (length s.loaders) (together (requests g.P.Execute.program g.P.Execute.text_of ps))) fit.plans
@@ -137,29 +146,33 @@ returns-in_ok-orders-in-Some-clause-next g c =
       counted = round-counted s (state_of c.cut.new.self) p (length s.loaders) within (omega arith) found.0 entered;
       numbered = c.in_ok-orders-in-Some.ensures.numbered;
     } in
-    rw (← c.self.view_is) (round, rw c.in-Some.is at c.in_ok-go_on.ensures.counted, refl)
+    rw (← c.self.view_is) (round, rw c.in-Some.is at c.in_ok-go_on.ensures.counted.counted, refl)
 
 pub returns-in_ok-orders-in-Some-clause-run : goal.returns-in_ok-orders-in-Some-clause-run
-returns-in_ok-orders-in-Some-clause-run g c = λ begun ready.
+returns-in_ok-orders-in-Some-clause-run g c =
     let m = memory_of c.args.session.now in
     let s = state_of c.args.session.now in
     let plans = c.self.inside.plans.now in
     let t = c.self.inside.executions in
     let p : Program = together (requests g.P.Execute.program g.P.Execute.text_of plans) in
-    let stage = rw (← c.self.view_is) at c.requires.ready in
-    let was = rw stage at (rw (← c.self.view_is) at ready) in
+    let stage = rw (← c.self.view_is) at c.requires.can.ready in
     let fit = rw (← c.self.view_is) at c.requires.fits in
-    let enough = rw (← c.self.view_is) at c.requires.loaders in
+    let enough = rw (← c.self.view_is) at c.requires.can.within in
     let found : FindsAll p s (Some c.in-Some.wants) = subst (λ ps. FindsAll (together (requests g.P.Execute.program g.P.Execute.text_of ps)) s (Some c.in-Some.wants)) fit.plans (rw c.in-Some.is at c.in_ok-go_on.ensures.found) in
     let each = subst (λ ps. All (λ plan. g.P.Execute.loaders plan ≤ length s.loaders) ps) (sym fit.plans) enough in
     let within : HasLoaders (length s.loaders) p = subst (λ ps. HasLoaders (length s.loaders) (together (requests g.P.Execute.program g.P.Execute.text_of ps))) fit.plans
     (gone-within g.P.Execute.program g.P.Execute.text_of g.P.Execute.loaders g.P.Execute.fits 0 t.rounds (length s.loaders) m t.parts c.go_on.new.self.parts c.in_ok-go_on.ensures.went each) in
     let entered = c.in_ok-orders-in-Some.ensures.entered (front_in s p) found.2 in
     let counted = round-counted s (state_of c.cut.new.self) p (length s.loaders) within (omega arith) found.0 entered in
-    run-out g.P.Execute.program g.P.Execute.text_of g.P.Execute.loaders g.P.Execute.fits g.S.LocalSource.may_tell plans begun c.args.session.now (state_of c.cut.new.self) t c.go_on.new.self was (rw c.in-Some.is at c.in_ok-go_on.ensures.counted) c.in_ok-go_on.ensures.went c.in_ok-orders-in-Some.ensures.numbered found.0 entered counted
+    record {
+      since = λ begun ready.
+          let was = rw stage at (rw (← c.self.view_is) at ready) in
+          run-out g.P.Execute.program g.P.Execute.text_of g.P.Execute.loaders g.P.Execute.fits g.S.LocalSource.may_tell plans begun c.args.session.now (state_of c.cut.new.self) t c.go_on.new.self was (rw c.in-Some.is at c.in_ok-go_on.ensures.counted.counted) c.in_ok-go_on.ensures.went c.in_ok-orders-in-Some.ensures.numbered found.0 entered counted;
+      answers = tt;
+    }
 
-pub returns-in_ok-orders-in-Some-clause-fits : goal.returns-in_ok-orders-in-Some-clause-fits
-returns-in_ok-orders-in-Some-clause-fits g c = λ out later grown.
+pub returns-in_ok-orders-in-Some-clause-left : goal.returns-in_ok-orders-in-Some-clause-left
+returns-in_ok-orders-in-Some-clause-left g c =
     let session = c.args.session.now in
     let s = state_of session in
     let t = c.self.inside.executions in
@@ -170,6 +183,10 @@ returns-in_ok-orders-in-Some-clause-fits g c = λ out later grown.
     let asked = lost-grows session c.cut.new.self (front_in s p) (c.in_ok-orders-in-Some.ensures.entered (front_in s p) found.2) in
     let gone = c.in_ok-go_on.ensures.went in
     record {
-      plans = gone-plans g.P.Execute.program g.P.Execute.text_of g.P.Execute.loaders g.P.Execute.fits t.rounds (memory_of session) t.parts ys gone ∙ fit.plans;
-      parts = gone-fit g.P.Execute.program g.P.Execute.text_of g.P.Execute.loaders g.P.Execute.fits t.rounds (memory_of session) later t.parts ys gone (grows-trans (memory_of session) (memory_of c.cut.new.self) later asked grown);
+      plans = rw (← c.self.view_is) refl;
+      bounded = c.go_on.ensures.counted.bounded;
+      fitting = λ out later grown. record {
+        plans = gone-plans g.P.Execute.program g.P.Execute.text_of g.P.Execute.loaders g.P.Execute.fits t.rounds (memory_of session) t.parts ys gone ∙ fit.plans;
+        parts = gone-fit g.P.Execute.program g.P.Execute.text_of g.P.Execute.loaders g.P.Execute.fits t.rounds (memory_of session) later t.parts ys gone (grows-trans (memory_of session) (memory_of c.cut.new.self) later asked grown);
+      };
     }

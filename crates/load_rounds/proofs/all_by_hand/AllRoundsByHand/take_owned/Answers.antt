@@ -25,25 +25,26 @@ receive_owned-requires g c =
 pub returns-in_err-receive_owned-clause-run : goal.returns-in_err-receive_owned-clause-run
 returns-in_err-receive_owned-clause-run g c = λ round begun out.
     let was = rw (← c.self.view_is) at out in
-    let stage = rw (← c.self.view_is) at c.requires.out in
+    let stage = rw (← c.self.view_is) at c.requires.out.out in
     rw c.in_err-receive_owned.ensures.kept (run-lost g.P.Execute.program g.P.Execute.text_of g.P.Execute.loaders g.P.Execute.fits g.S.LocalSource.may_tell c.self.inside.plans.now begun (state_of c.args.session.now) c.self.inside.executions (rw stage at was))
 
 pub returns-clause-run : goal.returns-clause-run
 returns-clause-run g c = λ round begun out.
     let s = state_of c.args.session.now in
     let was = rw (← c.self.view_is) at out in
-    let stage = rw (← c.self.view_is) at c.requires.out in
+    let stage = rw (← c.self.view_is) at c.requires.out.out in
     let own = rw (← c.self.view_is) at round in
     rw c.in_ok-receive_owned.ensures.received (run-taken g.P.Execute.program g.P.Execute.text_of g.P.Execute.loaders g.P.Execute.fits g.S.LocalSource.may_tell c.self.inside.plans.now begun s c.self.inside.executions (map reply_of c.args.replies.items) c.receive_owned.ensures.limited own (rw stage at was))
 
-pub returns-clause-fits : goal.returns-clause-fits
-returns-clause-fits g c = λ fits.
-    let grown = received-grows c.args.session.now c.receive_owned.new.self (map reply_of c.args.replies.items) c.in_ok-receive_owned.ensures.received in
-    let fit = rw (← c.self.view_is) at fits (memory_of c.receive_owned.new.self) grown in
-    record { plans = fit.plans; parts = fit.parts }
-
-pub returns-clause-ready : goal.returns-clause-ready
-returns-clause-ready g c = rw (← c.self.view_is) refl
+pub returns-clause-taken : goal.returns-clause-taken
+returns-clause-taken g c = record {
+  stored = c.in_ok-receive_owned.ensures.received;
+  ready = rw (← c.self.view_is) refl;
+  fitting = λ fits.
+      let grown = received-grows c.args.session.now c.receive_owned.new.self (map reply_of c.args.replies.items) c.in_ok-receive_owned.ensures.received in
+      let fit = rw (← c.self.view_is) at fits (memory_of c.receive_owned.new.self) grown in
+      record { plans = fit.plans; parts = fit.parts };
+}
 
 pub returns-in_err-receive_owned-clause-failed : goal.returns-in_err-receive_owned-clause-failed
-returns-in_err-receive_owned-clause-failed g c = rw (← c.self.view_is) (on-err c.from_residual.result refl)
+returns-in_err-receive_owned-clause-failed g c = rw (← c.self.view_is) (on-err c.from_residual.result (record { failed = refl; same = c.in_err-receive_owned.ensures.kept }))

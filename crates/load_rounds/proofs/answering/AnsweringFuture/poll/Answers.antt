@@ -62,8 +62,8 @@ returns-in-Some-clause-same g c =
     let next : c.in-Some.rounds ≡ c.begin-session.result.rounds + 1 = SomeIff-at c.checked_add.result _ _ _ c.in-Some.is c.checked_add.ensures in
     rw (← c.self.view_is, c.yield_now.ensures.pending) (gives-same may (g.P.Execute.fits plan) (g.P.Execute.loaders plan) (g.P.Execute.program plan) far cur c.begin-session.result.rounds at is can c.turn.new.self c.in-Some.rounds c.turn.new.progress next done.0 done.1 (g.P.Execute.text_of plan))
 
-pub returns-in-Some-clause-round : goal.returns-in-Some-clause-round
-returns-in-Some-clause-round g c =
+pub returns-in-Some-clause-polled : goal.returns-in-Some-clause-polled
+returns-in-Some-clause-polled g c =
     let may = g.S.LocalSource.may_tell in
     let plan = c.self.inside.plan.now in
     let far = far_of c.self.inside.far in
@@ -73,7 +73,13 @@ returns-in-Some-clause-round g c =
     let is : c.begin-session.result.rounds ≡ rounds_of far = rw c.replace.ensures.value at c.begin-session.ensures.rounds in
     let done = rw c.in-Ok-Pending.field-0-is at c.in-Ok-Pending.ensures.turned in
     let next : c.in-Some.rounds ≡ c.begin-session.result.rounds + 1 = SomeIff-at c.checked_add.result _ _ _ c.in-Some.is c.checked_add.ensures in
-    rw (← c.self.view_is, c.yield_now.ensures.pending) (poll-ran may (g.P.Execute.fits plan) (g.P.Execute.loaders plan) (g.P.Execute.program plan) far cur c.begin-session.result.rounds at is can c.turn.new.self c.in-Some.rounds c.turn.new.progress next done.0 done.1 c.in-Ok-Pending.ensures.within c.begin-session.ensures.limited)
+    rw (← c.self.view_is, c.yield_now.ensures.pending) (record {
+      plan = refl;
+      round = poll-ran may (g.P.Execute.fits plan) (g.P.Execute.loaders plan) (g.P.Execute.program plan) far cur c.begin-session.result.rounds at is can c.turn.new.self c.in-Some.rounds c.turn.new.progress next done.0 done.1 c.in-Ok-Pending.ensures.within c.begin-session.ensures.limited;
+      yielded = c.yield_now.ensures.woken;
+      counted = tt;
+      asks_nothing = tt;
+    })
 
 pub returns-in-None-clause-value : goal.returns-in-None-clause-value
 returns-in-None-clause-value g c =

@@ -16,7 +16,7 @@ receive-requires-clause-loaders g c =
     let p : Program = g.P.Execute.program c.args.self.now.plan in
     let most = length s.loaders in
     let size : length (rules_of s) ≤ most = omega (arith, length-map s.loaders rule_of) in
-    All-of_map shown (λ (r : ReplyOf). r.loader < most) c.args.receipts.now (received-below (may_at g.S.LocalSource.may_tell s.loaders) most (rules_of s) (front_in s p) (map shown c.args.receipts.now) size c.requires.round)
+    All-of_map shown (λ (r : ReplyOf). r.loader < most) c.args.receipts.now (received-below (may_at g.S.LocalSource.may_tell s.loaders) most (rules_of s) (front_in s p) (map shown c.args.receipts.now) size c.requires.round.round)
 
 pub returns-in_err-receive-clause-run : goal.returns-in_err-receive-clause-run
 returns-in_err-receive-clause-run g c = λ begun out.
@@ -28,17 +28,14 @@ returns-clause-run g c = λ begun out.
     let s = state_of c.args.session.now in
     let p : Program = g.P.Execute.program c.self.inside.plan.now in
     let was = rw (← c.self.view_is) at out in
-    let round = rw (← c.self.view_is) at c.requires.round in
+    let round = rw (← c.self.view_is) at c.requires.round.round in
     rw (← c.self.view_is, c.in_ok-receive.ensures.received) (out-taken g.S.LocalSource.may_tell p begun s c.self.inside.rounds was (map shown c.args.receipts.now) c.receive.ensures.limited round)
 
-pub returns-clause-ordered : goal.returns-clause-ordered
-returns-clause-ordered g c = λ replies fit moved.
-    let s = state_of c.args.session.now in
-    let p : Program = g.P.Execute.program c.args.self.now.plan in
-    c.in_ok-receive.ensures.received ∙ received-moved (may_at g.S.LocalSource.may_tell s.loaders) s p replies (map shown c.args.receipts.now) c.receive.ensures.limited fit moved
-
 pub returns-clause-ran : goal.returns-clause-ran
-returns-clause-ran g c = λ asked.
+returns-clause-ran g c =
     let s = state_of c.args.session.now in
     let p : Program = g.P.Execute.program c.args.self.now.plan in
-    rw c.in_ok-receive.ensures.received (asked-ran g.S.LocalSource.may_tell p s asked (map shown c.args.receipts.now) c.receive.ensures.limited c.requires.round)
+    record {
+      ran = λ asked. rw c.in_ok-receive.ensures.received (asked-ran g.S.LocalSource.may_tell p s asked (map shown c.args.receipts.now) c.receive.ensures.limited c.requires.round.round);
+      ordered = λ replies fit moved. c.in_ok-receive.ensures.received ∙ received-moved (may_at g.S.LocalSource.may_tell s.loaders) s p replies (map shown c.args.receipts.now) c.receive.ensures.limited fit moved;
+    }

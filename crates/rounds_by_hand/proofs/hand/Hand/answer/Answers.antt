@@ -1,15 +1,20 @@
+use Rattle.std.proofs.Common.{refl}
 use Rattle.load_rounds.specs.Sessions.{state_of}
 use Rattle.rounds_by_hand.proofs.Far.{stops}
 use Rattle.rounds_by_hand.proofs.Taking.{taken-with, taken-told}
 use Rattle.rounds_by_hand.proofs.hand.Hand.answer.Goals as goal
 
-pub returns-in-Ok-clause-holds : goal.returns-in-Ok-clause-holds
-returns-in-Ok-clause-holds g c =
+pub returns-in-Ok-clause-kept : goal.returns-in-Ok-clause-kept
+returns-in-Ok-clause-kept g c =
     let enough = rw (← c.self.view_is) at c.requires.enough in
     let round = rw c.in-Out.is at (rw (← c.self.view_is) at c.requires.round) in
     record {
-      enough = enough;
-      round = (round.0, taken-with g.P.Execute.program g.P.Execute.text_of (state_of c.self.inside.session) c.in-Out.field-0 c.in-Out.pending.items c.args.number c.args.answer c.take_answer.new.pending.items c.in-Ok.ensures.taken round.1, round.2);
+      holds = record {
+        enough = enough;
+        round = (round.0, taken-with g.P.Execute.program g.P.Execute.text_of (state_of c.self.inside.session) c.in-Out.field-0 c.in-Out.pending.items c.args.number c.args.answer c.take_answer.new.pending.items c.in-Ok.ensures.taken round.1, round.2);
+      };
+      plans = rw (← c.self.view_is) refl;
+      session = rw (← c.self.view_is) refl;
     }
 
 pub returns-in-Ok-clause-underway : goal.returns-in-Ok-clause-underway

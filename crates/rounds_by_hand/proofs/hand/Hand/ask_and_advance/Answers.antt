@@ -18,10 +18,10 @@ returns-clause-underway g c = λ begun h.
     let value = sym c.replace.ensures.value in
     elim c.match-replace.branch [
       | in-Over w ↦ rw (w.far-is, w.self-inside-is) (rw (value ∙ w.in-Over.is) at own)
-      | in-Handed+in_ok-begin-in-Handed w ↦ rw (w.far-is, w.self-inside-is) (w.in_ok-begin-in-Handed.ensures.went begun (rw (value ∙ w.in-Handed.is) at own))
+      | in-Handed+in_ok-begin-in-Handed w ↦ rw (w.far-is, w.self-inside-is) (w.in_ok-begin-in-Handed.ensures.gone.went begun (rw (value ∙ w.in-Handed.is) at own))
       | in-Out+in_ok-far-in-Out w ↦
           let gone = rw (value ∙ w.in-Out.is) at own in
-          let next = w.in_ok-far-in-Out.ensures.went begun (refl, gone.1, gone.2) in
+          let next = w.in_ok-far-in-Out.ensures.gone.went begun (refl, gone.1, gone.2) in
           rw (w.far-is, w.self-inside-is) (rw gone.0 at next)
     ]
 
@@ -37,13 +37,13 @@ returns-clause-answers g c =
       | in-Over w ↦ rw w.far-is tt
       | in-Handed+in_ok-begin-in-Handed w ↦
           let tells = tells-weaker program text_of may (λ begun. IsUnderway program text_of may begun c.args.self.now) (λ begun. s ≡ begun) w.begin.new.session plans plans w.in_ok-begin-in-Handed.advance refl
-          (λ begun h. rw (value ∙ w.in-Handed.is) at (rw (← c.self.view_is) at h)) w.in_ok-begin-in-Handed.ensures.tells in
+          (λ begun h. rw (value ∙ w.in-Handed.is) at (rw (← c.self.view_is) at h)) w.in_ok-begin-in-Handed.ensures.gone.tells in
           rw (w.far-is, w.self-inside-is) tells
       | in-Out+in_ok-far-in-Out w ↦
           let run = w.in-Out.run' in
           let pending = w.in-Out.pending.items in
           let round = rw (value ∙ w.in-Out.is) at (rw (← c.self.view_is) at c.requires.round) in
           let tells = tells-weaker program text_of may (λ begun. IsUnderway program text_of may begun c.args.self.now) (λ begun. HasGone program text_of may begun s run.plans (out run pending)) w.finish_round.new.session plans run.plans w.in_ok-far-in-Out.advance round.0
-          (λ begun h. let gone = rw (value ∙ w.in-Out.is) at (rw (← c.self.view_is) at h) in (refl, gone.1, gone.2)) w.in_ok-far-in-Out.ensures.tells in
+          (λ begun h. let gone = rw (value ∙ w.in-Out.is) at (rw (← c.self.view_is) at h) in (refl, gone.1, gone.2)) w.in_ok-far-in-Out.ensures.gone.tells in
           rw (w.far-is, w.self-inside-is) tells
     ]

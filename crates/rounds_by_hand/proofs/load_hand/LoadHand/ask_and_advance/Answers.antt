@@ -38,7 +38,7 @@ pub returns-in_ok-far-in-Handed-clause-loaded : goal.returns-in_ok-far-in-Handed
 returns-in_ok-far-in-Handed-clause-loaded g c =
     let loader = c.self.inside.loader in
     let keys = map key_of c.self.inside.keys.items in
-    let tells = rw c.deref.ensures.value at c.in_ok-far-in-Handed.ensures.tells in
+    let tells = rw c.deref.ensures.value at c.in_ok-far-in-Handed.ensures.gone.tells in
     rw (← c.self.view_is) (begun-loads g.S.LocalSource.may_tell (load_hand_of c.self.inside.session loader keys (load_far_of c.self.inside.far)) (load_hand_of c.begin_keys.new.session loader keys (load_far_of c.in_ok-far-in-Handed.far)) c.in_ok-far-in-Handed.advance
     (ap load_far_of (sym c.replace.ensures.value ∙ c.in-Handed.is)) tells)
 

@@ -6,7 +6,7 @@ use Rattle.rules_parts.specs.Parts.{use_of}
 use Rattle.rules_spreads.specs.Rows.{rows_in}
 use Rattle.rules_spreads.specs.OperationSpans.{set_at}
 use Rattle.rules_typed.specs.UseKinds.{use_at}
-use Rattle.rules_typed.proofs.AllowLaws.{forbids_batch}
+use Rattle.rules_typed.proofs.AllowLaws.{forbids_span}
 use Rattle.rules_typed.proofs.KindLaws.{same_forbids, rows-seen}
 use Rattle.rules_typed.proofs.rules.all_variable_usages_are_allowed.mark_span.Goals as goal
 
@@ -24,7 +24,7 @@ returns c = λ g k are within.
     let allows = c.in_ok-sets.ensures in
     let by_own = rw (c.deref.ensures.value, c.deref-2.ensures.value, c.deref-3.ensures.value) at (c.in_ok-note_missing_in_operations.ensures k) in
     let by_all = rw (c.deref-4.ensures.value, c.deref-5.ensures.value, c.deref-6.ensures.value, c.deref-7.ensures.value) at (c.in_ok-note_missing_in_fragments.ensures k) in
-    forbids_batch g (use_at uses k) k (map operation_of all) span.first span.count (rows_in table.places.operations.items) (rows_in table.places.fragments.items) span.reached.items set
+    forbids_span g (use_at uses k) k (map operation_of all) span.first span.count (rows_in table.places.operations.items) (rows_in table.places.fragments.items) span.reached.items set
     (slice_index_or c.args.marks.now.items k false) (slice_index_or c.note_missing_in_operations.new.noted.items k false) (slice_index_or c.note_missing_in_fragments.new.noted.items k false)
     are (omega (arith, span.within, length-map all operation_of)) (λ q. rows (owner.Operation q)) (λ j. rows (owner.Fragment j))
     (λ m o lt is. allows r m o (omega (arith, kind.within, length-map items use_of)) lt kind.listed is ∙ ap (λ b. not b) (same_forbids o.variables (use_at uses r) (use_at uses k) kind.name kind.location))
