@@ -100,8 +100,8 @@ fn ran<R: Threads + Wait + AllocGlobal + Sync, D: Folder>(
     let alloc = rt.alloc();
     let words = words_with(alloc, options)?;
     let mut written = Vec::new(alloc);
-    let mut reader = Counted::new("".as_bytes());
-    let mut writer = Counted::new(&mut written);
+    let mut reader = CountedDevice::new("".as_bytes());
+    let mut writer = CountedDevice::new(&mut written);
     let end = run_in(rt, folder, NoGate, &words, &mut reader, &mut writer);
     drop(writer);
     let text = str::from_utf8(&written)?;
@@ -130,7 +130,7 @@ fn lines_are_traced(rt: HostRuntime) -> Result<(), Fail> {
     for (options, wanted) in TRACED {
         let mut folder = MemoryFolder::new(rt.alloc(), &files);
         expect(&rt, &ran(&rt, &mut folder, options)?, ANSWERS, options);
-        let trace = folder.written("trace").unwrap_or(b"no trace");
+        let trace = folder.file_bytes("trace").unwrap_or(b"no trace");
         expect(&rt, str::from_utf8(trace)?, wanted, options);
     }
     Ok(())
@@ -142,7 +142,7 @@ fn nothing_is_traced_unasked(rt: HostRuntime) -> Result<(), Fail> {
     let files = files(rt.alloc())?;
     let mut folder = MemoryFolder::new(rt.alloc(), &files);
     expect(&rt, &ran(&rt, &mut folder, "")?, ANSWERS, "no trace");
-    let trace = folder.written("trace").unwrap_or(b"no trace");
+    let trace = folder.file_bytes("trace").unwrap_or(b"no trace");
     expect(&rt, str::from_utf8(trace)?, "no trace", "no trace");
     Ok(())
 }
