@@ -531,6 +531,10 @@ func (m *memory) begin(request Request) error {
 
 func (m *memory) runRounds(ctx context.Context, functions Loaders, options *Options) error {
 	for round := 1; ; round++ {
+		// before the next round is begun: its batches stand in the log from then on
+		if err := ctx.Err(); err != nil {
+			return err
+		}
 		code, err := m.handle.call(func(at *C.rz_handle) C.int32_t { return C.rz_next(at) })
 		if err != nil || code == C.RZ_DONE {
 			return err
@@ -548,9 +552,6 @@ func (m *memory) runRounds(ctx context.Context, functions Loaders, options *Opti
 // runRound runs the batches of a round at the same time. It waits for none of them where the context is done, nor where one panics: then it
 // panics itself.
 func (m *memory) runRound(ctx context.Context, functions Loaders) ([]Ran, error) {
-	if err := ctx.Err(); err != nil {
-		return nil, err
-	}
 	orders, err := m.orders()
 	if err != nil {
 		return nil, err
