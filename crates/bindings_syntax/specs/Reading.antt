@@ -1,5 +1,5 @@
 -- Definitions of what a bindings text says: its statements, and the first line that is none.
-use Rattle.std.specs.Prelude.{ℕ, List, [], ◌∷◌, Bool, true, false, Option, Some, None, if◌then◌else◌}
+use Rattle.std.specs.Prelude.{ℕ, List, [], ◌∷◌, Bool, true, false, Option, Some, None}
 use Rattle.bindings_syntax.specs.Cuts.{Text}
 use Rattle.bindings_syntax.specs.Lines.{NumberedLine, kept_lines}
 use Rattle.bindings_syntax.specs.Words.{words_of}

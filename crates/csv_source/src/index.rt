@@ -10,7 +10,7 @@ ghost use Rattle.csv_source.specs.Tables.{rows_of, has_text};
 use crate::fault::TableFault;
 use crate::hash::bucket;
 use crate::table::Table;
-use load_memory::{KeyMode, Row, Sheet};
+use load_memory::{KeyMode, Row, Rows, Sheet};
 use std::alloc::{AllocError, Global};
 use std::marker::Model;
 use std::sync::Arc;
@@ -109,19 +109,6 @@ pub(crate) fn is_same(mode: KeyMode, field: &str, text: &str) -> bool
     }
 }
 
-/// Adds a row to those that were found. Most keys have one row, so the first takes room for itself
-/// alone.
-pub(crate) fn add(found: &mut Vec<Row>, row: Row) -> Result<(), AllocError>
-    ensures { OnOk result
-        (found.new.items ≡ found.old.items ++ row ∷ []) }
-{
-    if found.is_empty() {
-        found.reserve_exact(1)?;
-    }
-    found.push(row)?;
-    Ok(())
-}
-
 impl ColumnIndex {
     /// The index of the first column of that name.
     ///
@@ -162,16 +149,16 @@ impl ColumnIndex {
     }
 
     /// The rows whose column equals the text, in file order. An empty field equals no text.
-    pub fn rows(&self, alloc: Global, text: &str) -> Result<Vec<Row>, AllocError>
-        ensures { IfOk result (λ v. v.items ≡ filter (has_text self.now.mode self.now.column
+    pub fn rows(&self, alloc: Global, text: &str) -> Result<Rows, AllocError>
+        ensures { IfOk result (λ rows. rows ≡ filter (has_text self.now.mode self.now.column
             (fold_text self.now.mode text.now)) self.now.rows) }
     {
-        let mut found = Vec::new(alloc);
+        let mut found = Rows::none();
         let Links { first, next } = &self.links;
         let mut place = first[bucket(self.mode, first.len(), text)];
         while let Some(after) = next.get(place as usize) {
             if is_same(self.mode, self.sheet.field(place, self.column), text) {
-                add(&mut found, Row::of_sheet(&self.sheet, place)?)?;
+                found.push(alloc, Row::of_sheet(&self.sheet, place)?)?;
             }
             place = *after;
         }

@@ -9,9 +9,9 @@ ghost use Rattle.csv_source.specs.Tables.{rows_of, rows_by, index_by_two, two_co
 
 use crate::fault::TableFault;
 use crate::hash::pair_bucket;
-use crate::index::{Links, add, is_same};
+use crate::index::{Links, is_same};
 use crate::table::Table;
-use load_memory::{KeyMode, Row, Sheet};
+use load_memory::{KeyMode, Row, Rows, Sheet};
 use std::alloc::{AllocError, Global};
 use std::marker::Model;
 use std::sync::Arc;
@@ -138,16 +138,16 @@ impl PairIndex {
 
     /// The rows whose first column equals the first text and whose second column equals the second, in file order. An
     /// empty field equals no text.
-    pub fn rows(&self, alloc: Global, one: &str, two: &str) -> Result<Vec<Row>, AllocError>
-        ensures { IfOk result (λ v. v.items ≡ rows_by self.now.mode self.now.rows
+    pub fn rows(&self, alloc: Global, one: &str, two: &str) -> Result<Rows, AllocError>
+        ensures { IfOk result (λ rows. rows ≡ rows_by self.now.mode self.now.rows
             (two_columns self.now.column self.now.second) (pair one.now two.now)) }
     {
-        let mut found = Vec::new(alloc);
+        let mut found = Rows::none();
         let Links { first, next } = &self.links;
         let mut place = first[pair_bucket(self.by.mode, first.len(), one, two)];
         while let Some(after) = next.get(place as usize) {
             if is_same_pair(&self.sheet, self.by, place, one, two) {
-                add(&mut found, Row::of_sheet(&self.sheet, place)?)?;
+                found.push(alloc, Row::of_sheet(&self.sheet, place)?)?;
             }
             place = *after;
         }

@@ -11,7 +11,7 @@ use crate::fault::TableFault;
 use crate::index::ColumnIndex;
 use crate::pair_index::PairIndex;
 use crate::table::Table;
-use load_memory::{Item, Key, KeyMode, Row};
+use load_memory::{Item, Key, KeyMode, Row, Rows};
 use load_queue::{FetchFault, PerKey, Source};
 use std::alloc::{AllocError, Global};
 use std::marker::Model;
@@ -47,51 +47,48 @@ impl<'t> Model for CsvSource<'t> {
 }
 
 // All rows of a table, in file order.
-fn all_rows(alloc: Global, table: &Table) -> Result<Vec<Row>, AllocError>
+fn all_rows(alloc: Global, table: &Table) -> Result<Rows, AllocError>
     ensures { IfOk result
-        (λ v. v.items ≡ rows_of table.now) }
+        (λ rows. rows ≡ rows_of table.now) }
 {
     let sheet = table.sheet();
     let mut rows = Vec::with_capacity(alloc, sheet.len() as usize)?;
     for place in 0..sheet.len() {
         rows.push(Row::of_sheet(sheet, place)?)?;
     }
-    Ok(rows)
+    Ok(Rows::from(rows))
 }
 
 // The rows that a table has for a key without a column: none but for `All`.
-fn rows_without(alloc: Global, table: &Table, key: &Key) -> Result<Vec<Row>, AllocError>
-    ensures { IfOk result (λ v.
-        v.items ≡ rows_of_key (source_of_all (rows_of table.now)) (key_of key.now)) }
+fn rows_without(alloc: Global, table: &Table, key: &Key) -> Result<Rows, AllocError>
+    ensures { IfOk result (λ rows.
+        rows ≡ rows_of_key (source_of_all (rows_of table.now)) (key_of key.now)) }
 {
     match key {
         Key::All => all_rows(alloc, table),
-        Key::Text(_) => Ok(Vec::new(alloc)),
-        Key::Pair(..) => Ok(Vec::new(alloc)),
+        Key::Text(_) | Key::Pair(..) => Ok(Rows::none()),
     }
 }
 
 // The rows that an index has for a key: none but for a text.
-fn rows_by(alloc: Global, index: &ColumnIndex, key: &Key) -> Result<Vec<Row>, AllocError>
-    ensures { let x = index.now in IfOk result (λ v. v.items
+fn rows_by(alloc: Global, index: &ColumnIndex, key: &Key) -> Result<Rows, AllocError>
+    ensures { let x = index.now in IfOk result (λ rows. rows
         ≡ rows_of_key (source_by x.rows x.column x.mode) (key_of key.now)) }
 {
     match key {
         Key::Text(text) => index.rows(alloc, text.as_str()),
-        Key::All => Ok(Vec::new(alloc)),
-        Key::Pair(..) => Ok(Vec::new(alloc)),
+        Key::All | Key::Pair(..) => Ok(Rows::none()),
     }
 }
 
 // The rows that an index of two columns has for a key: none but for a pair.
-fn rows_by_two(alloc: Global, index: &PairIndex, key: &Key) -> Result<Vec<Row>, AllocError>
-    ensures { let x = index.now in IfOk result (λ v. v.items
+fn rows_by_two(alloc: Global, index: &PairIndex, key: &Key) -> Result<Rows, AllocError>
+    ensures { let x = index.now in IfOk result (λ rows. rows
         ≡ rows_of_key (source_by_two x.rows x.column x.second x.mode) (key_of key.now)) }
 {
     match key {
         Key::Pair(pair) => index.rows(alloc, pair.one.as_str(), pair.two.as_str()),
-        Key::All => Ok(Vec::new(alloc)),
-        Key::Text(_) => Ok(Vec::new(alloc)),
+        Key::All | Key::Text(_) => Ok(Rows::none()),
     }
 }
 
@@ -175,8 +172,8 @@ impl<'t> CsvSource<'t> {
     }
 
     /// The rows of a key, in file order.
-    pub fn rows(&self, alloc: Global, key: &Key) -> Result<Vec<Row>, AllocError>
-        ensures { IfOk result (λ v. v.items
+    pub fn rows(&self, alloc: Global, key: &Key) -> Result<Rows, AllocError>
+        ensures { IfOk result (λ rows. rows
             ≡ rows_of_key self.now (key_of key.now)) }
     {
         match &self.finder {

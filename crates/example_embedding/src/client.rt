@@ -22,7 +22,7 @@ fn prime<'n>(
     name: &'n str,
 ) -> anyhow::Result<String> {
     let row = Row::new(alloc, &[("id", id), ("name", name), ("manager", "")])?;
-    let item = Item::Rows(vec![in alloc; row]?);
+    let item = Item::Rows(row.into());
     let added = session.prime(PERSON_BY_ID, &key_of(alloc, id)?, item)?;
     Ok(format!(in alloc; "primed: {added}")?)
 }

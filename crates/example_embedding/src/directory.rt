@@ -2,7 +2,7 @@
 
 ghost use Rattle.server.specs.Sources.{item_for_each};
 
-use server::{FetchFault, Item, Key, Row, Source};
+use server::{FetchFault, Item, Key, Row, Rows, Source};
 use std::alloc::Global;
 
 /// The people by id, with their names and the ids of their managers.
@@ -24,11 +24,14 @@ const BROKEN: &str = "down";
 pub struct Directory;
 
 // The row of a person.
-fn person(alloc: Global, id: &str) -> Result<Vec<Row>, FetchFault> {
-    let mut rows = Vec::new(alloc);
+fn person(alloc: Global, id: &str) -> Result<Rows, FetchFault> {
+    let mut rows = Rows::none();
     for (known, name, manager) in PEOPLE {
         if known == id {
-            rows.push(Row::new(alloc, &[("id", id), ("name", name), ("manager", manager)])?)?;
+            rows.push(
+                alloc,
+                Row::new(alloc, &[("id", id), ("name", name), ("manager", manager)])?,
+            )?;
         }
     }
     Ok(rows)
@@ -37,7 +40,7 @@ fn person(alloc: Global, id: &str) -> Result<Vec<Row>, FetchFault> {
 // Returns what the directory says of a key.
 fn item(alloc: Global, key: &Key) -> Result<Item, FetchFault> {
     match key {
-        Key::All | Key::Pair(..) => Ok(Item::Rows(Vec::new(alloc))),
+        Key::All | Key::Pair(..) => Ok(Item::Rows(Rows::none())),
         Key::Text(id) if id.as_str() == PRIVATE => Ok(Item::KeyFault(String::from_str(
             alloc,
             "nobody may ask for this person",

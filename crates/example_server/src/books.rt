@@ -2,7 +2,7 @@
 
 ghost use Rattle.server.specs.Sources.{any_answer};
 
-use server::{FetchFault, Item, Key, Row, Source};
+use server::{FetchFault, Item, Key, Row, Rows, Source};
 use std::alloc::Global;
 
 /// The books by id.
@@ -13,11 +13,11 @@ const TITLES: [(&str, &str); 3] = [("1", "Emma"), ("2", "Ulysses"), ("3", "Walde
 pub struct Books;
 
 // The rows of one id: none where there is no such book.
-fn rows(alloc: Global, id: &str) -> Result<Vec<Row>, FetchFault> {
-    let mut rows = Vec::new(alloc);
+fn rows(alloc: Global, id: &str) -> Result<Rows, FetchFault> {
+    let mut rows = Rows::none();
     for (own, title) in TITLES {
         if own == id {
-            rows.push(Row::new(alloc, &[("id", id), ("title", title)])?)?;
+            rows.push(alloc, Row::new(alloc, &[("id", id), ("title", title)])?)?;
         }
     }
     Ok(rows)
@@ -27,7 +27,7 @@ fn rows(alloc: Global, id: &str) -> Result<Vec<Row>, FetchFault> {
 fn item(alloc: Global, key: &Key) -> Result<Item, FetchFault> {
     match key {
         Key::Text(id) => Ok(Item::Rows(rows(alloc, id.as_str())?)),
-        _ => Ok(Item::Rows(Vec::new(alloc))),
+        _ => Ok(Item::Rows(Rows::none())),
     }
 }
 

@@ -271,7 +271,7 @@ fn limit_answers(session: &mut ClientSession<Books>) -> anyhow::Result<String> {
 fn prime(alloc: Global, session: &mut ClientSession<Books>) -> anyhow::Result<String> {
     let key = Key::of_text(alloc, "9")?;
     let row = Row::new(alloc, &[("id", "9"), ("title", "Unwritten")])?;
-    let added = session.prime(BOOK_BY_ID, &key, Item::Rows(vec![in alloc; row]?))?;
+    let added = session.prime(BOOK_BY_ID, &key, Item::Rows(row.into()))?;
     let answer = session.answer(&asking("{book(id:9){title}}"))?;
     Ok(format!(in alloc; "{added} {} in {} rounds", answer.text, answer.rounds)?)
 }

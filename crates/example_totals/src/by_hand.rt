@@ -32,7 +32,7 @@ fn answer_of(alloc: Global, elsewhere: Elsewhere) -> Result<Vec<Item>, FetchFaul
         Elsewhere::OneOrder(amount) => {
             let amount = format!(in alloc; "{amount}")?;
             let row = Row::new(alloc, &[("customer", "dee"), ("amount", amount.as_str())])?;
-            let item = Item::Rows(vec![in alloc; row]?);
+            let item = Item::Rows(row.into());
             Ok(vec![in alloc; item]?)
         }
         Elsewhere::OutOfReach => {

@@ -65,7 +65,7 @@ fn prime(
     name: &str,
 ) -> Result<String> {
     let row = Row::new(alloc, &[("id", id), ("name", name)])?;
-    let item = Item::Rows(vec![in alloc; row]?);
+    let item = Item::Rows(row.into());
     let added = session.prime(CUSTOMER_BY_ID, &key_of(alloc, id)?, item)?;
     Ok(format!(in alloc; "prime {id} as {name}: {added}")?)
 }

@@ -1,6 +1,6 @@
 //! The tables of a shop in memory, as sources that count how often they are asked.
 
-use load_memory::{Item, Key, KeyMode, Row};
+use load_memory::{Item, Key, KeyMode, Row, Rows};
 use load_queue::{FetchFault, Loader, LocalSource};
 use load_rounds::Session;
 use std::alloc::{AllocError, Global};
@@ -67,12 +67,12 @@ impl ShopSource {
     }
 
     // The rows of a key.
-    fn rows_of(self, alloc: Global, key: &str) -> Result<Vec<Row>, AllocError> {
+    fn rows_of(self, alloc: Global, key: &str) -> Result<Rows, AllocError> {
         let (by, of) = self.columns();
-        let mut rows = Vec::new(alloc);
+        let mut rows = Rows::none();
         for (known, value) in self.rows() {
             if *known == key {
-                rows.push(Row::new(alloc, &[(by, key), (of, value)])?)?;
+                rows.push(alloc, Row::new(alloc, &[(by, key), (of, value)])?)?;
             }
         }
         Ok(rows)
@@ -81,7 +81,7 @@ impl ShopSource {
     // Returns what it says of a key.
     fn item(self, alloc: Global, key: &Key) -> Result<Item, FetchFault> {
         match key {
-            Key::All | Key::Pair(..) => Ok(Item::Rows(Vec::new(alloc))),
+            Key::All | Key::Pair(..) => Ok(Item::Rows(Rows::none())),
             Key::Text(id) if id.as_str() == PRIVATE => {
                 Ok(Item::KeyFault(String::from_str(alloc, "eve keeps it to herself")?))
             }

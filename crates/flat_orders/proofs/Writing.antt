@@ -5,11 +5,11 @@ use Rattle.std.proofs.lemmas.List.Concat.{flat_map-append}
 use Rattle.std.proofs.lemmas.List.Sums.{sum_by-cons}
 use Rattle.std.proofs.lemmas.Option.{slice_get-map, slice_get_past}
 use Rattle.std.specs.List.{flat_map}
-use Rattle.std.specs.Prelude.{Option, Some, None, slice_range, slice_get, option_map}
+use Rattle.std.specs.Prelude.{Some, None, slice_range, slice_get, option_map}
 use Rattle.load_memory.specs.Cells.{IsCut, cut}
 use Rattle.load_memory.proofs.CellLaws.{start-within}
 use Rattle.load_memory.specs.Keys.{KeyOf, all, text, pair}
-use Rattle.flat_orders.specs.Written.{key_said, keys_said, lists_of, lists_said, texts_in, shape_of, keys_in, all_texts, AreWritten, size_of}
+use Rattle.flat_orders.specs.Written.{key_said, keys_said, lists_of, lists_said, texts_in, shape_of, keys_in, AreWritten, size_of}
 
 take-length : {X : Type 0} (xs ys : List X) → take (length xs) (xs ++ ys) ≡ xs
 take-length [] ys = refl

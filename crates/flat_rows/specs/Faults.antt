@@ -1,5 +1,5 @@
 -- Definitions of which fault of a reply is its first.
-use Rattle.std.specs.Prelude.{ℕ, ◌≡◌, ◌<◌, ◌≤◌, ◌^◌, List, IsUtf8, length}
+use Rattle.std.specs.Prelude.{ℕ, ◌<◌, ◌≤◌, ◌^◌, List, IsUtf8, length}
 use Rattle.load_memory.specs.Cells.{IsCut}
 use Rattle.flat_rows.specs.Replies.{LacksColumn, texts_wanted, total_rows}
 use Rattle.flat_rows.specs.declared.fault.FlatFault.{FlatFault}

@@ -8,7 +8,7 @@ ghost use Rattle.flat_rows.specs.Replies.{LacksColumn, faults_in, item_said, ite
 
 use crate::fault::FlatFault;
 use crate::texts::FlatTexts;
-use load_memory::{Item, Row, Sheet, SheetBuilder};
+use load_memory::{Item, Row, Rows, Sheet, SheetBuilder};
 use std::alloc::{AllocError, Global};
 use std::sync::Arc;
 
@@ -121,18 +121,21 @@ fn share_sheet(alloc: Global, sheet: Sheet) -> Result<Arc<Sheet>, AllocError>
 }
 
 // Returns `count` rows of a sheet, from the row `at` on.
-fn rows_at(alloc: Global, sheet: &Arc<Sheet>, at: u32, count: u32) -> Result<Vec<Row>, AllocError>
+fn rows_at(alloc: Global, sheet: &Arc<Sheet>, at: u32, count: u32) -> Result<Rows, AllocError>
     requires { at + count
         ≤ length (arc_value sheet.now).rows }
     ensures { let s = arc_value sheet.now in
-        IfOk result (λ r. r.items ≡ map (paired s.names) (take count (drop at s.rows))) }
+        IfOk result (λ r. r ≡ map (paired s.names) (take count (drop at s.rows))) }
 {
     let _rows = sheet.len();
+    if count == 1 {
+        return Ok(Rows::from(Row::of_sheet(sheet, at)?));
+    }
     let mut rows = Vec::with_capacity(alloc, count as usize)?;
     for i in 0..count {
         rows.push(Row::of_sheet(sheet, at + i)?)?;
     }
-    Ok(rows)
+    Ok(Rows::from(rows))
 }
 
 // Returns how many rows a key takes, and how many faults.

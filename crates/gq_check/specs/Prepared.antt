@@ -76,5 +76,5 @@ IsPrepareFault want (fault.NoSuchOperation name) = want
     ≡ Err (no_such_operation (string_bytes name))
 IsPrepareFault want fault.OperationNeeded = want ≡ Err operation_needed
 IsPrepareFault want fault.VariablesNotObject = want ≡ Err variables_not_object
-IsPrepareFault want (fault.BadVariable name) = want ≡ Err (bad_variable (string_bytes name))
+IsPrepareFault want (fault.BadVariable name) = want ≡ Err (bad_variable name)
 IsPrepareFault want fault.NoMemory = Unit {0}

@@ -84,5 +84,5 @@ abbrev pub prepare_message : PrepareFault → List ℕ
 prepare_message (prepare.NoSuchOperation name) = codes "no operation named " ++ string_bytes name
 prepare_message prepare.OperationNeeded = codes "operation name needed"
 prepare_message prepare.VariablesNotObject = codes "variables must be an object"
-prepare_message (prepare.BadVariable name) = codes "bad value for variable $" ++ string_bytes name
+prepare_message (prepare.BadVariable name) = codes "bad value for variable $" ++ name
 prepare_message prepare.NoMemory = codes "out of memory"

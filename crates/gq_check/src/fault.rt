@@ -5,6 +5,7 @@ ghost use Rattle.gq_check.specs.declared.fault.PrepareFault.TheVariants as prepa
 ghost use Rattle.gq_check.specs.declared.fault.CheckFault.TheVariants as check;
 
 use gq_lexer::Place;
+use short_text::Text;
 use std::alloc::{AllocError, AllocFailed};
 use std::error::Error;
 use std::fmt;
@@ -180,7 +181,7 @@ pub enum PrepareFault {
     VariablesNotObject,
     /// The variable of this name has a value that isn't of its type, or has none and may not be null. It is the first
     /// such one, in the order of the definitions.
-    BadVariable(String),
+    BadVariable(Text),
     /// Out of memory.
     NoMemory,
 }

@@ -9,7 +9,7 @@ ghost use Rattle.gq_parser.specs.Tree.{fragment_of};
 ghost use Rattle.gq_schema.specs.Places.{ArePlaces};
 ghost use Rattle.gq_check.specs.Plans.{fragments_of, is_fragment, fragment_in};
 
-use crate::places::{NameIndices, note};
+use crate::places::{PlacesByName, note};
 use gq_parser::Fragment;
 use std::alloc::{AllocError, Global};
 use std::collections::HashMap;
@@ -19,7 +19,7 @@ use std::marker::Model;
 #[derive(Drop)]
 pub struct Fragments {
     items: Vec<Fragment>,
-    places: NameIndices,
+    places: PlacesByName,
 }
 
 impl Model for Fragments {
@@ -43,12 +43,12 @@ impl Model for Fragments {
 }
 
 // The place of the first fragment of each name.
-fn fragment_places(alloc: Global, fragments: &[Fragment]) -> Result<NameIndices, AllocError>
+fn fragment_places(alloc: Global, fragments: &[Fragment]) -> Result<PlacesByName, AllocError>
     ensures { IfOk result (ArePlaces is_fragment (fragments_of fragments.now)) }
 {
-    let mut places: NameIndices = HashMap::new(alloc);
+    let mut places: PlacesByName = HashMap::new(alloc);
     for (i, fragment) in fragments.iter().enumerate() {
-        note(&mut places, &fragment.name, i)?;
+        note(alloc, &mut places, fragment.name.as_str(), i)?;
     }
     Ok(places)
 }

@@ -6,7 +6,7 @@ ghost use Rattle.gq_schema.specs.Inputs.{input_of};
 ghost use Rattle.gq_schema.specs.Places.{ArePlaces};
 ghost use Rattle.gq_variables.specs.Variables.{variables_of, is_variable, value_in};
 
-use crate::places::{NameIndices, note};
+use crate::places::{PlacesByName, note};
 use gq_schema::Input;
 use gq_variables::Variable;
 use std::alloc::{AllocError, Global};
@@ -17,7 +17,7 @@ use std::marker::Model;
 #[derive(Drop)]
 pub struct Variables {
     items: Vec<Variable>,
-    places: NameIndices,
+    places: PlacesByName,
 }
 
 impl Model for Variables {
@@ -39,12 +39,12 @@ impl Model for Variables {
 }
 
 // The place of the first variable of each name.
-fn variable_places(alloc: Global, variables: &[Variable]) -> Result<NameIndices, AllocError>
+fn variable_places(alloc: Global, variables: &[Variable]) -> Result<PlacesByName, AllocError>
     ensures { IfOk result (ArePlaces is_variable (variables_of variables.now)) }
 {
-    let mut places: NameIndices = HashMap::new(alloc);
+    let mut places: PlacesByName = HashMap::new(alloc);
     for (i, variable) in variables.iter().enumerate() {
-        note(&mut places, &variable.name, i)?;
+        note(alloc, &mut places, variable.name.as_str(), i)?;
     }
     Ok(places)
 }

@@ -1,8 +1,6 @@
 -- The views of trees, case by case.
-use Rattle.std.proofs.Common.{◌≡◌, Bool, List, [], ◌∷◌, ◌++◌, map, Option, Some, None, refl, sym, ap, ◌∙◌}
+use Rattle.std.proofs.Common.{◌≡◌, ℕ, Bool, List, [], ◌∷◌, ◌++◌, map, Option, Some, None, refl, sym, ap, ◌∙◌}
 use Rattle.std.specs.Global.{Vec, Global}
-use Rattle.std.specs.Prelude.{string_bytes}
-use Rattle.std.specs.declared.string.String.{String}
 use Rattle.std.specs.declared.boxed.Box.{Box}
 use Rattle.text_place.specs.declared.place.Place.{Place}
 use Rattle.gq_parser.specs.declared.tree.Argument as rust-argument
@@ -10,7 +8,7 @@ use Rattle.gq_parser.specs.declared.tree.Literal as rust-literal
 use Rattle.gq_parser.specs.declared.tree.Value as rust-value
 use Rattle.gq_parser.specs.declared.tree.Value.TheVariants as value
 use Rattle.gq_parser.specs.declared.tree.Value.TheOpen as open-value
-use Rattle.gq_parser.specs.declared.tree.Value.TheViews.{roll-Literal, roll-Argument}
+use Rattle.gq_parser.specs.declared.tree.Value.TheViews.{roll-Argument}
 use Rattle.gq_parser.specs.declared.tree.Value.TheFolds.{fold-Value, fold-roll-Value, fold-roll-Literal, fold-roll-Argument}
 use Rattle.gq_parser.specs.declared.tree.TypeRef as rust-type
 use Rattle.gq_parser.specs.declared.tree.TypeRef.TheVariants as typeref
@@ -28,12 +26,8 @@ use Rattle.gq_parser.specs.declared.tree.SelectionSet as rust-set
 use Rattle.gq_parser.specs.declared.tree.Field as rust-field
 use Rattle.gq_parser.specs.declared.tree.Inline as rust-inline
 use Rattle.gq_parser.specs.Tree.{Value, Variable, Int, Float, Text, Boolean, Null, Enum, Array, Object, Values, and_value, Members, and_member, values_then, members_then, TypeTree, Named, ListOf, Argument}
-use Rattle.gq_parser.specs.Tree.{Selection, Field, Spread, Inline, SelectionSet, set_at, Selections, and_selection, selections_then, text_if, condition_if, below_of, literal_of, map_literals, argument_of, arguments_of, map_members, type_of, directives_of, selection_of, field_of, inline_of, set_of, map_selections}
+use Rattle.gq_parser.specs.Tree.{Selection, Field, Spread, Inline, SelectionSet, set_at, Selections, and_selection, selections_then, condition_if, below_of, literal_of, map_literals, argument_of, arguments_of, map_members, type_of, the_literal, directives_of, selection_of, field_of, inline_of, set_of, map_selections}
 use Rattle.gq_parser.specs.Tree.{value_step, argument_step, literal_step, type_step, selection_step, field_step, inline_step, set_step}
-
--- a literal at a place
-abbrev pub the_literal : Place → rust-value.Value → rust-literal.Literal
-the_literal p v = roll-Literal (record { place = p; value = v })
 
 abbrev value_of : rust-value.Value → Place → Value
 value_of = fold-Value (Place → Value) Argument Value value_step argument_step literal_step
@@ -45,16 +39,16 @@ of_literal p v = fold-roll-Literal (Place → Value) Argument Value value_step a
 said : (p : Place) (v : rust-value.Value) (rolled : rust-value.Value) (w : Place → Value) → rolled ≡ v → value_of rolled ≡ w → literal_of (the_literal p v) ≡ w p
 said p v rolled w e h = of_literal p v ∙ ap (λ x. value_of x p) (sym e) ∙ ap (λ f. f p) h
 
-pub literal_variable : (p : Place) (n : String Global) → literal_of (the_literal p (value.Variable n)) ≡ Variable p (string_bytes n)
+pub literal_variable : (p : Place) (n : List ℕ) → literal_of (the_literal p (value.Variable n)) ≡ Variable p n
 literal_variable p n = said p (value.Variable n) _ _ (value.rolls-Variable n) (fold-roll-Value (Place → Value) Argument Value value_step argument_step literal_step (open-value.Variable n))
 
-pub literal_int : (p : Place) (n : String Global) → literal_of (the_literal p (value.Int n)) ≡ Int p (string_bytes n)
+pub literal_int : (p : Place) (n : List ℕ) → literal_of (the_literal p (value.Int n)) ≡ Int p n
 literal_int p n = said p (value.Int n) _ _ (value.rolls-Int n) (fold-roll-Value (Place → Value) Argument Value value_step argument_step literal_step (open-value.Int n))
 
-pub literal_float : (p : Place) (n : String Global) → literal_of (the_literal p (value.Float n)) ≡ Float p (string_bytes n)
+pub literal_float : (p : Place) (n : List ℕ) → literal_of (the_literal p (value.Float n)) ≡ Float p n
 literal_float p n = said p (value.Float n) _ _ (value.rolls-Float n) (fold-roll-Value (Place → Value) Argument Value value_step argument_step literal_step (open-value.Float n))
 
-pub literal_text : (p : Place) (n : String Global) → literal_of (the_literal p (value.Text n)) ≡ Text p (string_bytes n)
+pub literal_text : (p : Place) (n : List ℕ) → literal_of (the_literal p (value.Text n)) ≡ Text p n
 literal_text p n = said p (value.Text n) _ _ (value.rolls-Text n) (fold-roll-Value (Place → Value) Argument Value value_step argument_step literal_step (open-value.Text n))
 
 pub literal_boolean : (p : Place) (b : Bool) → literal_of (the_literal p (value.Boolean b)) ≡ Boolean p b
@@ -63,7 +57,7 @@ literal_boolean p b = said p (value.Boolean b) _ _ (value.rolls-Boolean b) (fold
 pub literal_null : (p : Place) → literal_of (the_literal p value.Null) ≡ Null p
 literal_null p = said p value.Null _ _ value.rolls-Null (fold-roll-Value (Place → Value) Argument Value value_step argument_step literal_step open-value.Null)
 
-pub literal_enum : (p : Place) (n : String Global) → literal_of (the_literal p (value.Enum n)) ≡ Enum p (string_bytes n)
+pub literal_enum : (p : Place) (n : List ℕ) → literal_of (the_literal p (value.Enum n)) ≡ Enum p n
 literal_enum p n = said p (value.Enum n) _ _ (value.rolls-Enum n) (fold-roll-Value (Place → Value) Argument Value value_step argument_step literal_step (open-value.Enum n))
 
 pub literal_list : (p : Place) (vs : Vec rust-literal.Literal) → literal_of (the_literal p (value.List vs)) ≡ Array p (map_literals vs.items)
@@ -72,10 +66,10 @@ literal_list p vs = said p (value.List vs) _ _ (value.rolls-List vs) (fold-roll-
 pub literal_object : (p : Place) (ms : Vec rust-argument.Argument) → literal_of (the_literal p (value.Object ms)) ≡ Object p (map_members ms.items)
 literal_object p ms = said p (value.Object ms) _ _ (value.rolls-Object ms) (fold-roll-Value (Place → Value) Argument Value value_step argument_step literal_step (open-value.Object ms))
 
-pub of_argument : (p : Place) (n : String Global) (v : rust-literal.Literal) → argument_of (roll-Argument (record { place = p; name = n; value = v })) ≡ record { place = p; name = string_bytes n; value = literal_of v }
+pub of_argument : (p : Place) (n : List ℕ) (v : rust-literal.Literal) → argument_of (roll-Argument (record { place = p; name = n; value = v })) ≡ record { place = p; name = n; value = literal_of v }
 of_argument p n v = fold-roll-Argument (Place → Value) Argument Value value_step argument_step literal_step (record { place = p; name = n; value = v })
 
-pub type_named : (p : Place) (n : String Global) (b : Bool) → type_of (typeref.Named p n b) ≡ Named p (string_bytes n) b
+pub type_named : (p : Place) (n : List ℕ) (b : Bool) → type_of (typeref.Named p n b) ≡ Named p n b
 type_named p n b = ap type_of (sym (typeref.rolls-Named p n b)) ∙ fold-roll-TypeRef TypeTree type_step (open-type.Named p n b)
 
 pub type_list : (p : Place) (t : Box rust-type.TypeRef Global) (b : Bool) → type_of (typeref.List p t b) ≡ ListOf p (type_of t.value) b
@@ -84,15 +78,15 @@ type_list p t b = ap type_of (sym (typeref.rolls-List p t b)) ∙ fold-roll-Type
 pub selection_field : (f : rust-field.Field) → selection_of (selection.Field f) ≡ field_of f
 selection_field f = ap selection_of (sym (selection.rolls-Field f)) ∙ fold-roll-Selection Selection Selection Selection SelectionSet selection_step field_step inline_step set_step (open-selection.Field f)
 
-pub selection_spread : (s : rust-spread.Spread) → selection_of (selection.Spread s) ≡ Spread s.place (string_bytes s.name) (directives_of s.directives.items)
+pub selection_spread : (s : rust-spread.Spread) → selection_of (selection.Spread s) ≡ Spread s.place s.name (directives_of s.directives.items)
 selection_spread s = ap selection_of (sym (selection.rolls-Spread s)) ∙ fold-roll-Selection Selection Selection Selection SelectionSet selection_step field_step inline_step set_step (open-selection.Spread s)
 
 pub selection_inline : (i : rust-inline.Inline) → selection_of (selection.Inline i) ≡ inline_of i
 selection_inline i = ap selection_of (sym (selection.rolls-Inline i)) ∙ fold-roll-Selection Selection Selection Selection SelectionSet selection_step field_step inline_step set_step (open-selection.Inline i)
 
-pub of_field : (p : Place) (alias : Option (String Global)) (n : String Global) (as' : Vec rust-argument.Argument) (ds : Vec rust-directive.Directive) (s : Option rust-set.SelectionSet)
+pub of_field : (p : Place) (alias : Option (List ℕ)) (n : List ℕ) (as' : Vec rust-argument.Argument) (ds : Vec rust-directive.Directive) (s : Option rust-set.SelectionSet)
     → field_of (roll-Field (record { place = p; alias = alias; name = n; arguments = as'; directives = ds; selection_set = s }))
-    ≡ Field p (text_if alias) (string_bytes n) (arguments_of as'.items) (directives_of ds.items) (below_of s)
+    ≡ Field p alias n (arguments_of as'.items) (directives_of ds.items) (below_of s)
 of_field p alias n as' ds None = fold-roll-Field Selection Selection Selection SelectionSet selection_step field_step inline_step set_step (record { place = p; alias = alias; name = n; arguments = as'; directives = ds; selection_set = None })
 of_field p alias n as' ds (Some s) = fold-roll-Field Selection Selection Selection SelectionSet selection_step field_step inline_step set_step (record { place = p; alias = alias; name = n; arguments = as'; directives = ds; selection_set = Some s })
 

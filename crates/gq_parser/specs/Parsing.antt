@@ -1,8 +1,6 @@
 -- Definitions of what a method of the parser does with the tokens that are left.
 use Rattle.std.specs.Prelude.{◌≡◌, ◌≢◌, ◌≤◌, ℕ, Bool, true, false, List, [], ◌∷◌, ◌++◌, length, Result, Ok, Err, Option, Some, None, MatchOption, string_bytes}
 use Rattle.std.specs.Borrow.{Bor}
-use Rattle.std.specs.declared.string.String.{String}
-use Rattle.std.specs.declared.alloc.Global.{Global}
 use Rattle.text_place.specs.declared.place.Place.{Place}
 use Rattle.gq_lexer.specs.declared.place.LocatedText.{LocatedText}
 use Rattle.gq_lexer.specs.declared.token.Punct.TheVariants.{Dollar, Spread, BracketLeft, BraceLeft}
@@ -33,7 +31,7 @@ use Rattle.gq_parser.specs.declared.keyword.Keyword.TheVariants.{Query, Mutation
 use Rattle.gq_parser.specs.declared.keyword.Keyword.TheVariants as keyword
 use Rattle.gq_parser.specs.Keywords.{keyword_of, IsFragmentName}
 use Rattle.gq_parser.specs.Word.{Word, Punct, Name, Int, Float, Text, Token, at}
-use Rattle.gq_parser.specs.Tree.{Operation, Fragment, text_if, literal_of, type_of, condition_if, selection_of, field_of, inline_of, set_of, operation_of, fragment_of}
+use Rattle.gq_parser.specs.Tree.{Operation, Fragment, literal_of, type_of, condition_if, selection_of, field_of, inline_of, set_of, operation_of, fragment_of}
 use Rattle.gq_parser.specs.Grammar.{IsValue, IsType, IsFieldName, IsCondition, IsSelection, IsSelectionSet, IsKind, IsOperation, IsFragment, AreDefinitions}
 use Rattle.gq_parser.specs.Machine.{Symbol, ADefinition, one, Outcome, Stopped, Sunk, read}
 
@@ -127,15 +125,15 @@ abbrev pub IsTypeAfterBracket : Place → rust-type.TypeRef → List Token → L
 IsTypeAfterBracket p t before after = IsType (type_of t) (at p (Punct BracketLeft) ∷ before) after
 
 -- the alias and the name of a field, whose first name was read
-abbrev pub AreNamesAfterFirst : Place → Keyword → String Global
+abbrev pub AreNamesAfterFirst : Place → Keyword → List ℕ
     → FieldName → List Token → List Token → Type 0
-AreNamesAfterFirst p k first names before after = IsFieldName p (text_if names.alias)
-    (string_bytes names.name) (at p (Name k (string_bytes first)) ∷ before) after
+AreNamesAfterFirst p k first names before after = IsFieldName p names.alias
+    names.name (at p (Name k first) ∷ before) after
 
-abbrev pub IsFieldAfterName : Place → Keyword → String Global
+abbrev pub IsFieldAfterName : Place → Keyword → List ℕ
     → rust-field.Field → List Token → List Token → Type 0
 IsFieldAfterName p k first f before after =
-    IsSelection (field_of f) (at p (Name k (string_bytes first)) ∷ before) after
+    IsSelection (field_of f) (at p (Name k first) ∷ before) after
 
 abbrev pub IsSelectionAfterDots : Place
     → rust-selection.Selection → List Token → List Token → Type 0

@@ -1,13 +1,13 @@
 -- The trees of the grammar, without where they lie in memory. Texts are lists of bytes.
-use Rattle.std.specs.Prelude.{ℕ, Bool, List, [], ◌∷◌, map, Option, Some, None, string_bytes}
-use Rattle.std.specs.declared.string.String.{String}
-use Rattle.std.specs.declared.alloc.Global.{Global}
+use Rattle.std.specs.Prelude.{ℕ, Bool, List, [], ◌∷◌, map, Option, Some, None}
 use Rattle.text_place.specs.declared.place.Place.{Place}
 use Rattle.gq_parser.specs.declared.tree.OperationKind.{OperationKind}
 use Rattle.gq_parser.specs.declared.tree.Argument as rust-argument
 use Rattle.gq_parser.specs.declared.tree.Value.TheOpen as open-literal
 use Rattle.gq_parser.specs.declared.tree.Value.TheFolds.{fold-Argument, fold-Literal}
+use Rattle.gq_parser.specs.declared.tree.Value.TheViews.{roll-Literal}
 use Rattle.gq_parser.specs.declared.tree.Literal as rust-literal
+use Rattle.gq_parser.specs.declared.tree.Value as rust-value
 use Rattle.gq_parser.specs.declared.tree.TypeRef as rust-type
 use Rattle.gq_parser.specs.declared.tree.TypeRef.TheOpen as open-type
 use Rattle.gq_parser.specs.declared.tree.TypeRef.TheFolds.{fold-TypeRef}
@@ -118,10 +118,6 @@ pub record Document : Type 0 where
 
 -- ---- what the program's trees say
 
-abbrev pub text_if : Option (String Global) → Option (List ℕ)
-text_if None = None
-text_if (Some s) = Some (string_bytes s)
-
 -- these values, and then others
 abbrev pub values_then : List Value → Values → Values
 values_then [] others = others
@@ -139,21 +135,25 @@ abbrev pub members_of : List Argument → Members
 members_of as' = members_then as' no_member
 
 abbrev pub argument_step : open-literal.Argument-F (Place → Value) Argument Value → Argument
-argument_step a = record { place = a.place; name = string_bytes a.name; value = a.value }
+argument_step a = record { place = a.place; name = a.name; value = a.value }
 
 abbrev pub literal_step : open-literal.Literal-F (Place → Value) Argument Value → Value
 literal_step l = l.value l.place
 
 abbrev pub value_step : open-literal.Value-F (Place → Value) Argument Value → Place → Value
-value_step (open-literal.Variable n) p = Variable p (string_bytes n)
-value_step (open-literal.Int n) p = Int p (string_bytes n)
-value_step (open-literal.Float n) p = Float p (string_bytes n)
-value_step (open-literal.Text s) p = Text p (string_bytes s)
+value_step (open-literal.Variable n) p = Variable p n
+value_step (open-literal.Int n) p = Int p n
+value_step (open-literal.Float n) p = Float p n
+value_step (open-literal.Text s) p = Text p s
 value_step (open-literal.Boolean b) p = Boolean p b
 value_step open-literal.Null p = Null p
-value_step (open-literal.Enum n) p = Enum p (string_bytes n)
+value_step (open-literal.Enum n) p = Enum p n
 value_step (open-literal.List vs) p = Array p (values_of vs.items)
 value_step (open-literal.Object as') p = Object p (members_of as'.items)
+
+-- a literal at a place
+abbrev pub the_literal : Place → rust-value.Value → rust-literal.Literal
+the_literal p v = roll-Literal (record { place = p; value = v })
 
 abbrev pub literal_of : rust-literal.Literal → Value
 literal_of = fold-Literal (Place → Value) Argument Value value_step argument_step literal_step
@@ -171,7 +171,7 @@ abbrev pub map_members : List rust-argument.Argument → Members
 map_members as' = members_of (map argument_of as')
 
 abbrev pub type_step : open-type.TypeRef-F TypeTree → TypeTree
-type_step (open-type.Named p n b) = Named p (string_bytes n) b
+type_step (open-type.Named p n b) = Named p n b
 type_step (open-type.List p t b) = ListOf p t.value b
 
 abbrev pub type_of : rust-type.TypeRef → TypeTree
@@ -180,7 +180,7 @@ type_of = fold-TypeRef TypeTree type_step
 abbrev pub directive_of : rust-directive.Directive → Directive
 directive_of d = record {
   place = d.place;
-  name = string_bytes d.name;
+  name = d.name;
   arguments = arguments_of d.arguments.items;
 }
 
@@ -188,7 +188,7 @@ abbrev pub directives_of : List rust-directive.Directive → List Directive
 directives_of ds = map directive_of ds
 
 abbrev pub condition_of : rust-condition.TypeCondition → Condition
-condition_of c = record { place = c.place; name = string_bytes c.name }
+condition_of c = record { place = c.place; name = c.name }
 
 abbrev pub condition_if : Option rust-condition.TypeCondition → Option Condition
 condition_if None = None
@@ -214,12 +214,12 @@ abbrev pub selection_step : open-selection.Selection-F Selection Selection Selec
     → Selection
 selection_step (open-selection.Field f) = f
 selection_step (open-selection.Spread s) =
-    Spread s.place (string_bytes s.name) (directives_of s.directives.items)
+    Spread s.place s.name (directives_of s.directives.items)
 selection_step (open-selection.Inline i) = i
 
 abbrev pub field_step : open-selection.Field-F Selection Selection Selection SelectionSet
     → Selection
-field_step f = Field f.place (text_if f.alias) (string_bytes f.name)
+field_step f = Field f.place f.alias f.name
     (arguments_of f.arguments.items) (directives_of f.directives.items) (below_if f.selection_set)
 
 abbrev pub inline_step : open-selection.Inline-F Selection Selection Selection SelectionSet
@@ -257,7 +257,7 @@ default_of (Some l) = Some (literal_of l)
 abbrev pub variable_of : rust-variable.VariableDefinition → VariableDefinition
 variable_of v = record {
   place = v.place;
-  name = string_bytes v.name;
+  name = v.name;
   of_type = type_of v.of_type;
   default = default_of v.default;
   directives = directives_of v.directives.items;
@@ -270,7 +270,7 @@ abbrev pub operation_of : rust-operation.Operation → Operation
 operation_of o = record {
   place = o.place;
   kind = o.kind;
-  name = text_if o.name;
+  name = o.name;
   variables = variables_of o.variables.items;
   directives = directives_of o.directives.items;
   selection_set = set_of o.selection_set;
@@ -279,7 +279,7 @@ operation_of o = record {
 abbrev pub fragment_of : rust-fragment.Fragment → Fragment
 fragment_of f = record {
   place = f.place;
-  name = string_bytes f.name;
+  name = f.name;
   condition = condition_of f.condition;
   directives = directives_of f.directives.items;
   selection_set = set_of f.selection_set;

@@ -1,10 +1,9 @@
 //! The tokens that are left, and the steps that take one of them.
 
-ghost use Rattle.std.specs.Prelude.{◌≡◌, ◌<◌, ◌≤◌, ◌∷◌, ◌++◌, [], suc, length, List, MatchResult, OnOk, All, string_bytes, IsTrue, ◌↔◌};
+ghost use Rattle.std.specs.Prelude.{◌≡◌, ◌<◌, ◌≤◌, ◌∷◌, ◌++◌, [], suc, length, List, MatchResult, OnOk, All, IsTrue, ◌↔◌};
 ghost use Rattle.gq_lexer.specs.Tokens.{IsToken, bytes_of};
 ghost use Rattle.gq_parser.specs.Word.{Token, at, place_of_next};
 ghost use Rattle.gq_parser.specs.Word as words;
-ghost use Rattle.gq_parser.specs.Tree.{text_if};
 ghost use Rattle.gq_parser.specs.Grammar.{IsOptionalName};
 ghost use Rattle.gq_parser.specs.Machine.{AName, AFragmentName, AnOn, AColon, ABracket, MaybeName, FirstVariable, MoreVariables, a_variable_then, one};
 ghost use Rattle.gq_parser.specs.Parsing.{Reads, ReadsOne, Takes, TakesName, Eats, IsName, IsPunct, IsFragmentNameTaken, IsOnTaken, IsDollarTaken, IsMissing, says};
@@ -13,6 +12,7 @@ use crate::fault::Fault;
 use crate::keyword::{Keyword, keyword_of};
 use crate::lexeme::Lexeme;
 use gq_lexer::{LexFault, LocatedText, Place, Punct, Token, TokenKind, string_value};
+use short_text::Text;
 use std::alloc::Global;
 use std::marker::Model;
 
@@ -136,9 +136,9 @@ fn lexeme_of<'a>(alloc: Global, text: &'a str, token: &Token) -> Result<Lexeme<'
 }
 
 impl<'a> Parser<'a> {
-    pub(crate) fn name(&mut self) -> Result<LocatedText<String>, Fault>
+    pub(crate) fn name(&mut self) -> Result<LocatedText<Text>, Fault>
         ensures reads { (room : _) → ReadsOne (λ n.
-            IsName n.place (string_bytes n.value)) AName room self.old self.new result }
+            IsName n.place n.value) AName room self.old self.new result }
         ensures shrinks { OnOk result
             (length self.new < length self.old) }
     {
@@ -146,13 +146,13 @@ impl<'a> Parser<'a> {
         let Lexeme::Name(name) = value else {
             return Err(Fault::Unexpected(Some(place)));
         };
-        let value = String::from_str(self.alloc, name)?;
+        let value = Text::from_str(self.alloc, name)?;
         Ok(LocatedText { place, value })
     }
 
     /// A name that is not `on`.
-    pub(crate) fn fragment_name(&mut self) -> Result<String, Fault>
-        ensures reads { (room : _) → ReadsOne (λ n. IsFragmentNameTaken (string_bytes n))
+    pub(crate) fn fragment_name(&mut self) -> Result<Text, Fault>
+        ensures reads { (room : _) → ReadsOne (λ n. IsFragmentNameTaken n)
             AFragmentName room self.old self.new result }
         ensures shrinks { OnOk result
             (length self.new < length self.old) }
@@ -160,7 +160,7 @@ impl<'a> Parser<'a> {
         let LocatedText { place, value } = self.next()?;
         match value {
             Lexeme::Name(name) if keyword_of(name) != Keyword::On => {
-                Ok(String::from_str(self.alloc, name)?)
+                Ok(Text::from_str(self.alloc, name)?)
             }
             _ => Err(Fault::Unexpected(Some(place))),
         }
@@ -222,15 +222,15 @@ impl<'a> Parser<'a> {
     }
 
     /// The name that is next, if one is.
-    pub(crate) fn name_if(&mut self) -> Result<Option<String>, Fault>
+    pub(crate) fn name_if(&mut self) -> Result<Option<Text>, Fault>
         ensures reads { (room : _)
-            → ReadsOne (λ n. IsOptionalName (text_if n)) MaybeName room self.old self.new result }
+            → ReadsOne IsOptionalName MaybeName room self.old self.new result }
         ensures shrinks { OnOk result
             (length self.new ≤ length self.old) }
     {
         let Some(name) = self.take_name() else {
             return Ok(None);
         };
-        Ok(Some(String::from_str(self.alloc, name.value)?))
+        Ok(Some(Text::from_str(self.alloc, name.value)?))
     }
 }

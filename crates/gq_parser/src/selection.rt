@@ -1,6 +1,6 @@
 //! Selections and selection sets.
 
-ghost use Rattle.std.specs.Prelude.{◌<◌, ◌≤◌, [], suc, length, OnOk, string_bytes};
+ghost use Rattle.std.specs.Prelude.{◌<◌, ◌≤◌, [], suc, length, OnOk};
 ghost use Rattle.gq_parser.specs.declared.keyword.Keyword as keywords;
 ghost use Rattle.gq_parser.specs.Tree.{selection_of, set_of, below_of};
 ghost use Rattle.gq_parser.specs.Grammar.{IsSelection, IsOptionalSet, IsSelectionSet};
@@ -13,17 +13,18 @@ use crate::keyword::{Keyword, keyword_of};
 use crate::tree::{Field, Inline, Selection, SelectionSet, Spread, TypeCondition};
 use crate::value::Constness;
 use gq_lexer::{LocatedText, Place, Punct};
+use short_text::Text;
 
 /// Holds what a field is called.
 #[derive(Drop)]
 struct FieldName {
-    alias: Option<String>,
-    name: String,
+    alias: Option<Text>,
+    name: Text,
 }
 
 impl Parser<'_> {
     /// Returns what a field is called, whose first name was read.
-    fn field_name(&mut self, first: String) -> Result<FieldName, Fault>
+    fn field_name(&mut self, first: Text) -> Result<FieldName, Fault>
         ensures reads { (room : _) (place : _) (k : keywords.Keyword)
             → ReadsOne (AreNamesAfterFirst place k first) AfterName room self.old self.new result }
         ensures shrinks { OnOk result
@@ -50,7 +51,7 @@ impl Parser<'_> {
             (length self.new < length self.old) }
     {
         if let Some(LocatedText { place, value }) = self.take_name() {
-            let first = String::from_str(self.alloc, value)?;
+            let first = Text::from_str(self.alloc, value)?;
             return Ok(Selection::Field(self.field(place, first, room)?));
         }
         let Some(place) = self.take(Punct::Spread) else {
@@ -61,7 +62,7 @@ impl Parser<'_> {
 
     /// A field, whose first name was read.
     #[cycle(selection)]
-    fn field(&mut self, place: Place, first: String, room: u32) -> Result<Field, Fault>
+    fn field(&mut self, place: Place, first: Text, room: u32) -> Result<Field, Fault>
         ensures reads { (k : keywords.Keyword) → Reads (IsFieldAfterName place k first)
             room a_field_then room [] self.old self.new result }
         ensures shrinks { OnOk result
@@ -96,7 +97,7 @@ impl Parser<'_> {
             let condition = self.condition()?;
             return Ok(Selection::Inline(self.inline(place, Some(condition), room)?));
         }
-        let name = String::from_str(self.alloc, name.value)?;
+        let name = Text::from_str(self.alloc, name.value)?;
         let directives = self.directives(Constness::NotConst, room)?;
         Ok(Selection::Spread(Spread {
             place,
@@ -108,7 +109,7 @@ impl Parser<'_> {
     /// The type that a fragment is for.
     pub(crate) fn condition(&mut self) -> Result<TypeCondition, Fault>
         ensures reads { (room : _) → ReadsOne (λ c.
-            IsName c.place (string_bytes c.name)) AName room self.old self.new result }
+            IsName c.place c.name) AName room self.old self.new result }
         ensures shrinks { OnOk result
             (length self.new < length self.old) }
     {

@@ -3,10 +3,11 @@
 //! The tree holds all that the text says, so that nobody who has it needs the text again.
 
 ghost use Rattle.std.specs.Prelude.{◌≡◌};
-ghost use Rattle.gq_parser.specs.Tree.{type_of};
+ghost use Rattle.gq_parser.specs.Tree.{the_literal, type_of};
 ghost use Rattle.gq_parser.specs.Types.{named_of, named_place, is_non_null, is_list};
 
 use gq_lexer::Place;
+use short_text::Text;
 
 /// A document: its operations and its fragments, each in the order of the text (section 2.2).
 ///
@@ -31,7 +32,7 @@ pub struct Operation {
     /// The place of its first token: its kind's word, or the `{` where it has none.
     pub place: Place,
     pub kind: OperationKind,
-    pub name: Option<String>,
+    pub name: Option<Text>,
     pub variables: Vec<VariableDefinition>,
     pub directives: Vec<Directive>,
     pub selection_set: SelectionSet,
@@ -42,7 +43,7 @@ pub struct Operation {
 pub struct Fragment {
     /// The place of the word `fragment`.
     pub place: Place,
-    pub name: String,
+    pub name: Text,
     pub condition: TypeCondition,
     pub directives: Vec<Directive>,
     pub selection_set: SelectionSet,
@@ -53,7 +54,7 @@ pub struct Fragment {
 pub struct TypeCondition {
     /// The place of the type's name.
     pub place: Place,
-    pub name: String,
+    pub name: Text,
 }
 
 /// The definition of a variable (section 2.10). Neither its default nor its directives use variables.
@@ -62,7 +63,7 @@ pub struct VariableDefinition {
     /// The place of its `$`.
     pub place: Place,
     /// The name without the `$`.
-    pub name: String,
+    pub name: Text,
     pub of_type: TypeRef,
     pub default: Option<Literal>,
     pub directives: Vec<Directive>,
@@ -92,8 +93,8 @@ pub enum Selection {
 pub struct Field {
     /// The place of its first token: its alias, or its name where it has none.
     pub place: Place,
-    pub alias: Option<String>,
-    pub name: String,
+    pub alias: Option<Text>,
+    pub name: Text,
     pub arguments: Vec<Argument>,
     pub directives: Vec<Directive>,
     pub selection_set: Option<SelectionSet>,
@@ -104,7 +105,7 @@ pub struct Field {
 pub struct Spread {
     /// The place of its `...`.
     pub place: Place,
-    pub name: String,
+    pub name: Text,
     pub directives: Vec<Directive>,
 }
 
@@ -125,7 +126,7 @@ pub struct Directive {
     /// The place of its `@`.
     pub place: Place,
     /// The name without the `@`.
-    pub name: String,
+    pub name: Text,
     pub arguments: Vec<Argument>,
 }
 
@@ -135,7 +136,7 @@ pub struct Directive {
 pub struct Argument {
     /// The place of its name.
     pub place: Place,
-    pub name: String,
+    pub name: Text,
     pub value: Literal,
 }
 
@@ -148,6 +149,14 @@ pub struct Literal {
     pub value: Value,
 }
 
+impl Literal {
+    pub(crate) fn new(place: Place, value: Value) -> Literal
+        ensures { result ≡ the_literal place value }
+    {
+        Literal { place, value }
+    }
+}
+
 /// Meaning of a literal (section 2.9).
 ///
 /// A string is held by its value and not by its spelling, and a number as it is written.
@@ -155,17 +164,17 @@ pub struct Literal {
 #[cycle(literal)]
 pub enum Value {
     /// The name without the `$`.
-    Variable(String),
+    Variable(Text),
     /// The text of the number.
-    Int(String),
+    Int(Text),
     /// The text of the number.
-    Float(String),
+    Float(Text),
     /// The value of the string, without quotes and escapes.
-    Text(String),
+    Text(Text),
     Boolean(bool),
     Null,
     /// A name that is none of `true`, `false` and `null`.
-    Enum(String),
+    Enum(Text),
     List(Vec<Literal>),
     Object(Vec<Argument>),
 }
@@ -176,7 +185,7 @@ pub enum TypeRef {
     Named {
         /// The place of the name.
         place: Place,
-        name: String,
+        name: Text,
         /// Tells whether a `!` follows.
         non_null: bool,
     },

@@ -14,6 +14,7 @@ use crate::keyword::{Keyword, keyword_of};
 use crate::lexeme::Lexeme;
 use crate::tree::{Argument, Directive, Literal, TypeRef, Value};
 use gq_lexer::{LocatedText, Place, Punct};
+use short_text::Text;
 use std::alloc::Global;
 
 /// Tells whether a value may have variables in it: where the grammar says `[Const]`, it has none (section
@@ -31,22 +32,10 @@ fn named_value(alloc: Global, place: Place, name: &str) -> Result<Literal, Fault
     ensures fault { IfErr result (λ f. f ≡ Fault.NoMemory) }
 {
     match keyword_of(name) {
-        Keyword::True => Ok(Literal {
-            place,
-            value: Value::Boolean(true),
-        }),
-        Keyword::False => Ok(Literal {
-            place,
-            value: Value::Boolean(false),
-        }),
-        Keyword::Null => Ok(Literal {
-            place,
-            value: Value::Null,
-        }),
-        _ => Ok(Literal {
-            place,
-            value: Value::Enum(String::from_str(alloc, name)?),
-        }),
+        Keyword::True => Ok(Literal::new(place, Value::Boolean(true))),
+        Keyword::False => Ok(Literal::new(place, Value::Boolean(false))),
+        Keyword::Null => Ok(Literal::new(place, Value::Null)),
+        _ => Ok(Literal::new(place, Value::Enum(Text::from_str(alloc, name)?))),
     }
 }
 
@@ -61,53 +50,35 @@ impl Parser<'_> {
         let LocatedText { place, value } = self.next()?;
         match value {
             Lexeme::Int(number) => {
-                let text = String::from_str(self.alloc, number)?;
-                Ok(Literal {
-                    place,
-                    value: Value::Int(text),
-                })
+                let text = Text::from_str(self.alloc, number)?;
+                Ok(Literal::new(place, Value::Int(text)))
             }
             Lexeme::Float(number) => {
-                let text = String::from_str(self.alloc, number)?;
-                Ok(Literal {
-                    place,
-                    value: Value::Float(text),
-                })
+                let text = Text::from_str(self.alloc, number)?;
+                Ok(Literal::new(place, Value::Float(text)))
             }
-            Lexeme::Text(text) => Ok(Literal {
-                place,
-                value: Value::Text(text),
-            }),
+            Lexeme::Text(text) => Ok(Literal::new(place, Value::Text(Text::from(text)))),
             Lexeme::Name(name) => named_value(self.alloc, place, name),
             Lexeme::Punct(Punct::Dollar) => {
                 if constness == Constness::Const {
                     return Err(Fault::Unexpected(Some(place)));
                 }
                 let name = self.name()?.value;
-                Ok(Literal {
-                    place,
-                    value: Value::Variable(name),
-                })
+                Ok(Literal::new(place, Value::Variable(name)))
             }
             Lexeme::Punct(Punct::BracketLeft) => {
                 if room == 0 {
                     return Err(Fault::TooDeep(place));
                 }
                 let items = self.values(constness, room - 1)?;
-                Ok(Literal {
-                    place,
-                    value: Value::List(items),
-                })
+                Ok(Literal::new(place, Value::List(items)))
             }
             Lexeme::Punct(Punct::BraceLeft) => {
                 if room == 0 {
                     return Err(Fault::TooDeep(place));
                 }
                 let members = self.members(constness, room - 1)?;
-                Ok(Literal {
-                    place,
-                    value: Value::Object(members),
-                })
+                Ok(Literal::new(place, Value::Object(members)))
             }
             _ => Err(Fault::Unexpected(Some(place))),
         }
@@ -233,7 +204,7 @@ impl Parser<'_> {
         ensures shrinks { OnOk result
             (length self.new ≤ length self.old) }
     {
-        let name = String::from_str(self.alloc, name)?;
+        let name = Text::from_str(self.alloc, name)?;
         let non_null = self.eat(Punct::Bang);
         Ok(TypeRef::Named {
             place,

@@ -3,8 +3,9 @@ use Rattle.std.proofs.Common.{◌≡◌, ◌≤◌, ◌+◌, ◌/◌, ◌%◌, �
 use Rattle.std.specs.Char.{digit_char}
 use Rattle.std.specs.Fmt.{digits_onto, digit_glyph, signed_decimal}
 use Rattle.std.proofs.DigitsParse.{digits_onto-nil}
-use Rattle.json.specs.Token.{Token}
-use Rattle.json.specs.Print.{escape_letter, escape_byte, escape, quoted, token_text, ends, separator, print_from}
+use Rattle.json.specs.Token.{Token, begin_object, end_object, begin_array, end_array, key, string, number, boolean, null, bad}
+use Rattle.json.specs.Word.{after_number}
+use Rattle.json.specs.Print.{escape_letter, escape_byte, escape, quoted, IsNumber, IsPrintable, token_text, ends, separator, print_from}
 use Rattle.json.specs.Json.{Members, member, no_members, array}
 use Rattle.answer_json.specs.Answer.{places_json}
 use Rattle.json.specs.Tree.{json_tokens, items_tokens, members_tokens}
@@ -41,6 +42,25 @@ escaped (x ∷ xs) = omega (arith, length-append (escape_byte x) (escape xs), by
 
 pub in-quotes : (s : List ℕ) → suc (length s) ≤ length (quoted s)
 in-quotes s = omega (arith, length-append (escape s) (34 ∷ []), escaped s)
+
+number-takes-some : (s : List ℕ) → IsNumber s → 1 ≤ length s
+unfolding after_number
+number-takes-some [] p = absurd (cc p)
+number-takes-some (b ∷ bs) p = omega arith
+
+-- a token that can be written takes a byte
+pub takes-some : (t : Token) → IsPrintable t → 1 ≤ length (token_text t)
+takes-some begin_object p = omega arith
+takes-some end_object p = omega arith
+takes-some begin_array p = omega arith
+takes-some end_array p = omega arith
+takes-some (key s) p = omega (arith, in-quotes s, length-append (quoted s) (58 ∷ []))
+takes-some (string s) p = omega (arith, in-quotes s)
+takes-some (number s) p = number-takes-some s p
+takes-some (boolean true) p = omega arith
+takes-some (boolean false) p = omega arith
+takes-some null p = omega arith
+takes-some bad p = absurd p
 
 -- ---- numbers
 

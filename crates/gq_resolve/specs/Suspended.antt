@@ -17,7 +17,6 @@ use Rattle.plan_walk.specs.Reading.{lookup}
 use Rattle.plan_walk.specs.Groups.{view_of, Makes, AreRight}
 use Rattle.plan_walk.specs.Puts.{Put, View, puts}
 use Rattle.gq_resolve.specs.Written.{asks, thinned, all_asks, AreWithin, IsWriting}
-use Rattle.plan_walk.specs.declared.loading_fields.LoadingField.{LoadingField}
 use Rattle.plan_walk.specs.declared.waiting.BlockedPosition.{BlockedPosition}
 use Rattle.gq_resolve.specs.declared.output.Output.{Output}
 use Rattle.gq_resolve.specs.declared.advance.RootObject.{RootObject}

@@ -50,14 +50,15 @@ fn text_bytes(text: &str) -> usize
 }
 
 /// Returns how many bytes a token takes at least.
+#[inline]
 pub fn least_bytes(token: Token<'_>) -> usize
+    requires { IsPrintable (token_of token) }
     ensures { result ≤ length
         (token_text (token_of token.entry)) }
 {
     match token {
         Token::Key(text) => text_bytes(text),
         Token::String(text) => text_bytes(text),
-        Token::Number(_) | Token::Bad => 0,
         _ => 1,
     }
 }
@@ -130,6 +131,7 @@ impl Output {
     }
 
     // Writes a token.
+    #[inline]
     fn put(&mut self, token: Token<'_>) -> Result<(), AllocError>
         requires { IsPrintable (token_of token) }
         ensures { OnOk result (Adds true (token_of token.entry ∷ []) self.old self.new) }

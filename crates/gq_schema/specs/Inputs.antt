@@ -1,5 +1,5 @@
 -- Coerced values, without where they lie in memory.
-use Rattle.std.specs.Prelude.{◌≡◌, ℕ, ℤ, Bool, List, [], ◌∷◌, Option, Some, None, Result, IfOk, string_bytes}
+use Rattle.std.specs.Prelude.{◌≡◌, ℕ, ℤ, Bool, List, [], ◌∷◌, Option, Some, None, Result, IfOk}
 use Rattle.std.specs.Option.{option_map}
 use Rattle.gq_schema.specs.declared.input.Input as rust
 use Rattle.gq_schema.specs.declared.input.Input.TheOpen as open-input
@@ -28,7 +28,7 @@ inputs_of is = inputs_then is no_input
 abbrev pub input_step : open-input.Input-F Input → Input
 input_step open-input.Null = Null
 input_step (open-input.Int z) = Int z
-input_step (open-input.Text s) = Text (string_bytes s)
+input_step (open-input.Text s) = Text s
 input_step (open-input.Bool b) = Boolean b
 input_step (open-input.List is) = Items (inputs_of is.items)
 

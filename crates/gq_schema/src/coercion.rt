@@ -1,6 +1,6 @@
 //! The coercion of literals to types (section 3, Input Coercion).
 
-ghost use Rattle.std.specs.Prelude.{◌≡◌, Some, None, is_some, string_bytes};
+ghost use Rattle.std.specs.Prelude.{◌≡◌, Some, None, is_some};
 ghost use Rattle.std.specs.Option.{option_map};
 ghost use Rattle.gq_parser.specs.Tree.{type_of, literal_of, map_literals};
 ghost use Rattle.gq_parser.specs.Types.{is_non_null};
@@ -12,6 +12,7 @@ use crate::input::Input;
 use crate::schema::Schema;
 use gq_lexer::Place;
 use gq_parser::{Literal, TypeRef, Value};
+use short_text::Text;
 use std::alloc::{AllocError, Global};
 
 // The number that the text of an Int writes, where it lies within signed 32 bits.
@@ -96,8 +97,8 @@ fn accepts_all(schema: &Schema, ty: &TypeRef, literals: &[Literal]) -> bool
     true
 }
 
-fn coerce_int(name: &str, text: &String) -> Result<Option<Input>, AllocError>
-    ensures { Coerces (from_int name.now (string_bytes text.now)) result }
+fn coerce_int(name: &str, text: &Text) -> Result<Option<Input>, AllocError>
+    ensures { Coerces (from_int name.now text.now) result }
 {
     if name == "Int" {
         return Ok(int_of(text.as_str()).map(Input::Int));
@@ -108,8 +109,8 @@ fn coerce_int(name: &str, text: &String) -> Result<Option<Input>, AllocError>
     Ok(None)
 }
 
-fn coerce_text(name: &str, text: &String) -> Result<Option<Input>, AllocError>
-    ensures { Coerces (from_text name.now (string_bytes text.now)) result }
+fn coerce_text(name: &str, text: &Text) -> Result<Option<Input>, AllocError>
+    ensures { Coerces (from_text name.now text.now) result }
 {
     if name == "ID" || name == "String" {
         return Ok(Some(Input::Text(text.clone()?)));
@@ -117,8 +118,8 @@ fn coerce_text(name: &str, text: &String) -> Result<Option<Input>, AllocError>
     Ok(None)
 }
 
-fn coerce_enum(schema: &Schema, name: &str, value: &String) -> Result<Option<Input>, AllocError>
-    ensures { Coerces (from_enum (tree_of schema.now) name.now (string_bytes value.now)) result }
+fn coerce_enum(schema: &Schema, name: &str, value: &Text) -> Result<Option<Input>, AllocError>
+    ensures { Coerces (from_enum (tree_of schema.now) name.now value.now) result }
 {
     if schema.has_value(name, value.as_str()) {
         return Ok(Some(Input::Text(value.clone()?)));

@@ -1,5 +1,5 @@
 -- The values of variables (section 6.1.2, CoerceVariableValues).
-use Rattle.std.specs.Prelude.{◌≡◌, ℕ, Bool, ◌||◌, is_some, List, [], ◌∷◌, ◌++◌, Option, Some, None, Result, Ok, Err, string_bytes, if◌then◌else◌}
+use Rattle.std.specs.Prelude.{◌≡◌, ℕ, Bool, ◌||◌, is_some, List, [], ◌∷◌, ◌++◌, Option, Some, None, Result, Ok, Err, if◌then◌else◌}
 use Rattle.serde_json.specs.Data.{Data}
 use Rattle.serde_json.specs.View.{view}
 use Rattle.serde_json.specs.declared.value.Value as rust-data
@@ -88,5 +88,5 @@ read_variables schema definitions given =
 -- the fault that is reported where values are wanted; of memory this says nothing
 abbrev pub IsVariableFault : Result (List VariableOf) FaultOf → VariableFault → Type 0
 IsVariableFault want fault.NotObject = want ≡ Err not_object
-IsVariableFault want (fault.Bad name) = want ≡ Err (bad_variable (string_bytes name))
+IsVariableFault want (fault.Bad name) = want ≡ Err (bad_variable name)
 IsVariableFault want fault.NoMemory = Unit {0}

@@ -1,5 +1,5 @@
 -- Variables with their values, without where they lie in memory.
-use Rattle.std.specs.Prelude.{ℕ, Bool, List, Option, map, find, bytes_eq, string_bytes}
+use Rattle.std.specs.Prelude.{ℕ, Bool, List, Option, map, find, bytes_eq}
 use Rattle.std.specs.Option.{option_map}
 use Rattle.gq_schema.specs.Inputs.{Input, input_of}
 use Rattle.gq_variables.specs.declared.variable.Variable as rust
@@ -10,7 +10,7 @@ pub record VariableOf : Type 0 where
   pub value : Input
 
 abbrev pub variable_of : rust.Variable → VariableOf
-variable_of v = record { name = string_bytes v.name; value = input_of v.value }
+variable_of v = record { name = v.name; value = input_of v.value }
 
 abbrev pub variables_of : List rust.Variable → List VariableOf
 variables_of vs = map variable_of vs

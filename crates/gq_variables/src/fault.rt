@@ -3,6 +3,7 @@
 ghost use Rattle.std.specs.Prelude.{◌≡◌};
 ghost use Rattle.gq_variables.specs.declared.fault.VariableFault.TheVariants.{NoMemory};
 
+use short_text::Text;
 use std::alloc::{AllocError, AllocFailed};
 use thiserror::Error;
 
@@ -15,7 +16,7 @@ pub enum VariableFault {
     /// The variable of this name has a value that isn't of its type, or has none and may not be null. It is the first
     /// such one, in the order of the definitions.
     #[error("bad value for variable ${0}")]
-    Bad(String),
+    Bad(Text),
     /// Out of memory.
     #[error("out of memory")]
     NoMemory,

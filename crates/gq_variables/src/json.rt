@@ -14,6 +14,7 @@ ghost use Rattle.gq_variables.specs.JsonCoercion.{from_integer, from_number, fro
 use gq_parser::TypeRef;
 use gq_schema::{Input, Schema, list_of_one};
 use serde_json::{Number, Value};
+use short_text::Text;
 use std::alloc::{AllocError, Global};
 
 fn coerce_unsigned(alloc: Global, name: &str, n: u64) -> Result<Option<Input>, AllocError>
@@ -24,7 +25,7 @@ fn coerce_unsigned(alloc: Global, name: &str, n: u64) -> Result<Option<Input>, A
         return Ok(i32::try_from(n).ok().map(Input::Int));
     }
     if name == "ID" {
-        return Ok(Some(Input::Text(n.to_string(alloc)?)));
+        return Ok(Some(Input::Text(Text::from(n.to_string(alloc)?))));
     }
     Ok(None)
 }
@@ -36,7 +37,7 @@ fn coerce_signed(alloc: Global, name: &str, n: i64) -> Result<Option<Input>, All
         return Ok(i32::try_from(n).ok().map(Input::Int));
     }
     if name == "ID" {
-        return Ok(Some(Input::Text(n.to_string(alloc)?)));
+        return Ok(Some(Input::Text(Text::from(n.to_string(alloc)?))));
     }
     Ok(None)
 }
@@ -53,11 +54,16 @@ fn coerce_number(alloc: Global, name: &str, number: &Number) -> Result<Option<In
     }
 }
 
-fn coerce_string(schema: &Schema, name: &str, text: &String) -> Result<Option<Input>, AllocError>
+fn coerce_string(
+    alloc: Global,
+    schema: &Schema,
+    name: &str,
+    text: &String,
+) -> Result<Option<Input>, AllocError>
     ensures { Coerces (from_string (tree_of schema.now) name.now (string_bytes text.now)) result }
 {
     if name == "ID" || name == "String" || schema.has_value(name, text.as_str()) {
-        return Ok(Some(Input::Text(text.clone()?)));
+        return Ok(Some(Input::Text(Text::from_str(alloc, text.as_str())?)));
     }
     Ok(None)
 }
@@ -76,7 +82,7 @@ fn coerce_named(
         Value::Null => Ok((!ty.is_non_null()).then_some(Input::Null)),
         Value::Bool(b) => Ok((name == "Boolean").then_some(Input::Bool(*b))),
         Value::Number(number) => Ok(coerce_number(alloc, name, number)?),
-        Value::String(text) => Ok(coerce_string(schema, name, text)?),
+        Value::String(text) => Ok(coerce_string(alloc, schema, name, text)?),
         Value::Array(_) => Ok(None),
         Value::Object(_) => Ok(None),
     }

@@ -22,8 +22,8 @@ use Rattle.host_clients.specs.declared.fault.Fault.{Fault}
 use Rattle.host_clients.specs.declared.fault.Fault.TheVariants as fault
 use Rattle.host_clients.specs.declared.client.HostClient.{HostClient}
 use Rattle.host_clients.specs.declared.client.HostClient.TheVariants.{Idle, Asked, Answered, Loading, Loaded, Moved}
-use Rattle.host_clients.specs.declared.client.Progress.{Progress}
-use Rattle.host_clients.specs.declared.client.Progress.TheVariants.{Done, Round, Waiting}
+use Rattle.host_clients.specs.declared.client.ClientProgress.{ClientProgress}
+use Rattle.host_clients.specs.declared.client.ClientProgress.TheVariants.{Done, Round, Waiting}
 
 -- the client, as it is
 abbrev pub client_in : HostClient → Option (ClientOf HandedIn)
@@ -106,7 +106,7 @@ abbrev pub IsStopFault : UnderWayOf → Fault → Type 0
 IsStopFault u e = (e ≡ fault.NoMemory) ⊎ ((e ≡ fault.Stopped) × IsOver u.hand.far)
 
 -- says what comes of going on
-abbrev pub GoesOnWith : UnderWayOf → HostClient → Result Progress Fault → Type 0
+abbrev pub GoesOnWith : UnderWayOf → HostClient → Result ClientProgress Fault → Type 0
 GoesOnWith u (Answered a) (Ok Done) = AnswersIt u a
 GoesOnWith u (Asked v) (Ok Round) = MakesRound u v
 GoesOnWith u (Asked v) (Ok Waiting) = IsWaiting u.hand.far × (v ≡ u)
@@ -141,7 +141,7 @@ abbrev pub IsLoadStopFault : LoadByHandOf HandedIn → Fault → Type 0
 IsLoadStopFault l e = (e ≡ fault.NoMemory) ⊎ ((e ≡ fault.Stopped) × (l.far ≡ over))
 
 -- says what comes of going on
-abbrev pub LoadsOnWith : LoadByHandOf HandedIn → HostClient → Result Progress Fault → Type 0
+abbrev pub LoadsOnWith : LoadByHandOf HandedIn → HostClient → Result ClientProgress Fault → Type 0
 LoadsOnWith l (Loaded d) (Ok Done) = LoadsIt l d
 LoadsOnWith l (Loading m) (Ok Round) = MakesLoadRound l m
 LoadsOnWith l (Loading m) (Ok Waiting) = IsLoadWaiting l.far × (m ≡ l)
@@ -173,7 +173,7 @@ TakesAnswerTo number answer (Loading l) (Loading m) = TakesForLoad number answer
 TakesAnswerTo number answer old new = ⊥
 
 -- says what a call to go on makes of a client
-abbrev pub Advances : HostClient → HostClient → Result Progress Fault → Type 0
+abbrev pub Advances : HostClient → HostClient → Result ClientProgress Fault → Type 0
 Advances (Idle c) new result = (new ≡ Idle c) × (result ≡ Err fault.Idle)
 Advances (Asked u) new result = GoesOnWith u new result
 Advances (Answered a) new result = (new ≡ Answered a) × (result ≡ Ok Done)

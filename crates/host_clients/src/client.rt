@@ -26,7 +26,7 @@ use std::{mem, str};
 
 /// Progress of a client after a call of [`HostClient::advance`].
 #[derive(Clone, Copy, Debug, PartialEq, Eq)]
-pub enum Progress {
+pub enum ClientProgress {
     /// There is an answer, or there are the outcomes of what is loaded.
     Done,
     /// A new round is out.
@@ -212,7 +212,7 @@ impl HostClient {
     ///
     /// [`Idle`](Fault::Idle) where nothing is asked; [`NoMemory`](Fault::NoMemory) and, where memory ran out before,
     /// [`Stopped`](Fault::Stopped): it is given up, and the finished rounds stay known.
-    pub fn advance(&mut self, alloc: Global) -> Result<Progress, Fault>
+    pub fn advance(&mut self, alloc: Global) -> Result<ClientProgress, Fault>
         ensures { Advances self.old self.new result }
     {
         match mem::replace(self, HostClient::Moved) {
@@ -227,7 +227,7 @@ impl HostClient {
             }
             HostClient::Answered(answered) => {
                 self.put(HostClient::Answered(answered));
-                Ok(Progress::Done)
+                Ok(ClientProgress::Done)
             }
             HostClient::Loading(loading) => {
                 let (gone, result) = loading.advance(alloc);
@@ -236,7 +236,7 @@ impl HostClient {
             }
             HostClient::Loaded(loaded) => {
                 self.put(HostClient::Loaded(loaded));
-                Ok(Progress::Done)
+                Ok(ClientProgress::Done)
             }
             HostClient::Moved => Err(Fault::Idle),
         }

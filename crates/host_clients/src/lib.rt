@@ -25,7 +25,7 @@ mod under_way;
 pub use answered::AnsweredClient;
 pub use asked::FlatRequest;
 pub use asked_keys::FlatKeys;
-pub use client::{HostClient, Progress};
+pub use client::{ClientProgress, HostClient};
 pub use fault::Fault;
 pub use flat_orders::{FlatOrders, KeySizes};
 pub use flat_outcomes::{FlatOutcomes, OutcomeSizes};

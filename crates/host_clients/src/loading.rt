@@ -11,7 +11,7 @@ ghost use Rattle.host_clients.specs.Clients.{LoadsOnWith, StopsLoad, TakesForLoa
 ghost use Rattle.host_clients.specs.Loads.{load_orders};
 
 use crate::asked_keys::AskedKeys;
-use crate::client::{HostClient, Progress};
+use crate::client::{ClientProgress, HostClient};
 use crate::fault::Fault;
 use crate::loaded::LoadedClient;
 use crate::under_way::orders_of;
@@ -83,7 +83,7 @@ impl LoadUnderWay {
     /// # Errors
     ///
     /// [`NoMemory`](Fault::NoMemory), and [`Stopped`](Fault::Stopped) where memory ran out before: it is given up.
-    pub(crate) fn advance(self, alloc: Global) -> (HostClient, Result<Progress, Fault>)
+    pub(crate) fn advance(self, alloc: Global) -> (HostClient, Result<ClientProgress, Fault>)
         ensures { LoadsOnWith self result.0 result.1 }
     {
         let LoadUnderWay {
@@ -100,7 +100,7 @@ impl LoadUnderWay {
                         asked,
                         outcomes,
                     };
-                    (HostClient::Loaded(loaded), Ok(Progress::Done))
+                    (HostClient::Loaded(loaded), Ok(ClientProgress::Done))
                 }
                 Err(_) => (HostClient::Idle(hand.into_client()), Err(Fault::NoMemory)),
             },
@@ -111,7 +111,7 @@ impl LoadUnderWay {
                         asked,
                         orders,
                     };
-                    (HostClient::Loading(loading), Ok(Progress::Round))
+                    (HostClient::Loading(loading), Ok(ClientProgress::Round))
                 }
                 Err(_) => (HostClient::Idle(hand.into_client()), Err(Fault::NoMemory)),
             },
@@ -121,7 +121,7 @@ impl LoadUnderWay {
                     asked,
                     orders,
                 };
-                (HostClient::Loading(loading), Ok(Progress::Waiting))
+                (HostClient::Loading(loading), Ok(ClientProgress::Waiting))
             }
             Ok(LoadAdvance::Over) => (HostClient::Idle(hand.into_client()), Err(Fault::Stopped)),
             Err(_) => (HostClient::Idle(hand.into_client()), Err(Fault::NoMemory)),

@@ -8,7 +8,7 @@ ghost use Rattle.host_clients.specs.UnderWay.{orders_out};
 
 use crate::answered::AnsweredClient;
 use crate::asked::AskedTexts;
-use crate::client::{HostClient, Progress};
+use crate::client::{ClientProgress, HostClient};
 use crate::fault::Fault;
 use flat_orders::FlatOrders;
 use load_memory::Item;
@@ -122,7 +122,7 @@ impl UnderWay {
     /// # Errors
     ///
     /// [`NoMemory`](Fault::NoMemory), and [`Stopped`](Fault::Stopped) where memory ran out before: it is given up.
-    pub(crate) fn advance(self, alloc: Global) -> (HostClient, Result<Progress, Fault>)
+    pub(crate) fn advance(self, alloc: Global) -> (HostClient, Result<ClientProgress, Fault>)
         ensures { GoesOnWith self result.0 result.1 }
     {
         let UnderWay {
@@ -140,7 +140,7 @@ impl UnderWay {
                     text,
                     rounds,
                 };
-                (HostClient::Answered(answered), Ok(Progress::Done))
+                (HostClient::Answered(answered), Ok(ClientProgress::Done))
             }
             Ok(ClientAdvance::Round) => match round_orders(alloc, &mut hand) {
                 Ok(orders) => {
@@ -149,7 +149,7 @@ impl UnderWay {
                         asked,
                         orders,
                     };
-                    (HostClient::Asked(under_way), Ok(Progress::Round))
+                    (HostClient::Asked(under_way), Ok(ClientProgress::Round))
                 }
                 Err(_) => (HostClient::Idle(hand.into_client()), Err(Fault::NoMemory)),
             },
@@ -159,7 +159,7 @@ impl UnderWay {
                     asked,
                     orders,
                 };
-                (HostClient::Asked(under_way), Ok(Progress::Waiting))
+                (HostClient::Asked(under_way), Ok(ClientProgress::Waiting))
             }
             Ok(ClientAdvance::Over) => (HostClient::Idle(hand.into_client()), Err(Fault::Stopped)),
             Err(_) => (HostClient::Idle(hand.into_client()), Err(Fault::NoMemory)),

@@ -17,11 +17,11 @@ pub data OutcomeOf : Type 0 where
   batch_fault : List ℕ → OutcomeOf
 
 abbrev pub item_of : Item → ItemOf
-item_of (item.Rows r) = rows r.items
+item_of (item.Rows r) = rows r
 item_of (item.KeyFault t) = key_fault (string_bytes t)
 
 abbrev pub outcome_of : Outcome → OutcomeOf
-outcome_of (outcome.Rows r) = known (rows r.items)
+outcome_of (outcome.Rows r) = known (rows r)
 outcome_of (outcome.KeyFault t) = known (key_fault (string_bytes t))
 outcome_of (outcome.BatchFault t) = batch_fault (string_bytes t)
 

@@ -9,6 +9,7 @@ use Rattle.execution.specs.Loads.{read}
 use Rattle.execution.specs.Program.{Program, chain}
 use Rattle.execution.specs.Completion.{AnsweredOf}
 use Rattle.execution.specs.Front.{front}
+use Rattle.execution.specs.Rounds.{RuleOf, AreLimited, HasLoaders}
 use Rattle.execution.specs.Sessions.{Forgot}
 use Rattle.futures.specs.Poll.{IfReady, OnPending}
 use Rattle.futures.specs.declared.task.Poll.{Poll}
@@ -39,6 +40,10 @@ abbrev pub far_of : {S E : Type 0} → Far S E → FarOf S E
 far_of (Unpolled s) = handed s
 far_of (Polled at) = polled at.session at.rounds at.progress
 far_of Over = over
+
+-- a program asks its loaders alone, and each of these takes keys
+abbrev pub MayRun : ℕ → Program → List RuleOf → Type 0
+MayRun loaders p rules = HasLoaders loaders p × AreLimited rules
 
 module _ {S : Type 0} (may : S → List KeyOf → AnswerOf → Type 0) where
   -- one turn: the text where nothing is missing, and then nothing has changed; else exactly one round, which asked the front

@@ -1,6 +1,5 @@
 //! Answers in turn: round after round until nothing is missing.
 ghost use Rattle.std.specs.Prelude.{◌≤◌, length, IfOk, OnOk, OnErr};
-ghost use Rattle.execution.specs.Rounds.{HasLoaders};
 
 use crate::executed::ExecutionFinding;
 use crate::session::Session;
@@ -19,9 +18,9 @@ pub struct Answer {
 }
 
 impl<S: LocalSource> Session<S> {
-    ghost use Rattle.load_rounds.specs.Sessions.{state_of, memory_of};
+    ghost use Rattle.load_rounds.specs.Sessions.{state_of, rules_of, memory_of};
     ghost use Rattle.load_rounds.specs.ByHand.{IsUnasked};
-    ghost use Rattle.load_rounds.specs.Answerings.{Turned};
+    ghost use Rattle.load_rounds.specs.Answerings.{Turned, MayRun};
     ghost use Rattle.load_rounds.specs.Headline.{HasHeadline, StopsAnswering};
 
     /// Answers a plan on this thread. It forgets failed batches, and then makes rounds until nothing is
@@ -55,7 +54,7 @@ impl<S: LocalSource> Session<S> {
     }
 
     /// Goes on with an execution: returns its text if nothing is missing, and otherwise makes one round that asks for what
-    /// is needed and missing.
+    /// is needed and missing. A contract also sees here that no loader's limit is 0.
     pub(crate) fn turn<'p, E, P: Execute<'p, E>>(
         &mut self,
         plan: &'p P,
@@ -68,7 +67,8 @@ impl<S: LocalSource> Session<S> {
         ensures turned { IfOk result (λ polled. Turned S.may_tell (P.text_of plan.now)
             (state_of self.old) (state_of self.new) (P.program plan.now) polled) }
         ensures fits { OnOk result (P.fits plan.now progress.new (memory_of self.new)) }
-        ensures within { OnOk result (HasLoaders (P.loaders plan.now) (P.program plan.now)) }
+        ensures may { OnOk result (MayRun (P.loaders plan.now) (P.program plan.now)
+            (rules_of (state_of self.old))) }
         ensures stopped { OnErr result
             (IsUnasked (P.program plan.now) (state_of self.old) (state_of self.new)) }
     {

@@ -10,7 +10,6 @@
 //! began from (`Gives`). That the session has the plan's loaders is required where the future is polled, and
 //! not where it is made.
 ghost use Rattle.std.specs.Prelude.{◌≡◌, IsSome, Some};
-ghost use Rattle.execution.specs.Rounds.{AreLimited};
 ghost use Rattle.futures.specs.Poll.{IfReady, OnPending};
 ghost use Rattle.futures.specs.Task.{Covers, Keeps};
 
@@ -90,11 +89,10 @@ impl<S> Session<S> {
 }
 
 impl<S, E> Far<S, E> {
-    ghost use Rattle.load_rounds.specs.Sessions.{state_of, rules_of, memory_of};
+    ghost use Rattle.load_rounds.specs.Sessions.{state_of, memory_of};
     ghost use Rattle.load_rounds.specs.Answerings.{far_of, begun, rounds_of, FitsFar};
 
-    // Returns where the next poll begins. At first failed batches are forgotten. A contract also sees here that no loader's
-    // limit is 0.
+    // Returns where the next poll begins. At first failed batches are forgotten.
     fn begin<'p, P: Execute<'p, E>>(self, plan: &'p P) -> AnswerUnderWay<S, E>
         requires can { IsSome (begun (far_of self)) }
         requires fits { FitsFar (P.fits plan.now)
@@ -105,8 +103,6 @@ impl<S, E> Far<S, E> {
             ≡ rounds_of (far_of self) }
         ensures fits { P.fits plan.now result.progress
             (memory_of result.session) }
-        ensures limited { AreLimited
-            (rules_of (state_of result.session)) }
     {
         match self {
             Far::Unpolled(mut session) => {
@@ -117,10 +113,7 @@ impl<S, E> Far<S, E> {
                     progress: plan.start(),
                 }
             }
-            Far::Polled(underway) => {
-                underway.session.limits();
-                underway
-            }
+            Far::Polled(underway) => underway,
             Far::Over => unreachable!(),
         }
     }

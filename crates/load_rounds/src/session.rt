@@ -59,14 +59,6 @@ impl<S> Session<S> {
         self.memory.drop_failed();
     }
 
-    // No loader's limit is 0.
-    pub(crate) fn limits(&self)
-        ensures { AreLimited
-            (rules_of (state_of self.now)) }
-    {
-        let _ = &self.memory;
-    }
-
     /// Cuts the wanted keys into the batches of the next round, enters these in the logs, and returns their orders, into
     /// which the keys move. A contract also sees here that the log's entries have the numbers of rounds that were made.
     pub(crate) fn cut(&mut self, wants: &mut Wants) -> Result<Vec<Order>, AllocError>

@@ -16,10 +16,9 @@ use Rattle.execution.specs.Front.{front, keys_for}
 use Rattle.execution.specs.Rounds.{RuleOf, rule_of, modes_of, orders_from, round_orders, may_at, AreReplies, AreRounds, HasLoaders, after_round, without_failed}
 use Rattle.execution.specs.Sessions.{AskedLoads}
 use Rattle.load_rounds.specs.Sessions.{SessionOf, StateOf, rules_of, entry, logged_from, made, after_step, after_steps, AreNumbered, restarted, state_of}
-use Rattle.load_rounds.specs.Rounds.{orders_by}
 use Rattle.load_rounds.specs.Headline.{asked_steps, MakesRounds}
 use Rattle.load_rounds.proofs.Cutting.{rules-logged}
-use Rattle.load_rounds.proofs.Numbering.{made-one, logged-numbered, orders-loads}
+use Rattle.load_rounds.proofs.Numbering.{made-one, logged-numbered}
 use Rattle.load_rounds.proofs.Runs.{front-orders}
 use Rattle.load_trace.specs.Traces.{BatchOf, batch_of, batches_in, last_in, round_batches, rounds_upto, last_round, rounds_of}
 use Rattle.load_trace_laws.specs.Logs.{name_in, answered_rounds}

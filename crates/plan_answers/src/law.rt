@@ -11,5 +11,6 @@ pub fn answers_of_plans<S: LocalSource>(plan: &Plan)
     ensures { let p = plan_of plan.now in (old new : _) (text : _) (n : _)
         → ExecutesPlan S.may_tell old new p text n → AnswersPlan S.may_tell old new p text n }
 {
+    // The clause `prepared` of this call says that the plan is of a valid document.
     let _ = plan.operation();
 }

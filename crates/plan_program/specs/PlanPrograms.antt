@@ -1,7 +1,6 @@
 -- The program of a plan (sections 6.2 to 6.4): the root's groups and, over each row that a load gives, the groups of the
 -- row's object type.
-use Rattle.std.specs.Prelude.{◌≡◌, ℕ, zero, suc, Bool, true, false, ◌==◌, ◌&&◌, ◌||◌, List, [], ◌∷◌, length, map, Option, Some, None, option_map, codes, bytes_eq, if◌then◌else◌}
-use Rattle.std.specs.Option.{option_map_or}
+use Rattle.std.specs.Prelude.{◌≡◌, ℕ, zero, suc, Bool, true, false, ◌==◌, ◌&&◌, ◌||◌, List, [], ◌∷◌, map, Option, Some, None, option_map, codes, bytes_eq, if◌then◌else◌}
 use Rattle.text_place.specs.declared.place.Place.{Place}
 use Rattle.gq_parser.specs.Tree.{TypeTree, Named, ListOf}
 use Rattle.schema_syntax.specs.Tree.{Definition}
@@ -11,7 +10,7 @@ use Rattle.gq_schema.specs.Coercion.{int_of}
 use Rattle.load_memory.specs.Keys.{KeyOf, text, pair}
 use Rattle.load_memory.specs.Rows.{RowOf, cell_of}
 use Rattle.load_memory.specs.Outcomes.{OutcomeOf, known, batch_fault, rows, key_fault}
-use Rattle.execution.specs.Program.{Leaf, Text, Int, Boolean, LeafValue, Value, Null, Fault, ListOf as Listed, ObjectOf, Item, FieldPosition, Program, Is, Read, Under, Programs, End, With}
+use Rattle.execution.specs.Program.{Leaf, Text, Int, Boolean, LeafValue, Value, Null, Fault, ListOf as Listed, ObjectOf, Item, Program, Is, Read, Under, Programs, End, With}
 use Rattle.gq_check.specs.Plans.{PlanOf}
 use Rattle.plan_program.specs.Groups.{FieldOf, selections_in, nothing_collected, collect, collect_subfields}
 use Rattle.gq_bindings.specs.Tree.{StepOf}

@@ -1,5 +1,5 @@
 -- Definitions of what contracts see of what a group asks for.
-use Rattle.std.specs.Prelude.{ℕ, List, map, Option, Some, None, string_bytes, option_map}
+use Rattle.std.specs.Prelude.{ℕ, List, map, Option, Some, string_bytes, option_map}
 use Rattle.std.specs.Arc.{arc_value}
 use Rattle.gq_parser.specs.Tree.{TypeTree, type_of}
 use Rattle.schema_syntax.specs.Tree.{Field}

@@ -1,5 +1,5 @@
 -- Definitions of what contracts see of fields, groups and arguments.
-use Rattle.std.specs.Prelude.{ℕ, List, [], map, Option, Some, None, string_bytes}
+use Rattle.std.specs.Prelude.{List, [], map, None, string_bytes}
 use Rattle.std.specs.Borrow.{Bor}
 use Rattle.std.specs.declared.string.String.{String}
 use Rattle.std.specs.declared.alloc.Global.{Global}

@@ -33,7 +33,7 @@ fn text_of_input(alloc: Global, input: &Input) -> Result<Option<Text>, AllocErro
         text ≡ text_of_input (input_of input.now)) }
 {
     match input {
-        Input::Text(text) => Ok(Some(Text::from_str(alloc, text.as_str())?)),
+        Input::Text(text) => Ok(Some(text.clone()?)),
         Input::Int(number) => Ok(Some(Text::from(number.to_string(alloc)?))),
         Input::Null => Ok(None),
         Input::Bool(_) => Ok(None),

@@ -10,8 +10,8 @@ use Rattle.server_lines.specs.declared.fault.ServeFault.{ServeFault}
 use Rattle.server_lines.specs.declared.fault.ServeFault.TheVariants as serve
 use Rattle.world_files.specs.declared.fault.InputFile.{InputFile}
 use Rattle.world_files.specs.declared.fault.InputFile.TheVariants as file
-use Rattle.world_files.specs.declared.fault.OpenFault.{OpenFault}
-use Rattle.world_files.specs.declared.fault.OpenFault.TheVariants as opening
+use Rattle.world_files.specs.declared.fault.FileFault.{FileFault}
+use Rattle.world_files.specs.declared.fault.FileFault.TheVariants as opening
 use Rattle.query_command.specs.declared.run_end.RunEnd.{RunEnd}
 use Rattle.query_command.specs.declared.run_end.RunEnd.TheVariants as stop
 use Rattle.query_command.specs.declared.command_words.CommandWords.{CommandWords}
@@ -68,7 +68,7 @@ origin_of stop.File = None
 origin_of (stop.Serve fault) = origin_of_serve fault
 
 -- the file that couldn't be opened or created, or the place of a fault in what was read
-abbrev pub origin_of_opening : OpenFault → Option Origin
+abbrev pub origin_of_opening : FileFault → Option Origin
 origin_of_opening (opening.Unread input reason) = in_file input (location.Reason reason)
 origin_of_opening (opening.Table place fault (Some reason)) =
     in_file (file.Table place) (location.Reason reason)

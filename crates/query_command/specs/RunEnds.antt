@@ -9,8 +9,8 @@ use Rattle.csv_source.specs.declared.fault.TableFault.TheVariants as table
 use Rattle.server_lines.specs.declared.fault.ServeFault.{ServeFault}
 use Rattle.server_lines.specs.declared.fault.ServeFault.TheVariants as serve
 use Rattle.server_lines.specs.Faults as serving
-use Rattle.world_files.specs.declared.fault.OpenFault.{OpenFault}
-use Rattle.world_files.specs.declared.fault.OpenFault.TheVariants as opening
+use Rattle.world_files.specs.declared.fault.FileFault.{FileFault}
+use Rattle.world_files.specs.declared.fault.FileFault.TheVariants as opening
 use Rattle.query_command.specs.declared.run_end.RunEnd.{RunEnd}
 use Rattle.query_command.specs.declared.run_end.RunEnd.TheVariants as stop
 
@@ -73,7 +73,7 @@ line_of stop.File = codes "X2 ReadFault"
 line_of (stop.Serve fault) = serving.code_and_name fault
 
 -- gives how a run ends where files can't be opened or created
-abbrev pub stop_of : OpenFault → RunEnd
+abbrev pub stop_of : FileFault → RunEnd
 stop_of (opening.Unread file reason) = stop.File
 stop_of (opening.Table place fault reason) = stop.Table fault
 stop_of (opening.World fault) = stop.World fault

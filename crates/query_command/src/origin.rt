@@ -12,7 +12,7 @@ use server_lines::ServeFault;
 use std::alloc::{AllocError, Global};
 use std::io;
 use world::WorldFault;
-use world_files::{InputFile, OpenFault};
+use world_files::{FileFault, InputFile};
 
 /// Subject of a fault.
 #[derive(Clone, Copy, Debug)]
@@ -144,34 +144,34 @@ impl RunEnd {
 }
 
 // The file that couldn't be opened or created, or the place of a fault in what was read.
-fn origin_of_opening(fault: &OpenFault) -> Option<Origin>
+fn origin_of_opening(fault: &FileFault) -> Option<Origin>
     ensures { result ≡ origin_of_opening fault.now }
 {
     match fault {
-        OpenFault::Unread { file, reason } => in_file(*file, FaultLocation::Reason(*reason)),
-        OpenFault::Table {
+        FileFault::Unread { file, reason } => in_file(*file, FaultLocation::Reason(*reason)),
+        FileFault::Table {
             place,
             reason: Some(reason),
             ..
         } => in_file(InputFile::Table(*place), FaultLocation::Reason(*reason)),
-        OpenFault::Table {
+        FileFault::Table {
             place,
             reason: None,
             ..
         } => in_file(InputFile::Table(*place), FaultLocation::Whole),
-        OpenFault::World(fault) => origin_of_world(fault),
-        OpenFault::Uncreated(reason) => Some(Origin {
+        FileFault::World(fault) => origin_of_world(fault),
+        FileFault::Uncreated(reason) => Some(Origin {
             subject: Subject::Trace,
             location: FaultLocation::Reason(*reason),
         }),
-        OpenFault::NoMemory => None,
+        FileFault::NoMemory => None,
     }
 }
 
-impl From<OpenFault> for LocatedRunEnd {
+impl From<FileFault> for LocatedRunEnd {
     ghost from_gives = { λ fault end. (end.stop ≡ stop_of fault) × (end.origin ≡ origin_of_opening fault) };
 
-    fn from(fault: OpenFault) -> LocatedRunEnd {
+    fn from(fault: FileFault) -> LocatedRunEnd {
         let origin = origin_of_opening(&fault);
         LocatedRunEnd {
             stop: RunEnd::from(fault),

@@ -10,7 +10,7 @@ use gq_schema::SchemaFault;
 use server_lines::ServeFault;
 use std::alloc::{AllocError, AllocFailed};
 use world::WorldFault;
-use world_files::OpenFault;
+use world_files::FileFault;
 
 /// End of a run.
 #[derive(Debug, Drop)]
@@ -104,16 +104,16 @@ impl<T: Drop> From<AllocFailed<T>> for RunEnd {
     }
 }
 
-impl From<OpenFault> for RunEnd {
+impl From<FileFault> for RunEnd {
     ghost from_gives = { λ fault stop. stop ≡ stop_of fault };
 
-    fn from(fault: OpenFault) -> RunEnd {
+    fn from(fault: FileFault) -> RunEnd {
         match fault {
-            OpenFault::Unread { .. } => RunEnd::File,
-            OpenFault::Table { fault, .. } => RunEnd::Table(fault),
-            OpenFault::World(fault) => RunEnd::World(fault),
-            OpenFault::Uncreated(_) => RunEnd::Serve(ServeFault::TraceFault),
-            OpenFault::NoMemory => RunEnd::Serve(ServeFault::NoMemory),
+            FileFault::Unread { .. } => RunEnd::File,
+            FileFault::Table { fault, .. } => RunEnd::Table(fault),
+            FileFault::World(fault) => RunEnd::World(fault),
+            FileFault::Uncreated(_) => RunEnd::Serve(ServeFault::TraceFault),
+            FileFault::NoMemory => RunEnd::Serve(ServeFault::NoMemory),
         }
     }
 }

@@ -16,8 +16,8 @@ use Rattle.world_answers.specs.Services.{ServiceOf}
 use Rattle.world_answers.proofs.Serving.{line-direct, line-client, stops-client}
 use Rattle.world_files.specs.Folders.{Holdings, IsAllOf, WritesNoOther}
 use Rattle.world_files.specs.Opening.{IsUncreated}
-use Rattle.world_files.specs.declared.fault.OpenFault.{OpenFault}
-use Rattle.world_files.specs.declared.fault.OpenFault.TheVariants as opening
+use Rattle.world_files.specs.declared.fault.FileFault.{FileFault}
+use Rattle.world_files.specs.declared.fault.FileFault.TheVariants as opening
 use Rattle.query_command.specs.RunEnds.{stop_of}
 use Rattle.query_command.specs.declared.run_end.RunEnd.{RunEnd}
 use Rattle.query_command.specs.declared.run_end.RunEnd.TheVariants as stop
@@ -49,7 +49,7 @@ pub no-other : (path : List ℕ) (a b c : Holdings) → WritesNoOther path a b �
 no-other path a b c h k other ne = known-after (a other) (b other) (c other) (h other ne) (k other ne)
 
 -- the end of a run whose trace can't be created
-pub uncreated-told : (fault : OpenFault) (end : RunEnd) → IsUncreated fault → end ≡ stop_of fault → (end ≡ stop.Serve serve.TraceFault) ⊎ (end ≡ stop.Serve serve.NoMemory)
+pub uncreated-told : (fault : FileFault) (end : RunEnd) → IsUncreated fault → end ≡ stop_of fault → (end ≡ stop.Serve serve.TraceFault) ⊎ (end ≡ stop.Serve serve.NoMemory)
 uncreated-told (opening.Unread file reason) end h e = absurd h
 uncreated-told (opening.Table place fault reason) end h e = absurd h
 uncreated-told (opening.World fault) end h e = absurd h

@@ -18,7 +18,7 @@ use Rattle.query_command.specs.Origins.{origin_of, origin_of_opening, Explains}
 use Rattle.world.specs.Sources.{TableOf}
 use Rattle.world.specs.Worlds.{WorldOf, IsWorld}
 use Rattle.world_files.specs.declared.fault.InputFile.TheVariants.{Requests}
-use Rattle.world_files.specs.declared.fault.OpenFault.{OpenFault}
+use Rattle.world_files.specs.declared.fault.FileFault.{FileFault}
 use Rattle.world_files.specs.Files.{IsWorldFrom, IsUnmadeFrom}
 use Rattle.world_files.specs.Folders.{Holdings, IsAllOf, WritesNoOther}
 use Rattle.world_files.specs.Opening.{IsUnread, IsUncreated, IsLocated, IsUnmade}
@@ -35,7 +35,7 @@ IsSample world = (schema : List ℕ) × (bindings : List ℕ)
 
 -- there was no sample world, and nothing was written
 pub record IsSampleUnmade (old new : Option (List ℕ)) (end : RunEnd) : Type 0 where
-  pub unmade : (fault : OpenFault) × IsUnmade None fault × (end ≡ stop_of fault)
+  pub unmade : (fault : FileFault) × IsUnmade None fault × (end ≡ stop_of fault)
   pub kept : Keeps old new
 
 -- the lines of the reader were served over the sample world, without any limit, or there was no world and nothing was read
@@ -67,7 +67,7 @@ pub record AreFilesServed (holds written : Holdings) (words : CommandWords)
 -- no world or no request lines were to be had of the files, and nothing was written
 pub record AreFilesUnserved (holds : Holdings) (words : CommandWords) (old new : Option (List ℕ))
     (end : RunEnd) : Type 0 where
-  pub fault : OpenFault
+  pub fault : FileFault
   pub unmade : IsUnmadeFrom holds words.files fault ⊎ IsUnread Requests fault
   pub told : end ≡ stop_of fault
   pub kept : Keeps old new
@@ -144,17 +144,17 @@ WritesOnlyTrace texts before after = (after ≡ before)
 -- says where the fault of serving is, or why the file of the trace can't be created
 abbrev pub IsPlacedTrace : LocatedRunEnd → Type 0
 IsPlacedTrace end = (end.origin ≡ origin_of end.stop)
-    ⊎ ((fault : OpenFault) × IsUncreated fault × (end.stop ≡ stop_of fault)
+    ⊎ ((fault : FileFault) × IsUncreated fault × (end.stop ≡ stop_of fault)
     × (end.origin ≡ origin_of_opening fault))
 
 -- a file of the words can't be opened or created, or the files of the world give none
-abbrev pub IsUnopenedOf : CommandWords → OpenFault → Type 0
+abbrev pub IsUnopenedOf : CommandWords → FileFault → Type 0
 IsUnopenedOf words fault = IsLocated words.files fault ⊎ IsUnread Requests fault ⊎ IsUncreated fault
 
 -- says where the fault is: what the end itself says, or what is known of the files that were to be opened
 abbrev pub IsPlaced : CommandWords → LocatedRunEnd → Type 0
 IsPlaced words end = (end.origin ≡ origin_of end.stop)
-    ⊎ ((fault : OpenFault) × IsUnopenedOf words fault × (end.stop ≡ stop_of fault)
+    ⊎ ((fault : FileFault) × IsUnopenedOf words fault × (end.stop ≡ stop_of fault)
     × (end.origin ≡ origin_of_opening fault))
 
 -- says what is said besides: the words asked for it, and it names the file of the fault and where in it that is, as far as that is known

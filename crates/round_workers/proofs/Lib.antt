@@ -1,5 +1,5 @@
 pub mod Cores
-pub mod Hands
+pub mod Knowing
 pub mod Orders
 pub mod Rounds
 pub mod Steps

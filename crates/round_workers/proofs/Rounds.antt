@@ -11,8 +11,8 @@ use Rattle.load_queue.specs.Answers.{AnswerOf}
 use Rattle.load_queue.specs.Orders.{OrderOf}
 use Rattle.load_queue.specs.Loaders.{LoaderOf}
 use Rattle.std.specs.declared.alloc.AllocError.{AllocError}
-use Rattle.round_workers.specs.declared.desk.Hand.{Hand}
-use Rattle.round_workers.specs.Desk.{hand}
+use Rattle.round_workers.specs.declared.desk.Knowledge.{Knowledge}
+use Rattle.round_workers.specs.Desk.{knowledge}
 use Rattle.round_workers.specs.Round.{Shows, EachShown, AllAnswered}
 use Rattle.round_workers.specs.Work.{Worked}
 
@@ -34,23 +34,23 @@ module _ {S : Type 0} (may : S → List KeyOf → AnswerOf → Type 0) (loaders 
   answers_on orders (Err e) h = tt
 
   -- an order was taken, and its receipt joins the others
-  pub served : (old v w : Hand) (x : OrderOf) (r : Receipt) (rs qs : Vec Receipt) → Worked may loaders shelf old v (Ok rs) → w ≡ hand v.parts v.all (v.taken ++ x ∷ []) → Shows may loaders shelf x r → qs.items ≡ rs.items ++ r ∷ []
+  pub served : (old v w : Knowledge) (x : OrderOf) (r : Receipt) (rs qs : Vec Receipt) → Worked may loaders shelf old v (Ok rs) → w ≡ knowledge v.parts v.all (v.taken ++ x ∷ []) → Shows may loaders shelf x r → qs.items ≡ rs.items ++ r ∷ []
       → Worked may loaders shelf old w (Ok qs)
   served old v w x r rs qs h is shows items = record {
-    parts = ap (λ (u : Hand). u.parts) is ∙ h.parts;
-    all = ap (λ (u : Hand). u.all) is ∙ h.all;
+    parts = ap (λ (u : Knowledge). u.parts) is ∙ h.parts;
+    all = ap (λ (u : Knowledge). u.all) is ∙ h.all;
     more = h.more ++ x ∷ [];
-    taken = ap (λ (u : Hand). u.taken) is ∙ ap (λ l. l ++ x ∷ []) h.taken ∙ append_assoc old.taken h.more (x ∷ []);
+    taken = ap (λ (u : Knowledge). u.taken) is ∙ ap (λ l. l ++ x ∷ []) h.taken ∙ append_assoc old.taken h.more (x ∷ []);
     fit = rw items (shown_both h.more (x ∷ []) rs.items (r ∷ []) h.fit (shows, tt));
   }
 
   -- an order was taken, and memory ran out
-  pub stopped : (old v w : Hand) (x : OrderOf) (rs : Vec Receipt) (e : AllocError) → Worked may loaders shelf old v (Ok rs) → w ≡ hand v.parts v.all (v.taken ++ x ∷ []) → Worked may loaders shelf old w (Err e)
+  pub stopped : (old v w : Knowledge) (x : OrderOf) (rs : Vec Receipt) (e : AllocError) → Worked may loaders shelf old v (Ok rs) → w ≡ knowledge v.parts v.all (v.taken ++ x ∷ []) → Worked may loaders shelf old w (Err e)
   stopped old v w x rs e h is = record {
-    parts = ap (λ (u : Hand). u.parts) is ∙ h.parts;
-    all = ap (λ (u : Hand). u.all) is ∙ h.all;
+    parts = ap (λ (u : Knowledge). u.parts) is ∙ h.parts;
+    all = ap (λ (u : Knowledge). u.all) is ∙ h.all;
     more = h.more ++ x ∷ [];
-    taken = ap (λ (u : Hand). u.taken) is ∙ ap (λ l. l ++ x ∷ []) h.taken ∙ append_assoc old.taken h.more (x ∷ []);
+    taken = ap (λ (u : Knowledge). u.taken) is ∙ ap (λ l. l ++ x ∷ []) h.taken ∙ append_assoc old.taken h.more (x ∷ []);
     fit = tt;
   }
 
@@ -62,31 +62,31 @@ module _ {S : Type 0} (may : S → List KeyOf → AnswerOf → Type 0) (loaders 
   both_shown os ps a b (Err e) m t items oks = tt
 
   -- two halves end, and their passes are joined
-  pub both_worked : (old left right new mine theirs : Hand) (a b r : Result (Vec Receipt) AllocError)
+  pub both_worked : (old left right new mine theirs : Knowledge) (a b r : Result (Vec Receipt) AllocError)
       → Worked may loaders shelf left mine a → Worked may loaders shelf right theirs b
       → left.parts + right.parts ≡ old.parts → left.all ≡ old.all → left.taken ≡ old.taken → right.taken ≡ []
-      → new ≡ hand (mine.parts + theirs.parts) mine.all (mine.taken ++ theirs.taken)
+      → new ≡ knowledge (mine.parts + theirs.parts) mine.all (mine.taken ++ theirs.taken)
       → IfOk r (λ v. IfOk a (λ x. IfOk b (λ y. v.items ≡ x.items ++ y.items))) → (IsOk r → IsOk a × IsOk b)
       → Worked may loaders shelf old new r
   both_worked old left right new mine theirs a b r m t parts all taken none is items oks = record {
-    parts = let p = ap (λ (u : Hand). u.parts) is in omega (arith, m.parts, t.parts);
-    all = ap (λ (u : Hand). u.all) is ∙ m.all ∙ all;
+    parts = let p = ap (λ (u : Knowledge). u.parts) is in omega (arith, m.parts, t.parts);
+    all = ap (λ (u : Knowledge). u.all) is ∙ m.all ∙ all;
     more = m.more ++ t.more;
     taken = let u = t.taken ∙ ap (λ l. l ++ t.more) none in
         let k = m.taken ∙ ap (λ l. l ++ m.more) taken in
-        ap (λ (u : Hand). u.taken) is ∙ ap₂ ◌++◌ k u ∙ append_assoc old.taken m.more t.more;
+        ap (λ (u : Knowledge). u.taken) is ∙ ap₂ ◌++◌ k u ∙ append_assoc old.taken m.more t.more;
     fit = both_shown m.more t.more a b r m.fit t.fit items oks;
   }
 
   -- all orders are answered where the pass with all parts finds that nothing waits
-  pub answered : (orders : List OrderOf) (first mid last : Hand) (a b r : Result (Vec Receipt) AllocError) → first ≡ hand 16 orders []
+  pub answered : (orders : List OrderOf) (first mid last : Knowledge) (a b r : Result (Vec Receipt) AllocError) → first ≡ knowledge 16 orders []
       → Worked may loaders shelf first mid a → Worked may loaders shelf mid last b → (last.parts ≡ 16 → IfOk b (λ _. IsPermutation last.all last.taken))
       → IfOk r (λ v. IfOk a (λ x. IfOk b (λ y. v.items ≡ x.items ++ y.items))) → (IsOk r → IsOk a × IsOk b)
       → IfOk r (λ v. AllAnswered may loaders shelf orders v.items)
   answered orders first mid last (Ok x) (Ok y) (Ok v) is m t whole items oks =
-      let taken : last.taken ≡ m.more ++ t.more = t.taken ∙ ap (λ l. l ++ t.more) (m.taken ∙ ap (λ (u : Hand). u.taken ++ m.more) is) in
-      let all : last.all ≡ orders = t.all ∙ m.all ∙ ap (λ (u : Hand). u.all) is in
-      let perm : IsPermutation last.all last.taken = whole (t.parts ∙ m.parts ∙ ap (λ (u : Hand). u.parts) is) in
+      let taken : last.taken ≡ m.more ++ t.more = t.taken ∙ ap (λ l. l ++ t.more) (m.taken ∙ ap (λ (u : Knowledge). u.taken ++ m.more) is) in
+      let all : last.all ≡ orders = t.all ∙ m.all ∙ ap (λ (u : Knowledge). u.all) is in
+      let perm : IsPermutation last.all last.taken = whole (t.parts ∙ m.parts ∙ ap (λ (u : Knowledge). u.parts) is) in
       record {
         taken = m.more ++ t.more;
         each_once = rw (all, taken) at perm;

@@ -8,43 +8,43 @@ use lib.ListN.{get_elem?}
 use Rattle.crossbeam_queue.specs.Fifo.{Pushes, Pops, Forks, Merges, Learns}
 use Rattle.crossbeam_queue.proofs.Lists.{at_set, at_snoc, set_else}
 use Rattle.load_queue.specs.Orders.{OrderOf}
-use Rattle.round_workers.specs.declared.desk.Hand.{Hand}
-use Rattle.round_workers.specs.Desk.{hand, left_half, right_half, both_halves, taken_of, parts_of, Fits, Handed, Puts, Takes, Knows}
-use Rattle.round_workers.proofs.Hands.{parts_set, parts_snoc, parts_at, taken_same, taken_snoc, taken_more, taken_less, taken_by_one}
+use Rattle.round_workers.specs.declared.desk.Knowledge.{Knowledge}
+use Rattle.round_workers.specs.Desk.{knowledge, left_half, right_half, both_halves, taken_of, parts_of, Fits, Handed, Puts, Takes, Knows}
+use Rattle.round_workers.proofs.Knowing.{parts_set, parts_snoc, parts_at, taken_same, taken_snoc, taken_more, taken_less, taken_by_one}
 
-AllFit : List OrderOf → List Hand → Type 0
-AllFit orders views = (port : ℕ) (v : Hand) → get_elem? views port ≡ some v → Fits orders v
+AllFit : List OrderOf → List Knowledge → Type 0
+AllFit orders views = (port : ℕ) (v : Knowledge) → get_elem? views port ≡ some v → Fits orders v
 
-fit_set : (orders : List OrderOf) (views : List Hand) (port : ℕ) (w : Hand) → Fits orders w → ((j : ℕ) (u : Hand) → j ≢ port → get_elem? views j ≡ some u → Fits orders u) → AllFit orders (set views port w)
+fit_set : (orders : List OrderOf) (views : List Knowledge) (port : ℕ) (w : Knowledge) → Fits orders w → ((j : ℕ) (u : Knowledge) → j ≢ port → get_elem? views j ≡ some u → Fits orders u) → AllFit orders (set views port w)
 unfolding AllFit
 fit_set orders views port w mine others j u e = ⊎_elim (λ (x : (j ≡ port) × (w ≡ u)). subst (Fits orders) x.1 mine) (λ (x : (j ≢ port) × (get_elem? views j ≡ some u)). others j u x.0 x.1) (at_set views port j w u e)
 
 -- two passes have their parts together
-two_parts : (views : List Hand) (port other : ℕ) (v u : Hand) → other ≢ port → get_elem? views port ≡ some v → get_elem? views other ≡ some u → v.parts + u.parts ≤ parts_of views
+two_parts : (views : List Knowledge) (port other : ℕ) (v u : Knowledge) → other ≢ port → get_elem? views port ≡ some v → get_elem? views other ≡ some u → v.parts + u.parts ≤ parts_of views
 two_parts views port other v u apart at at' =
-    let s = parts_set views port v (hand 0 [] []) at in
-    let still : get_elem? (set views port (hand 0 [] [])) other ≡ some u = set_else views port other (hand 0 [] []) apart ∙ at' in
-    let t = parts_at (set views port (hand 0 [] [])) other u still in
+    let s = parts_set views port v (knowledge 0 [] []) at in
+    let still : get_elem? (set views port (knowledge 0 [] [])) other ≡ some u = set_else views port other (knowledge 0 [] []) apart ∙ at' in
+    let t = parts_at (set views port (knowledge 0 [] [])) other u still in
     omega arith
 
-only_one : (l : List Hand) (a : Hand) (port : ℕ) (v : Hand) → get_elem? (a ∷ []) port ≡ some v → a ≡ v
+only_one : (l : List Knowledge) (a : Knowledge) (port : ℕ) (v : Knowledge) → get_elem? (a ∷ []) port ≡ some v → a ≡ v
 only_one l a zero v e = some-injective a v e
 only_one l a (suc port) v e = absurd (some-ne-none v (sym e))
 
-pub begins : Handed [] (hand 16 [] [] ∷ [])
+pub begins : Handed [] (knowledge 16 [] [] ∷ [])
 begins = record {
   orders = [];
   gone = [];
   waiting = refl;
   each_once = IsPermutation-refl [];
   parts = refl;
-  fits = λ port v e. subst (Fits []) (only_one [] (hand 16 [] []) port v e) ((λ _. refl), λ _. refl);
+  fits = λ port v e. subst (Fits []) (only_one [] (knowledge 16 [] []) port v e) ((λ _. refl), λ _. refl);
 }
 
-pub puts : (n port : ℕ) (v : Hand) (x : OrderOf) → v.parts ≡ 16 → Pushes Handed n port v x (Puts v x)
+pub puts : (n port : ℕ) (v : Knowledge) (x : OrderOf) → v.parts ≡ 16 → Pushes Handed n port v x (Puts v x)
 unfolding AllFit
 puts n port v x whole items views room h at =
-    let w = hand v.parts (v.all ++ x ∷ []) v.taken in
+    let w = knowledge v.parts (v.all ++ x ∷ []) v.taken in
     let mine = h.fits port v at in
     let known : v.all ≡ h.orders = mine.0 (omega arith) in (
       w,
@@ -60,10 +60,10 @@ puts n port v x whole items views room h at =
       refl,
     )
 
-pub takes : (port : ℕ) (v : Hand) → v.parts ≢ 0 → Pops Handed port v (Takes v)
+pub takes : (port : ℕ) (v : Knowledge) → v.parts ≢ 0 → Pops Handed port v (Takes v)
 unfolding AllFit
 takes port v part x items views h at =
-    let w = hand v.parts v.all (v.taken ++ x ∷ []) in
+    let w = knowledge v.parts v.all (v.taken ++ x ∷ []) in
     let mine = h.fits port v at in
     let known : v.all ≡ h.gone ++ x ∷ items = mine.0 part ∙ h.waiting in (
       w,
@@ -78,7 +78,7 @@ takes port v part x items views h at =
       (refl, rw known (Contains-append_right h.gone (x ∷ items) x (let first : Contains (x ∷ items) x = (0, omega arith, refl) in first))),
     )
 
-pub forks : (port : ℕ) (v : Hand) → v.parts ≢ 0 → Forks Handed port v (left_half v) (right_half v)
+pub forks : (port : ℕ) (v : Knowledge) → v.parts ≢ 0 → Forks Handed port v (left_half v) (right_half v)
 unfolding AllFit
 forks port v part items views h at =
     let l = left_half v in
@@ -96,11 +96,11 @@ forks port v part items views h at =
       fits = λ j u e. ⊎_elim (λ x. left j u x) (λ (is : r ≡ u). subst (Fits h.orders) is ((λ _. mine.0 part), λ _. refl)) (at_snoc vs r u j e);
     }
 
-pub merges : (port : ℕ) (v : Hand) (other : ℕ) (u : Hand) → v.parts ≢ 0 → Merges Handed port v other u (both_halves v u) (hand 0 [] [])
+pub merges : (port : ℕ) (v : Knowledge) (other : ℕ) (u : Knowledge) → v.parts ≢ 0 → Merges Handed port v other u (both_halves v u) (knowledge 0 [] [])
 unfolding AllFit
 merges port v other u part items views h at apart at' =
     let both = both_halves v u in
-    let spent = hand 0 [] [] in
+    let spent = knowledge 0 [] [] in
     let vs = set views port both in
     let was : get_elem? views other ≡ some u = sym (set_else views port other both apart) ∙ at' in
     let mine = h.fits port v at in
@@ -120,7 +120,7 @@ merges port v other u part items views h at apart at' =
       fits = fit_set h.orders vs other spent ((λ none. absurd (none refl)), λ _. refl) (λ j w _ e. first j w e);
     }
 
-pub learns : (port : ℕ) (v : Hand) → v.parts ≢ 0 → Learns Handed port v (Knows v)
+pub learns : (port : ℕ) (v : Knowledge) → v.parts ≢ 0 → Learns Handed port v (Knows v)
 learns port v part items views h at =
     let known : v.all ≡ h.gone ++ items = (h.fits port v at).0 part ∙ h.waiting in (
       (let e = ap length known in omega (arith, length-append h.gone items)),

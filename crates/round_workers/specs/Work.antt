@@ -11,17 +11,17 @@ use Rattle.load_queue.specs.Answers.{AnswerOf}
 use Rattle.load_queue.specs.Orders.{OrderOf}
 use Rattle.load_queue.specs.Loaders.{LoaderOf}
 use Rattle.std.specs.declared.alloc.AllocError.{AllocError}
-use Rattle.round_workers.specs.declared.desk.Hand.{Hand}
+use Rattle.round_workers.specs.declared.desk.Knowledge.{Knowledge}
 use Rattle.round_workers.specs.Round.{EachShown, HaveLoaders}
 
 -- a part for each of the workers, of which there is one or more, and a loader for each order
-abbrev pub CanShare : {S : Type 0} → List (LoaderOf S) → Hand → ℕ → Type 0
-CanShare loaders hand workers = (0 < workers)
-    × (workers ≤ hand.parts) × HaveLoaders loaders hand.all
+abbrev pub CanShare : {S : Type 0} → List (LoaderOf S) → Knowledge → ℕ → Type 0
+CanShare loaders knowledge workers = (0 < workers)
+    × (workers ≤ knowledge.parts) × HaveLoaders loaders knowledge.all
 
 -- more orders were taken, and at Ok the receipts show replies to these, in order
 pub record Worked {S : Type 0} (may : S → List KeyOf → AnswerOf → Type 0)
-    (loaders : List (LoaderOf S)) (shelf : Shelf) (old new : Hand)
+    (loaders : List (LoaderOf S)) (shelf : Shelf) (old new : Knowledge)
     (result : Result (Vec Receipt) AllocError) : Type 0 where
   pub parts : new.parts ≡ old.parts
   pub all : new.all ≡ old.all
@@ -31,7 +31,7 @@ pub record Worked {S : Type 0} (may : S → List KeyOf → AnswerOf → Type 0)
 
 -- says the same of the pass of a worker, which is one of this queue still
 abbrev pub WorkedAt : {S T Q A : Type 0} → (S → List KeyOf → AnswerOf → Type 0) → List (LoaderOf S)
-    → Shelf → Slotted (Option T) (Doing T Hand) Q A → Pass T Hand
-    → Pass T Hand → Result (Vec Receipt) AllocError → Type 0
+    → Shelf → Slotted (Option T) (Doing T Knowledge) Q A → Pass T Knowledge
+    → Pass T Knowledge → Result (Vec Receipt) AllocError → Type 0
 WorkedAt may loaders shelf queue old new result = IsPassOf queue new
     × Worked may loaders shelf (view old) (view new) result

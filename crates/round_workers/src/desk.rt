@@ -12,7 +12,7 @@ use std::collections::LinkedList;
 
 /// Holds what a pass knows: its parts of the right to know the whole, the round's orders, and the orders that it has taken. No value of it
 /// is made.
-pub struct Hand {
+pub struct Knowledge {
     pub parts: u64,
     pub all: LinkedList<Order>,
     pub taken: LinkedList<Order>,
@@ -20,18 +20,18 @@ pub struct Hand {
 
 pub struct Once;
 
-impl Protocol<Order, Hand> for Once {
+impl Protocol<Order, Knowledge> for Once {
     ghost use Rattle.std.specs.Prelude.{[]};
-    ghost use Rattle.round_workers.specs.Desk.{hand, Handed};
+    ghost use Rattle.round_workers.specs.Desk.{knowledge, Handed};
 
     ghost holds = { Handed };
 
-    ghost first = { hand 16 [] [] };
+    ghost first = { knowledge 16 [] [] };
 }
 
 pub struct Halves;
 
-impl Split<Hand> for Halves {
+impl Split<Knowledge> for Halves {
     ghost use Rattle.round_workers.specs.Desk.{left_half, right_half};
 
     ghost left = { left_half };
@@ -39,24 +39,24 @@ impl Split<Hand> for Halves {
     ghost right = { right_half };
 }
 
-impl Join<Hand> for Halves {
+impl Join<Knowledge> for Halves {
     ghost use Rattle.std.specs.Prelude.{[]};
-    ghost use Rattle.round_workers.specs.Desk.{hand, both_halves};
+    ghost use Rattle.round_workers.specs.Desk.{knowledge, both_halves};
 
     ghost both = { both_halves };
 
-    ghost spent = { hand 0 [] [] };
+    ghost spent = { knowledge 0 [] [] };
 }
 
 pub struct Put;
 
-impl Outcome<Order, Hand> for Put {
+impl Outcome<Order, Knowledge> for Put {
     ghost use Rattle.round_workers.specs.Desk.{Puts};
 
     ghost then = { Puts };
 }
 
-impl Lesson<Order, Hand> for Put {
+impl Lesson<Order, Knowledge> for Put {
     ghost use Rattle.round_workers.specs.Desk.{Knows};
 
     ghost fact = { Knows };
@@ -64,18 +64,18 @@ impl Lesson<Order, Hand> for Put {
 
 pub struct TakenOrder;
 
-impl Outcome<Order, Hand> for TakenOrder {
+impl Outcome<Order, Knowledge> for TakenOrder {
     ghost use Rattle.round_workers.specs.Desk.{Takes};
 
     ghost then = { Takes };
 }
 
-impl Lesson<Order, Hand> for TakenOrder {
+impl Lesson<Order, Knowledge> for TakenOrder {
     ghost use Rattle.round_workers.specs.Desk.{Knows};
 
     ghost fact = { Knows };
 }
 
-pub type Desk = RuledArrayQueue<Order, Hand, Once>;
+pub type Desk = RuledArrayQueue<Order, Knowledge, Once>;
 
-pub type Worker = Pass<Order, Hand>;
+pub type Worker = Pass<Order, Knowledge>;

@@ -6,7 +6,7 @@ ghost use Rattle.std.specs.Prelude.{◌≡◌, ◌≤◌, ◌<◌, ◌++◌, [],
 ghost use Rattle.std.specs.Thread.{IsSync};
 ghost use Rattle.crossbeam_queue.specs.Passes.{view, IsPassOf, ruled_capacity};
 ghost use Rattle.load_memory.specs.Shelves.{IsOn};
-ghost use Rattle.round_workers.specs.Desk.{hand};
+ghost use Rattle.round_workers.specs.Desk.{knowledge};
 ghost use Rattle.round_workers.specs.Round.{HaveLoaders, Shows, AllAnswered};
 ghost use Rattle.round_workers.specs.Work.{CanShare, Worked, WorkedAt};
 
@@ -131,11 +131,11 @@ fn join_receipts(
 // Puts all orders into the queue.
 fn put_all<R: Wait>(rt: &R, desk: &Desk, worker: &mut Worker, orders: Vec<Order>)
     requires desk { IsPassOf desk.now worker.old
-        × (view worker.old ≡ hand 16 [] []) }
+        × (view worker.old ≡ knowledge 16 [] []) }
     requires room { ruled_capacity desk.now
         ≡ length orders.items }
     ensures { IsPassOf desk.now worker.new
-        × (view worker.new ≡ hand 16 orders.items []) }
+        × (view worker.new ≡ knowledge 16 orders.items []) }
 {
     for order in orders {
         match desk.push_as::<Put, R>(rt, worker, order) {

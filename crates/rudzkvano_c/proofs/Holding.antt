@@ -4,7 +4,7 @@ use Rattle.std.specs.Prelude.{Option, Result, ℤ}
 use Rattle.plan_requests.specs.Servers.{ServerOf}
 use Rattle.host_clients.specs.Faults.{code_of}
 use Rattle.host_clients.specs.declared.client.HostClient.{HostClient}
-use Rattle.host_clients.specs.declared.client.Progress.{Progress}
+use Rattle.host_clients.specs.declared.client.ClientProgress.{ClientProgress}
 use Rattle.host_clients.specs.declared.fault.Fault.{Fault}
 use Rattle.host_clients.specs.declared.fault.Fault.TheVariants as fault
 use Rattle.host_clients.specs.declared.object.Object.{Object}
@@ -33,7 +33,7 @@ module _ (held : Option Object) (old : Object) (is : Some old ≡ held) where
   makes-some makes new now code done put went made =
       subst (λ h. Makes makes h new code) is (subst (λ n. Makes makes (Some old) n code) (sym put) (done, went, made))
 
-  pub advances-some : (new : Option Object) (now : Object) (code : ℤ) (progress : Result Progress Fault) → new ≡ Some now → code ≡ progress_in progress → AdvancesObject old now progress
+  pub advances-some : (new : Option Object) (now : Object) (code : ℤ) (progress : Result ClientProgress Fault) → new ≡ Some now → code ≡ progress_in progress → AdvancesObject old now progress
       → AdvancesHeld held new code
   advances-some new now code progress put went made =
       subst (λ h. AdvancesHeld h new code) is (subst (λ n. AdvancesHeld (Some old) n code) (sym put) (progress, went, made))

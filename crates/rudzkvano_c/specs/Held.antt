@@ -15,7 +15,7 @@ use Rattle.host_clients.specs.Loads.{KeysOf, AreOutcomesOf, load_orders}
 use Rattle.host_clients.specs.UnderWay.{IsAnswerOf, orders_out}
 use Rattle.host_clients.specs.declared.client.HostClient.{HostClient}
 use Rattle.host_clients.specs.declared.client.HostClient.TheVariants.{Asked, Answered, Loading, Loaded}
-use Rattle.host_clients.specs.declared.client.Progress.{Progress}
+use Rattle.host_clients.specs.declared.client.ClientProgress.{ClientProgress}
 use Rattle.host_clients.specs.declared.fault.Fault.{Fault}
 use Rattle.host_clients.specs.declared.fault.Fault.TheVariants as fault
 use Rattle.host_clients.specs.declared.object.Object.{Object}
@@ -88,7 +88,7 @@ BeginsLoad asked old new (Ok done) = IsBegunLoad asked old new
 BeginsLoad asked old new (Err e) = (new ≡ old) × (e ≡ fault.NoLoader → LacksLoader old asked.loader)
 
 -- says what a call to go on makes of an object
-abbrev pub AdvancesObject : Object → Object → Result Progress Fault → Type 0
+abbrev pub AdvancesObject : Object → Object → Result ClientProgress Fault → Type 0
 AdvancesObject (object.Client c) (object.Client d) progress = Advances c d progress
 AdvancesObject (object.Client c) (object.Server s) progress = ⊥
 AdvancesObject (object.Server s) new progress = (new ≡ object.Server s)
@@ -98,7 +98,7 @@ AdvancesObject (object.Server s) new progress = (new ≡ object.Server s)
 abbrev pub AdvancesHeld : Option Object → Option Object → ℤ → Type 0
 AdvancesHeld None new code = (new ≡ None) × IsBadHandle code
 AdvancesHeld (Some old) None code = ⊥
-AdvancesHeld (Some old) (Some new) code = (progress : Result Progress Fault)
+AdvancesHeld (Some old) (Some new) code = (progress : Result ClientProgress Fault)
     × (code ≡ progress_in progress) × AdvancesObject old new progress
 
 -- unless memory ran out, a refused reply changes nothing

@@ -16,7 +16,7 @@ ghost use Rattle.rudzkvano_c.specs.Sizes.{TellsSizes, sizes_in, sizes_of};
 
 use crate::codes::{code_of, progress_code};
 use crate::handle::Handle;
-use host_clients::{Fault, FlatOrders, FlatReply, FlatRequest, HostClient, Object, Progress};
+use host_clients::{ClientProgress, Fault, FlatOrders, FlatReply, FlatRequest, HostClient, Object};
 use std::alloc::Global;
 
 /// Numbers of elements that the buffers of `rz_orders` and `rz_answer` have to hold, and of the rounds that the answer
@@ -129,7 +129,7 @@ pub extern "C" fn rz_cancel(alloc: Global, client: &mut Handle) -> i32
     code_of(cancelled)
 }
 
-fn advance(alloc: Global, object: &mut Object) -> Result<Progress, Fault>
+fn advance(alloc: Global, object: &mut Object) -> Result<ClientProgress, Fault>
     ensures { AdvancesObject object.old object.new result }
 {
     match object {

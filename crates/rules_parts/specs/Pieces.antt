@@ -1,9 +1,9 @@
 -- The parts of a document, each with the operation or fragment that it stands in, and what the program's parts say.
 -- Texts are lists of bytes. Places in lists count from 0.
-use Rattle.std.specs.Prelude.{ℕ, Bool, List, Option, string_bytes}
+use Rattle.std.specs.Prelude.{ℕ, Bool, List, Option}
 use Rattle.std.specs.Option.{option_map, option_copied}
 use Rattle.text_place.specs.declared.place.Place.{Place}
-use Rattle.gq_parser.specs.Tree.{Value, TypeTree, Argument, Directive, Condition, Selection, Below, SelectionSet, VariableDefinition, Document, text_if, type_of, literal_of, arguments_of, directives_of, condition_if, selection_of, set_of, below_of, variable_of}
+use Rattle.gq_parser.specs.Tree.{Value, TypeTree, Argument, Directive, Condition, Selection, Below, SelectionSet, VariableDefinition, Document, type_of, literal_of, arguments_of, directives_of, condition_if, selection_of, set_of, below_of, variable_of}
 use Rattle.gq_parser.specs.declared.tree.Selection.TheViews.{out-Field}
 use Rattle.schema_syntax.specs.Tree as schema
 use Rattle.rules_parts.specs.declared.part.Owner.{Owner}
@@ -143,8 +143,8 @@ field_part_of f =
       definition = option_map schema.field_of (option_copied f.definition);
       inside = option_copied f.inside;
       place = field.place;
-      alias = text_if field.alias;
-      name = string_bytes field.name;
+      alias = field.alias;
+      name = field.name;
       arguments = arguments_of field.arguments.items;
       directives = directives_of field.directives.items;
       below = below_of field.selection_set;
@@ -156,7 +156,7 @@ spread_part_of s = record {
   parent = option_copied s.parent;
   target = s.target;
   place = s.spread.now.place;
-  name = string_bytes s.spread.now.name;
+  name = s.spread.now.name;
   directives = directives_of s.spread.now.directives.items;
 }
 
@@ -199,7 +199,7 @@ argument_part_of a = record {
   is_known = a.is_known;
   definition = option_map schema.argument_of (option_copied a.definition);
   place = a.argument.now.place;
-  name = string_bytes a.argument.now.name;
+  name = a.argument.now.name;
   value = literal_of a.argument.now.value;
 }
 

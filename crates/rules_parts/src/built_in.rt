@@ -7,6 +7,7 @@ ghost use Rattle.rules_parts.specs.Listing.{condition_argument};
 use gq_lexer::Place;
 use gq_parser::TypeRef;
 use gq_schema::{ArgDef, Name};
+use short_text::Text;
 use std::alloc::{AllocError, Global};
 
 /// The arguments of `skip` and of `include`: `if: Boolean!` (sections 3.13.1 and 3.13.2). Their places say nothing.
@@ -22,7 +23,7 @@ pub fn condition_arguments(alloc: Global) -> Result<Vec<ArgDef>, AllocError>
         },
         of_type: TypeRef::Named {
             place: Place::START,
-            name: String::from_str(alloc, "Boolean")?,
+            name: Text::from_str(alloc, "Boolean")?,
             non_null: true,
         },
         default: None,

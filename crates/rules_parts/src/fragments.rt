@@ -10,10 +10,14 @@ use std::alloc::{AllocError, Global};
 use std::collections::HashMap;
 
 /// The number of the first fragment of each name, from 0.
-pub type Numbers<'d> = HashMap<&'d str, usize>;
+pub type FragmentNumbers<'d> = HashMap<&'d str, usize>;
 
 // Notes the number of a name, unless one of the name stands earlier.
-fn note<'d>(numbers: &mut Numbers<'d>, name: &'d str, number: usize) -> Result<(), AllocError>
+fn note<'d>(
+    numbers: &mut FragmentNumbers<'d>,
+    name: &'d str,
+    number: usize,
+) -> Result<(), AllocError>
     ensures { (q : List ℕ) → OnOk result (number_at numbers.new q
         ≡ or_else (number_at numbers.old q) (if bytes_eq q name.now then Some number else None)) }
 {
@@ -25,11 +29,11 @@ fn note<'d>(numbers: &mut Numbers<'d>, name: &'d str, number: usize) -> Result<(
 pub fn fragment_numbers<'d>(
     alloc: Global,
     fragments: &'d [Fragment],
-) -> Result<Numbers<'d>, AllocError>
+) -> Result<FragmentNumbers<'d>, AllocError>
     ensures { IfOk result
         (AreNumbers (map fragment_of fragments.now)) }
 {
-    let mut numbers: Numbers = HashMap::new(alloc);
+    let mut numbers: FragmentNumbers = HashMap::new(alloc);
     for (i, fragment) in fragments.iter().enumerate() {
         note(&mut numbers, fragment.name.as_str(), i)?;
     }

@@ -8,7 +8,7 @@ ghost use Rattle.rules_parts.specs.Fragments.{AreNumbers};
 ghost use Rattle.rules_parts.specs.Parts.{selection_part_of, field_part_of, spread_part_of, inline_part_of, set_part_of, variable_part_of, directive_list_of};
 ghost use Rattle.rules_parts.specs.Listing.{field_part, spread_part, inline_part, set_part, fields_in, spreads_in, sets_in, AddsVariables, variables_from, variables_in, AddsDirectives, directives_at, selection_directives, directives_in};
 
-use crate::fragments::Numbers;
+use crate::fragments::FragmentNumbers;
 use crate::parents::{inside_condition, inside_operation};
 use crate::part::{
     DirectiveList, DirectiveLocation, FieldPart, InlinePart, Owner, SelectionPart, SetPart,
@@ -44,7 +44,7 @@ pub fn fields<'d>(
     ensures { IfOk result (λ fields.
         map field_part_of fields.items ≡ fields_in (map selection_part_of selections.now)) }
 {
-    let mut fields = Vec::new(alloc);
+    let mut fields = Vec::with_capacity(alloc, selections.len())?;
     for part in selections {
         if let Some(field) = field_part(part) {
             fields.push(field)?;
@@ -55,7 +55,7 @@ pub fn fields<'d>(
 
 // The selection, where it is a spread.
 fn spread_part<'d>(
-    numbers: &Numbers<'d>,
+    numbers: &FragmentNumbers<'d>,
     fragments: &'d [Fragment],
     part: &SelectionPart<'d>,
 ) -> Option<SpreadPart<'d>>
@@ -79,7 +79,7 @@ fn spread_part<'d>(
 /// The spreads among selections, over the fragments with these numbers.
 pub fn spreads<'d>(
     alloc: Global,
-    numbers: &Numbers<'d>,
+    numbers: &FragmentNumbers<'d>,
     fragments: &'d [Fragment],
     selections: &[SelectionPart<'d>],
 ) -> Result<Vec<SpreadPart<'d>>, AllocError>
@@ -164,7 +164,7 @@ pub fn sets<'d>(
     ensures { IfOk result (λ sets. map set_part_of sets.items ≡ sets_in (tree_of schema.now)
         (document_of document.now) (map selection_part_of selections.now)) }
 {
-    let mut sets = Vec::new(alloc);
+    let mut sets = Vec::with_capacity(alloc, selections.len())?;
     for (i, operation) in document.operations.iter().enumerate() {
         sets.push(SetPart {
             owner: Owner::Operation(i),

@@ -8,7 +8,7 @@ ghost use Rattle.rules_parts.specs.Fragments.{fragment_place, AreNumbers};
 ghost use Rattle.rules_parts.specs.Listing.{fields_of};
 ghost use Rattle.rules_parts.specs.Pieces.{field_part_of};
 
-use crate::fragments::{Numbers, fragment_numbers};
+use crate::fragments::{FragmentNumbers, fragment_numbers};
 use crate::part::{
     ArgumentList, ArgumentPart, DirectiveList, FieldPart, InlinePart, SetPart, SpreadPart,
     VariablePart, VariableUse,
@@ -38,7 +38,7 @@ pub struct Parts<'d> {
     pub arguments: Vec<ArgumentPart<'d>>,
     /// The variables in these arguments.
     pub uses: Vec<VariableUse<'d>>,
-    fragments: Numbers<'d>,
+    fragments: FragmentNumbers<'d>,
     ghost numbered: { AreNumbers (document_of document.now).fragments fragments },
     ghost listed: { ∥ map field_part_of fields.items ≡ fields_of (tree_of schema.now) (document_of document.now) ∥₁ },
 }
@@ -93,7 +93,7 @@ impl<'d> Parts<'d> {
     }
 
     /// The number of the first fragment of each name, from 0.
-    pub fn fragment_numbers(&self) -> &Numbers<'d>
+    pub fn fragment_numbers(&self) -> &FragmentNumbers<'d>
         ensures { AreNumbers (parts_in self.now).document.fragments result.now }
     {
         &self.fragments

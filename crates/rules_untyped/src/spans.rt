@@ -14,7 +14,7 @@ ghost use Rattle.rules_untyped.specs.VariableUseIndex.{number_by, has_if};
 ghost use Rattle.rules_untyped.specs.UseRows.{is_number_among, is_used_at, is_used_in, has_number};
 ghost use Rattle.rules_untyped.specs.SpanSteps.{has_numbered, Adds, AreDefiners, NotesLacking};
 
-use crate::variable_use_index::{Numbers, VariableUseIndex, number_at};
+use crate::variable_use_index::{VariableNumbers, VariableUseIndex, number_at};
 use gq_parser::Operation;
 use rules_spreads::{
     OperationSet, OperationSpan, list_at, note_missing_in_fragments, note_missing_in_operations,
@@ -27,7 +27,7 @@ pub type Sets = Vec<OperationSet>;
 
 // Adds an operation to the sets of its variables' names.
 fn add_defined(
-    names: &Numbers,
+    names: &VariableNumbers,
     operation: &Operation,
     number: usize,
     sets: &mut Sets,
@@ -46,7 +46,11 @@ fn add_defined(
 }
 
 // For each name, the operations of a span that define a variable of that name.
-fn defining_sets(alloc: Global, names: &Numbers, span: &OperationSpan) -> Result<Sets, AllocError>
+fn defining_sets(
+    alloc: Global,
+    names: &VariableNumbers,
+    span: &OperationSpan,
+) -> Result<Sets, AllocError>
     ensures { IfOk result (λ sets. AreDefiners
         span.now (number_by names.now) sets.items) }
 {

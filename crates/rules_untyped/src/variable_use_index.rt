@@ -13,10 +13,14 @@ use std::alloc::{AllocError, Global};
 use std::collections::HashMap;
 
 /// The number of each name: the place of its first use.
-pub type Numbers<'d> = HashMap<&'d str, usize>;
+pub type VariableNumbers<'d> = HashMap<&'d str, usize>;
 
 // Notes the place of a use, unless its name was noted before.
-fn note_use<'d>(names: &mut Numbers<'d>, name: &'d str, place: usize) -> Result<(), AllocError>
+fn note_use<'d>(
+    names: &mut VariableNumbers<'d>,
+    name: &'d str,
+    place: usize,
+) -> Result<(), AllocError>
     ensures { (q : List ℕ) → OnOk result (number_by names.new q
         ≡ or_else (number_by names.old q) (if bytes_eq q name.now then Some place else None)) }
 {
@@ -24,11 +28,14 @@ fn note_use<'d>(names: &mut Numbers<'d>, name: &'d str, place: usize) -> Result<
     Ok(())
 }
 
-fn first_uses<'d>(alloc: Global, uses: &[VariableUse<'d>]) -> Result<Numbers<'d>, AllocError>
+fn first_uses<'d>(
+    alloc: Global,
+    uses: &[VariableUse<'d>],
+) -> Result<VariableNumbers<'d>, AllocError>
     ensures { IfOk result (λ names.
         (q : List ℕ) → number_by names q ≡ number_in (map use_of uses.now) q) }
 {
-    let mut names: Numbers = HashMap::new(alloc);
+    let mut names: VariableNumbers = HashMap::new(alloc);
     for (place, part) in uses.iter().enumerate() {
         note_use(&mut names, part.name, place)?;
     }
@@ -38,7 +45,7 @@ fn first_uses<'d>(alloc: Global, uses: &[VariableUse<'d>]) -> Result<Numbers<'d>
 // The number of each use's name.
 fn numbers_of(
     alloc: Global,
-    names: &Numbers,
+    names: &VariableNumbers,
     uses: &[VariableUse],
 ) -> Result<Vec<usize>, AllocError>
     ensures { IfOk result (λ numbers.
@@ -107,7 +114,7 @@ fn stand_in(
 /// own, in which uses of one name at locations of different types differ.
 #[derive(Drop)]
 pub struct VariableUseIndex<'d> {
-    pub names: Numbers<'d>,
+    pub names: VariableNumbers<'d>,
     /// The number of each use's name.
     pub numbers: Vec<usize>,
     /// Of each use the one that stands in the rows for it: one of its name, in the same operation or fragment.

@@ -12,7 +12,7 @@ use Rattle.gq_parser.specs.Keywords.{IsEnumName}
 use Rattle.gq_parser.specs.Word as words
 use Rattle.gq_parser.specs.Tree.{Value, TypeTree, Named}
 use Rattle.gq_parser.specs.Grammar as value
-use Rattle.gq_parser.specs.Grammar.{IsValue, AreValues, AreMembers, IsBang, no_bang, bang, IsType, named, list_of, IsDefault, no_default, default}
+use Rattle.gq_parser.specs.Grammar.{IsValue, IsBang, no_bang, bang, IsType, named, list_of, IsDefault, no_default, default}
 use Rattle.schema_syntax.specs.declared.word.SchemaWord.{SchemaWord}
 use Rattle.schema_syntax.specs.declared.word.SchemaWord.TheVariants as word
 use Rattle.schema_syntax.specs.Word.{word_of, IsServedName}

@@ -62,7 +62,7 @@ type_name_read room p k s n before after e h served = rw (e, h) (type_name serve
 
 -- ---- types
 
-pub type_of_named : (p : Place) (n : String Global) (b : Bool) → type_of (typeref.Named p n b) ≡ Named p (string_bytes n) b
+pub type_of_named : (p : Place) (n : List ℕ) (b : Bool) → type_of (typeref.Named p n b) ≡ Named p n b
 type_of_named p n b = ap type_of (sym (typeref.rolls-Named p n b)) ∙ fold-roll-TypeRef TypeTree type_step (open-type.Named p n b)
 
 pub type_of_list : (p : Place) (t : Box rust-type.TypeRef Global) (b : Bool) → type_of (typeref.List p t b) ≡ ListOf p (type_of t.value) b
@@ -87,8 +87,8 @@ served_is (type_name h) = h
 named_is : {n : tree.Name} {b : Bool} {before mid after : List Token} → IsTypeName n before mid → IsBang b mid after → IsTypeRead (Named n.place n.text b) before after
 named_is (type_name h) g = record { is = named g; served = h }
 
-pub named_type_read : (room : ℕ) (p : Place) (s : String Global) (b : Bool) (before mid after : List Token)
-    → IsTypeName (record { text = string_bytes s; place = p }) before mid × ((stack : List Symbol) → read room (A ATypeName ∷ stack) before ≡ read room stack mid) → Eats (Punct Bang) mid after b
+pub named_type_read : (room : ℕ) (p : Place) (s : List ℕ) (b : Bool) (before mid after : List Token)
+    → IsTypeName (record { text = s; place = p }) before mid × ((stack : List Symbol) → read room (A ATypeName ∷ stack) before ≡ read room stack mid) → Eats (Punct Bang) mid after b
     → IsTypeRead (type_of (typeref.Named p s b)) before after × ((stack : List Symbol) → read room (A ATypeName ∷ MaybeBang ∷ stack) before ≡ read room stack after)
 named_type_read room p s b before mid after h eaten = (
   subst (λ t. IsTypeRead t before after) (sym (type_of_named p s b)) (named_is h.0 (bang_read mid after b eaten)),

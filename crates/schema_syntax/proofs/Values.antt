@@ -1,8 +1,6 @@
 -- Lemmas on what each step of reading a value gives.
 use Rattle.std.proofs.Common.{◌≡◌, ℕ, zero, suc, true, false, List, [], ◌∷◌, Result, Ok, Err, Some, refl, sym, ap, subst, ◌∙◌, arith}
 use Rattle.std.specs.Global.{Vec, Global}
-use Rattle.std.specs.Prelude.{string_bytes}
-use Rattle.std.specs.declared.string.String.{String}
 use Rattle.text_place.specs.declared.place.Place.{Place}
 use Rattle.gq_lexer.specs.declared.token.Punct.TheVariants.{Colon, BracketLeft, BracketRight, BraceLeft, BraceRight}
 use Rattle.gq_parser.specs.declared.value.Constness.TheVariants.{Const}
@@ -15,7 +13,7 @@ use Rattle.gq_parser.specs.Keywords.{keyword_of, IsEnumName}
 use Rattle.gq_parser.specs.Word.{Word, Punct, Name, Text, Token, at}
 use Rattle.gq_parser.specs.Word as words
 use Rattle.gq_parser.specs.Tree as gq
-use Rattle.gq_parser.specs.Tree.{Value, Boolean, Values, Members, Array, Object, and_member, Argument, literal_of, map_literals, argument_of, map_members}
+use Rattle.gq_parser.specs.Tree.{Value, Boolean, Members, Array, Object, and_member, Argument, literal_of, map_literals, argument_of, map_members}
 use Rattle.gq_parser.specs.Grammar as value
 use Rattle.gq_parser.specs.Grammar.{IsValue, AreValues, AreMembers}
 use Rattle.gq_parser.specs.declared.tree.Value as rust
@@ -46,7 +44,7 @@ is_enum_name False t f n = f refl
 is_enum_name Null t f n = n refl
 is_enum_name _ t f n = tt
 
-pub enum_value : (n : List ℕ) (s : String Global) (k : Keyword) → k ≡ keyword_of n → (k ≡ True → ⊥) → (k ≡ False → ⊥) → (k ≡ Null → ⊥) → string_bytes s ≡ n → IsNameValue n (rust-value.Enum s)
+pub enum_value : (n : List ℕ) (s : List ℕ) (k : Keyword) → k ≡ keyword_of n → (k ≡ True → ⊥) → (k ≡ False → ⊥) → (k ≡ Null → ⊥) → s ≡ n → IsNameValue n (rust-value.Enum s)
 enum_value n s k e t f g h p after =
     let named : IsEnumName (keyword_of n) = subst IsEnumName e (is_enum_name k t f g) in
     subst (λ v. IsValue Const v (at p (Name (keyword_of n) n) ∷ after) after) (sym (literal_enum p s)) (rw h (value.enum named))
@@ -57,14 +55,14 @@ name_read room p n v s0 s1 after e e1 h = rw (← e, e1) (h p after, λ stack. r
 
 -- ---- strings and numbers
 
-pub text_read : (room : ℕ) (p : Place) (s : String Global) (s0 after : List Token) → s0 ≡ at p (Text (string_bytes s)) ∷ after
+pub text_read : (room : ℕ) (p : Place) (s : List ℕ) (s0 after : List Token) → s0 ≡ at p (Text s) ∷ after
     → IsValue Const (literal_of (the_literal p (rust-value.Text s))) s0 after × ((stack : List Symbol) → read room (AValue ∷ stack) s0 ≡ read room stack after)
 text_read room p s s0 after e = rw (e, literal_text) (value.text, λ stack. refl)
 
-pub int_read : (p : Place) (s : String Global) (n : List ℕ) (old new : List Token) → old ≡ at p (words.Int n) ∷ new → string_bytes s ≡ n → IsNumberRead (the_literal p (rust-value.Int s)) old new
+pub int_read : (p : Place) (s : List ℕ) (n : List ℕ) (old new : List Token) → old ≡ at p (words.Int n) ∷ new → s ≡ n → IsNumberRead (the_literal p (rust-value.Int s)) old new
 int_read p s n old new e h = rw (e, ← h) (record { is = rw literal_int value.int; reads = λ room stack. refl; shrinks = omega arith })
 
-pub float_read : (p : Place) (s : String Global) (n : List ℕ) (old new : List Token) → old ≡ at p (words.Float n) ∷ new → string_bytes s ≡ n → IsNumberRead (the_literal p (rust-value.Float s)) old new
+pub float_read : (p : Place) (s : List ℕ) (n : List ℕ) (old new : List Token) → old ≡ at p (words.Float n) ∷ new → s ≡ n → IsNumberRead (the_literal p (rust-value.Float s)) old new
 float_read p s n old new e h = rw (e, ← h) (record { is = rw literal_float value.float; reads = λ room stack. refl; shrinks = omega arith })
 
 value_shift : (p : Place) (w : Word) (rest : List Token) (stack : List Symbol) → IsNoText (at p w ∷ rest) → IsNoName (at p w ∷ rest) → IsNotNext (Punct BracketLeft) (at p w ∷ rest) → IsNotNext (Punct BraceLeft) (at p w ∷ rest) → IsNoInt (at p w ∷ rest) → IsNoFloat (at p w ∷ rest) → shift (AValue ∷ stack) w ≡ Refused
@@ -145,11 +143,11 @@ member_comes room (at p _ ∷ tokens) stack h = refl
 name_begins : {n : tree.Name} {before after : List Token} → IsName n before after → (k : Keyword) × (before ≡ at n.place (Name k n.text) ∷ after)
 name_begins (a_name {k = k}) = (k, refl)
 
-pub member_read : (p : Place) (s : String Global) (l : Literal) (s0 s1 s2 after : List Token) → IsName (record { text = string_bytes s; place = p }) s0 s1 → IsTaken (Punct Colon) s1 s2 → IsValue Const (literal_of l) s2 after
+pub member_read : (p : Place) (s : List ℕ) (l : Literal) (s0 s1 s2 after : List Token) → IsName (record { text = s; place = p }) s0 s1 → IsTaken (Punct Colon) s1 s2 → IsValue Const (literal_of l) s2 after
     → IsMemberRead (argument_of (roll-Argument (record { place = p; name = s; value = l }))) s0 after
 member_read p s l s0 s1 s2 after n c v =
     let b = name_begins n in
-    let m : IsMemberRead (record { place = p; name = string_bytes s; value = literal_of l }) s0 after = record { keyword = b.0; colon = c.place; rest = s2; begins = b.1 ∙ ap (λ x. at p (Name b.0 (string_bytes s)) ∷ x) c.is; is = v } in
+    let m : IsMemberRead (record { place = p; name = s; value = literal_of l }) s0 after = record { keyword = b.0; colon = c.place; rest = s2; begins = b.1 ∙ ap (λ x. at p (Name b.0 s) ∷ x) c.is; is = v } in
     subst (λ a. IsMemberRead a s0 after) (sym (of_argument p s l)) m
 
 pub next_member : {a : Argument} {ms : Members} {before mid after : List Token} → IsMemberRead a before mid → AreMembers Const ms mid after → AreMembers Const (and_member a.place a.name a.value ms) before after

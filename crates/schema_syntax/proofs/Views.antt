@@ -1,8 +1,6 @@
 -- The views of values, case by case, and of lists that grow.
-use Rattle.std.proofs.Common.{◌≡◌, Bool, List, [], ◌∷◌, ◌++◌, map, refl, sym, ap, ◌∙◌}
+use Rattle.std.proofs.Common.{◌≡◌, ℕ, Bool, List, [], ◌∷◌, ◌++◌, map, refl, sym, ap, ◌∙◌}
 use Rattle.std.specs.Global.{Vec, Global}
-use Rattle.std.specs.Prelude.{string_bytes}
-use Rattle.std.specs.declared.string.String.{String}
 use Rattle.text_place.specs.declared.place.Place.{Place}
 use Rattle.gq_parser.specs.declared.tree.Argument as rust-argument
 use Rattle.gq_parser.specs.declared.tree.Literal as rust-literal
@@ -28,13 +26,13 @@ of_literal p v = fold-roll-Literal (Place → Value) Argument Value value_step a
 said : (p : Place) (v : rust-value.Value) (rolled : rust-value.Value) (w : Place → Value) → rolled ≡ v → value_of rolled ≡ w → literal_of (the_literal p v) ≡ w p
 said p v rolled w e h = of_literal p v ∙ ap (λ x. value_of x p) (sym e) ∙ ap (λ f. f p) h
 
-pub literal_int : (p : Place) (n : String Global) → literal_of (the_literal p (value.Int n)) ≡ Int p (string_bytes n)
+pub literal_int : (p : Place) (n : List ℕ) → literal_of (the_literal p (value.Int n)) ≡ Int p n
 literal_int p n = said p (value.Int n) _ _ (value.rolls-Int n) (fold-roll-Value (Place → Value) Argument Value value_step argument_step literal_step (open-value.Int n))
 
-pub literal_float : (p : Place) (n : String Global) → literal_of (the_literal p (value.Float n)) ≡ Float p (string_bytes n)
+pub literal_float : (p : Place) (n : List ℕ) → literal_of (the_literal p (value.Float n)) ≡ Float p n
 literal_float p n = said p (value.Float n) _ _ (value.rolls-Float n) (fold-roll-Value (Place → Value) Argument Value value_step argument_step literal_step (open-value.Float n))
 
-pub literal_text : (p : Place) (n : String Global) → literal_of (the_literal p (value.Text n)) ≡ Text p (string_bytes n)
+pub literal_text : (p : Place) (n : List ℕ) → literal_of (the_literal p (value.Text n)) ≡ Text p n
 literal_text p n = said p (value.Text n) _ _ (value.rolls-Text n) (fold-roll-Value (Place → Value) Argument Value value_step argument_step literal_step (open-value.Text n))
 
 pub literal_boolean : (p : Place) (b : Bool) → literal_of (the_literal p (value.Boolean b)) ≡ Boolean p b
@@ -43,7 +41,7 @@ literal_boolean p b = said p (value.Boolean b) _ _ (value.rolls-Boolean b) (fold
 pub literal_null : (p : Place) → literal_of (the_literal p value.Null) ≡ Null p
 literal_null p = said p value.Null _ _ value.rolls-Null (fold-roll-Value (Place → Value) Argument Value value_step argument_step literal_step open-value.Null)
 
-pub literal_enum : (p : Place) (n : String Global) → literal_of (the_literal p (value.Enum n)) ≡ Enum p (string_bytes n)
+pub literal_enum : (p : Place) (n : List ℕ) → literal_of (the_literal p (value.Enum n)) ≡ Enum p n
 literal_enum p n = said p (value.Enum n) _ _ (value.rolls-Enum n) (fold-roll-Value (Place → Value) Argument Value value_step argument_step literal_step (open-value.Enum n))
 
 pub literal_list : (p : Place) (vs : Vec rust-literal.Literal) → literal_of (the_literal p (value.List vs)) ≡ Array p (map_literals vs.items)
@@ -52,7 +50,7 @@ literal_list p vs = said p (value.List vs) _ _ (value.rolls-List vs) (fold-roll-
 pub literal_object : (p : Place) (ms : Vec rust-argument.Argument) → literal_of (the_literal p (value.Object ms)) ≡ Object p (map_members ms.items)
 literal_object p ms = said p (value.Object ms) _ _ (value.rolls-Object ms) (fold-roll-Value (Place → Value) Argument Value value_step argument_step literal_step (open-value.Object ms))
 
-pub of_argument : (p : Place) (n : String Global) (v : rust-literal.Literal) → argument_of (roll-Argument (record { place = p; name = n; value = v })) ≡ record { place = p; name = string_bytes n; value = literal_of v }
+pub of_argument : (p : Place) (n : List ℕ) (v : rust-literal.Literal) → argument_of (roll-Argument (record { place = p; name = n; value = v })) ≡ record { place = p; name = n; value = literal_of v }
 of_argument p n v = fold-roll-Argument (Place → Value) Argument Value value_step argument_step literal_step (record { place = p; name = n; value = v })
 
 pub values_push : (xs : List rust-literal.Literal) (x : rust-literal.Literal) (others : Values) → values_then (map literal_of (xs ++ x ∷ [])) others ≡ values_then (map literal_of xs) (and_value (literal_of x) others)

@@ -11,7 +11,7 @@ use Rattle.schema_syntax.specs.declared.tree.Definition as rust
 use Rattle.schema_syntax.specs.Word.{word_of}
 use Rattle.schema_syntax.specs.Tree.{Definition, definition_of}
 use Rattle.schema_syntax.specs.Grammar.{IsDescription, IsDefinition, definition, IsDocument, no_more_definitions, next_definition}
-use Rattle.schema_syntax.specs.Fault.{CanCome, IsUnservedWord, IsUnserved, directive, a_word, list, IsRefused, IsCut, IsUnexpectedAt, IsNotServedAt, IsStop}
+use Rattle.schema_syntax.specs.Fault.{CanCome, IsUnservedWord, IsUnserved, directive, a_word, list, IsRefused, IsCut, IsStop}
 use Rattle.schema_syntax.specs.Fault as fault
 use Rattle.schema_syntax.specs.Machine.{Symbol, ADefinition, Shift, moved, body_move, one, read}
 use Rattle.schema_syntax.specs.Parsing.{Fails, Reads, Describes, IsNoText, IsDefinitionRead, IsDocumentFront}

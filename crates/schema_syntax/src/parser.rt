@@ -27,6 +27,7 @@ use crate::tree::{
 use crate::word::{SchemaWord, is_enum_name, is_served_name, name_value, word_of};
 use gq_lexer::{LocatedText, Place, Punct, Token, TokenKind, string_value};
 use gq_parser::{Argument, Keyword, Literal, TypeRef, Value, keyword_of};
+use short_text::Text;
 use std::alloc::Global;
 use std::marker::Model;
 
@@ -176,7 +177,7 @@ impl<'a> Parser<'a> {
         let non_null = self.eat(Punct::Bang);
         Ok(TypeRef::Named {
             place,
-            name: text,
+            name: Text::from(text),
             non_null,
         })
     }
@@ -312,12 +313,12 @@ impl<'a> Parser<'a> {
         ensures { NumberReads self.old self.new result }
     {
         if let Some(LocatedText { place, value: text }) = self.int() {
-            let number = String::from_str(self.alloc, text)?;
+            let number = Text::from_str(self.alloc, text)?;
             let value = Value::Int(number);
             return Ok(Literal { place, value });
         }
         if let Some(LocatedText { place, value: text }) = self.float() {
-            let number = String::from_str(self.alloc, text)?;
+            let number = Text::from_str(self.alloc, text)?;
             let value = Value::Float(number);
             return Ok(Literal { place, value });
         }
@@ -332,7 +333,7 @@ impl<'a> Parser<'a> {
             (length self.new < length self.old) }
     {
         if let Some(LocatedText { place, value: text }) = self.string()? {
-            let value = Value::Text(text);
+            let value = Value::Text(Text::from(text));
             return Ok(Literal { place, value });
         }
         if let Some(LocatedText { place, value: name }) = self.word() {
@@ -383,7 +384,7 @@ impl<'a> Parser<'a> {
         let value = self.value(room)?;
         Ok(Argument {
             place,
-            name: text,
+            name: Text::from(text),
             value,
         })
     }

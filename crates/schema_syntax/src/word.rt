@@ -8,6 +8,7 @@ ghost use Rattle.schema_syntax.specs.declared.word.SchemaWord.TheVariants as wor
 
 use crate::fault::TokenFault;
 use gq_parser::{Keyword, Value, keyword_of};
+use short_text::Text;
 use std::alloc::Global;
 
 /// Word that a name is where one is wanted. Elsewhere each of them is a plain name.
@@ -79,6 +80,6 @@ pub(crate) fn name_value(alloc: Global, name: &str) -> Result<Value, TokenFault>
         Keyword::True => Ok(Value::Boolean(true)),
         Keyword::False => Ok(Value::Boolean(false)),
         Keyword::Null => Ok(Value::Null),
-        _ => Ok(Value::Enum(String::from_str(alloc, name)?)),
+        _ => Ok(Value::Enum(Text::from_str(alloc, name)?)),
     }
 }

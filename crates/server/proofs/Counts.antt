@@ -1,5 +1,5 @@
 -- Lemmas on how many loads plans read over what a session knows.
-use Rattle.std.proofs.Common.{◌≡◌, ℕ, ◌<◌, ◌≤◌, ◌+◌, ◌-◌, ◌^◌, min, List, [], ◌∷◌, ◌++◌, map, take, length, get_or, All, refl, sym, ap, subst, ◌∙◌, arith, add-one, Option}
+use Rattle.std.proofs.Common.{◌≡◌, ℕ, ◌<◌, ◌≤◌, ◌+◌, ◌-◌, ◌^◌, min, List, [], ◌∷◌, ◌++◌, map, take, length, get_or, All, sym, ap, subst, ◌∙◌, arith, add-one, Option}
 use Rattle.std.proofs.lemmas.List.{map-append}
 use Rattle.std.proofs.lemmas.List.Elements.{All-weaker, All-nil, All-cons, All-head, All-tail}
 use Rattle.load_memory.specs.Pairs.{MemoryOf}
@@ -14,10 +14,9 @@ use Rattle.load_rounds.proofs.Following.{rules-size}
 use Rattle.request_line.specs.Requests.{RequestOf}
 use Rattle.plan_requests.specs.Servers.{ServerOf}
 use Rattle.plan_requests.specs.Planning.{PlanValues}
-use Rattle.plan_requests.proofs.Values.{taken-more}
+use Rattle.plan_requests.proofs.Values.{plans-bound, taken-more}
 use Rattle.server.specs.Clients.{HasLoaders}
 use Rattle.server.specs.Counts.{known_in, plans_read}
-use Rattle.server.proofs.Values.{plans-bound}
 
 module _ {S : Type 0} (session : SessionOf S) where
   -- says what a memory says that has the session's pairs and modes

@@ -6,6 +6,7 @@ use denote.Param.Send.{IsSend, IsSync, sendable}
 use denote.Param.SendFields.{declared_send}
 use Rattle.std.proofs.Crossing as over
 use Rattle.std.proofs.MapsCrossing as maps
+use Rattle.short_text.proofs.text.Text.TheSendSync as text
 use Rattle.gq_parser.proofs.tree.Selection.TheLaws.TheKnot as selection
 use Rattle.gq_parser.proofs.tree.TypeRef.TheLaws.TheKnot as type_ref
 use Rattle.gq_parser.proofs.tree.Value.TheLaws.TheKnot as value
@@ -30,16 +31,16 @@ use Rattle.server.specs.contracts.client.ClientSession as client
 use Rattle.server.specs.contracts.client.ClientSession.TheInside as inside
 
 pub schema_send : IsSend schema.the_row
-schema_send = search (over.crosses, maps.crosses, sendable, value.send-Literal, type_ref.send-TypeRef) depth 40 fits 10000
+schema_send = search (over.crosses, maps.crosses, sendable, text.the_send, value.send-Literal, type_ref.send-TypeRef) depth 40 fits 10000
 
 pub schema_sync : IsSync schema.the_row
-schema_sync = search (over.crosses, maps.crosses, sendable, value.sync-Literal, type_ref.sync-TypeRef) depth 40 fits 10000
+schema_sync = search (over.crosses, maps.crosses, sendable, text.the_sync, value.sync-Literal, type_ref.sync-TypeRef) depth 40 fits 10000
 
 pub operation_send : IsSend operation.the_row
-operation_send = search (over.crosses, maps.crosses, sendable, value.send-Literal, value.send-Argument, type_ref.send-TypeRef, selection.send-SelectionSet) depth 40 fits 10000
+operation_send = search (over.crosses, maps.crosses, sendable, text.the_send, value.send-Literal, value.send-Argument, type_ref.send-TypeRef, selection.send-SelectionSet) depth 40 fits 10000
 
 pub operation_sync : IsSync operation.the_row
-operation_sync = search (over.crosses, maps.crosses, sendable, value.sync-Literal, value.sync-Argument, type_ref.sync-TypeRef, selection.sync-SelectionSet) depth 40 fits 10000
+operation_sync = search (over.crosses, maps.crosses, sendable, text.the_sync, value.sync-Literal, value.sync-Argument, type_ref.sync-TypeRef, selection.sync-SelectionSet) depth 40 fits 10000
 
 pub server_send : IsSend server.the_row
 server_send = search (over.crosses, sendable, schema_send, schema_sync, bindings_cross.the_send, bindings_cross.the_sync) depth 20
@@ -48,16 +49,16 @@ pub server_sync : IsSync server.the_row
 server_sync = search (over.crosses, sendable, schema_send, schema_sync, bindings_cross.the_send, bindings_cross.the_sync) depth 20
 
 pub fragment_send : IsSend fragment.the_row
-fragment_send = search (over.crosses, maps.crosses, sendable, value.send-Literal, value.send-Argument, selection.send-SelectionSet) depth 40 fits 10000
+fragment_send = search (over.crosses, maps.crosses, sendable, text.the_send, value.send-Literal, value.send-Argument, selection.send-SelectionSet) depth 40 fits 10000
 
 pub fragment_sync : IsSync fragment.the_row
-fragment_sync = search (over.crosses, maps.crosses, sendable, value.sync-Literal, value.sync-Argument, selection.sync-SelectionSet) depth 40 fits 10000
+fragment_sync = search (over.crosses, maps.crosses, sendable, text.the_sync, value.sync-Literal, value.sync-Argument, selection.sync-SelectionSet) depth 40 fits 10000
 
 pub variable_send : IsSend variable.the_row
-variable_send = search (over.crosses, maps.crosses, sendable, input.send-Input) depth 40 fits 10000
+variable_send = search (over.crosses, maps.crosses, sendable, text.the_send, input.send-Input) depth 40 fits 10000
 
 pub variable_sync : IsSync variable.the_row
-variable_sync = search (over.crosses, maps.crosses, sendable, input.sync-Input) depth 40 fits 10000
+variable_sync = search (over.crosses, maps.crosses, sendable, text.the_sync, input.sync-Input) depth 40 fits 10000
 
 pub checked_send : IsSend checked.the_row
 checked_send = search (over.crosses, sendable, schema_send, schema_sync, operation_send, fragment_send) depth 20

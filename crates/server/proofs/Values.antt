@@ -2,7 +2,6 @@
 use Rattle.std.proofs.Common.{◌≡◌, ◌<◌, ℕ, zero, suc, List, [], ◌∷◌, ◌++◌, map, length, get_or, drop, Option, Some, None, All, refl, sym, ap, subst, ◌∙◌, arith, append_assoc, string_bytes}
 use Rattle.std.specs.List.{AllZip, flat_map, join_by}
 use Rattle.std.specs.Option.{option_map}
-use Rattle.std.proofs.lemmas.List.Elements.{All-nil, All-cons}
 use Rattle.gq_check.specs.Planned.{IsPlan}
 use Rattle.gq_check.specs.Plans.{PlanOf}
 use Rattle.load_memory.specs.Keys.{KeyOf}
@@ -13,38 +12,11 @@ use Rattle.load_rounds.specs.SharedRounds.{ReportOf, AreShared, SharedHeadline, 
 use Rattle.load_rounds.specs.declared.answer.Answer.{Answer}
 use Rattle.request_line.specs.Requests.{RequestOf}
 use Rattle.plan_requests.specs.Servers.{ServerOf}
-use Rattle.plan_requests.specs.Planning.{HasPlan, PlanValues}
-use Rattle.plan_requests.proofs.Requests.{planned-valid}
+use Rattle.plan_requests.specs.Planning.{PlanValues}
+use Rattle.plan_requests.proofs.Values.{plans-valid}
 use Rattle.server.specs.Clients.{ClientOf}
 use Rattle.server.specs.Plans.{requests_within}
 use Rattle.server.specs.Arrays.{PlaceOf, refused, answered, IsInPlace, text_in, plans_in, reports_in, in_places, array_text, AnswersArray}
-
--- ---- the plans are over the server's bindings, and of valid documents
-
-module _ (s : ServerOf) where
-  plan-bound : (value : Option RequestOf) (p : PlanOf) → HasPlan s value p → p.bindings ≡ s.bindings
-  plan-bound None p h = absurd h
-  plan-bound (Some r) p h = h.bindings
-
-  plan-valid : (value : Option RequestOf) (p : PlanOf) → HasPlan s value p → IsPlan p
-  plan-valid None p h = absurd h
-  plan-valid (Some r) p h = planned-valid s r p h
-
-  module _ (P : PlanOf → Type 0) (each : (value : Option RequestOf) (p : PlanOf) → HasPlan s value p → P p) where
-    plans-all : (values : List (Option RequestOf)) (refusals : List (Option (List ℕ))) (plans : List PlanOf) → PlanValues s values refusals plans → All P plans
-    plans-all [] [] [] h = All-nil P
-    plans-all [] [] (p ∷ ps) h = absurd h
-    plans-all [] (r ∷ rs) ps h = absurd h
-    plans-all (v ∷ vs) [] ps h = absurd h
-    plans-all (v ∷ vs) (Some t ∷ rs) ps h = plans-all vs rs ps h.1
-    plans-all (v ∷ vs) (None ∷ rs) [] h = absurd h
-    plans-all (v ∷ vs) (None ∷ rs) (p ∷ ps) h = All-cons P p ps (each v p h.0) (plans-all vs rs ps h.1)
-
-  pub plans-bound : (values : List (Option RequestOf)) (refusals : List (Option (List ℕ))) (plans : List PlanOf) → PlanValues s values refusals plans → All (λ (p : PlanOf). p.bindings ≡ s.bindings) plans
-  plans-bound values refusals plans h = plans-all (λ (p : PlanOf). p.bindings ≡ s.bindings) plan-bound values refusals plans h
-
-  pub plans-valid : (values : List (Option RequestOf)) (refusals : List (Option (List ℕ))) (plans : List PlanOf) → PlanValues s values refusals plans → All IsPlan plans
-  plans-valid values refusals plans h = plans-all IsPlan plan-valid values refusals plans h
 
 -- ---- the answer
 

@@ -1,6 +1,7 @@
 //! Answers to requests of a client, from the parts of its session.
 
 ghost use Rattle.std.specs.Prelude.{◌≡◌, ◌≤◌, IfOk, OnErr, length};
+ghost use Rattle.gq_check.specs.Planned.{IsPlan};
 ghost use Rattle.gq_check.specs.Plans.{plan_of};
 ghost use Rattle.load_rounds.specs.Headline.{StopsAnswering};
 ghost use Rattle.load_rounds.specs.Sessions.{state_of};
@@ -27,6 +28,7 @@ fn answer_plan<
     requires runs { RunsEach S.may_tell
         (F.pre run.now) (F.post run.now) }
     requires loaders { length (plan_of plan.now).bindings.loaders ≤ length session.old.loaders }
+    requires prepared { IsPlan (plan_of plan.now) }
     ensures answered { (s : ServerOf) → IfOk result (λ a. AnswersPlan S.may_tell
         (client_of s most session.old) (plan_of plan.now) (report_of a) session.new) }
     ensures stopped { OnErr result (StopsAnswering S.may_tell (state_of session.old)
@@ -34,8 +36,6 @@ fn answer_plan<
     ensures loaders { length session.new.loaders
         ≡ length session.old.loaders }
 {
-    // A contract sees here that the plan is of a valid document.
-    let _ = plan.operation();
     run(session, &LimitedPlan { plan, most })
 }
 

@@ -36,7 +36,7 @@ pub use future::ClientAnswering;
 pub use gq_bindings::{By, LoaderLine};
 pub use gq_schema::SchemaFault;
 pub use load_by_hand::LoadByHand;
-pub use load_memory::{Item, Key, NoMemory, Outcome, Row, Text, TextPair};
+pub use load_memory::{Item, Key, NoMemory, Outcome, Row, Rows, Text, TextPair};
 pub use load_queue::{FetchFault, LocalSource, PerKey, QueueFault, Source};
 pub use load_rounds::{Answer, SessionFault};
 pub use opening::Sessions;

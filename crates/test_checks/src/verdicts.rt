@@ -6,6 +6,7 @@ use gq_check::{CheckFault, Plan, PrepareFault, check, prepare};
 use gq_parser::parse;
 use gq_schema::{Input, Schema};
 use serde_json::Value;
+use short_text::Text;
 use std::alloc::{AllocError, Global};
 use std::sync::Arc;
 use test_cases::{Question, plain};
@@ -19,7 +20,7 @@ fn fault_text(alloc: Global, fault: &CheckFault) -> Result<String, AllocError> {
 }
 
 /// The name of an operation, or nothing.
-fn name_or_dash(name: &Option<String>) -> &str {
+fn name_or_dash(name: &Option<Text>) -> &str {
     match name {
         Some(name) => name.as_str(),
         None => "-",

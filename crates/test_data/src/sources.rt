@@ -97,10 +97,10 @@ fn rows_of_pair(
     let Key::Pair(pair) = key else {
         return Ok(found);
     };
-    for row in CsvSource::all(table).rows(alloc, &Key::All)? {
+    for row in &CsvSource::all(table).rows(alloc, &Key::All)? {
         let (one, two) = (pair.one.as_str(), pair.two.as_str());
         if is_text(row.get(columns.0), mode, one) && is_text(row.get(columns.1), mode, two) {
-            found.push(row)?;
+            found.push(row.clone()?)?;
         }
     }
     Ok(found)

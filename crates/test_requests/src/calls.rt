@@ -111,7 +111,7 @@ fn prime(alloc: Global, session: &mut Asking<'_>, loader: usize, words: &str) ->
     let (key, name) = words.split_once(' ').context("no name")?;
     let row = Row::new(alloc, &[("id", key), ("name", name)])?;
     let key = key_of(alloc, key)?;
-    let item = Item::Rows(vec![in alloc; row]?);
+    let item = Item::Rows(row.into());
     Ok(came_text(alloc, session.prime(loader, &key, item))?)
 }
 

@@ -6,6 +6,7 @@ use gq_check::Plan;
 use gq_parser::{Selection, TypeRef};
 use gq_resolve::{Group, arguments_of, collect, complete};
 use gq_schema::Input;
+use load_memory::Text;
 use std::alloc::{AllocError, Global};
 
 /// Adds a value to a text; a list as its items, each with a comma behind it.
@@ -89,7 +90,7 @@ pub fn completion_report(alloc: Global, text: &str) -> Result<String> {
     };
     let ty = TypeRef::Named {
         place: gq_lexer::Place { line: 1, column: 1 },
-        name: String::from_str(alloc, name)?,
+        name: Text::from_str(alloc, name)?,
         non_null,
     };
     let response = match value {

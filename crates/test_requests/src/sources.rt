@@ -5,7 +5,7 @@ ghost use Rattle.std.specs.Prelude.{◌≡◌, [], ⊤, IfOk};
 use crate::manner::{Deed, Manner};
 use anyhow::{Context, Result, bail};
 use csv_source::CsvSource;
-use load_memory::{Item, Key, Row};
+use load_memory::{Item, Key, Row, Rows};
 use load_queue::{FetchFault, Loader, PerKey, Source};
 use load_rounds::Session;
 use std::alloc::{AllocError, Global};
@@ -69,7 +69,7 @@ fn give_fault(
 fn resize(alloc: Global, items: &mut Vec<Item>, count: usize) -> Result<(), AllocError> {
     items.truncate(count);
     for _ in items.len()..count {
-        items.push(Item::Rows(Vec::new(alloc)))?;
+        items.push(Item::Rows(Rows::none()))?;
     }
     Ok(())
 }
@@ -80,7 +80,7 @@ fn number_items(alloc: Global, keys: &[Key], number: u64) -> Result<Vec<Item>, A
     let mut items = Vec::with_capacity(alloc, keys.len())?;
     for _ in keys {
         let row = Row::new(alloc, &[("name", name.as_str())])?;
-        items.push(Item::Rows(vec![in alloc; row]?))?;
+        items.push(Item::Rows(row.into()))?;
     }
     Ok(items)
 }

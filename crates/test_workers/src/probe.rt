@@ -3,7 +3,7 @@
 ghost use Rattle.std.specs.Prelude.{⊤};
 
 use crate::sample::rows_of;
-use load_memory::{Item, Key};
+use load_memory::{Item, Key, Rows};
 use load_queue::{FetchFault, Source};
 use std::alloc::{AllocError, Global};
 use std::sync::atomic::{AtomicBool, AtomicU64, Ordering};
@@ -178,7 +178,7 @@ impl<'b> Probe<'b> {
         }
         match self.manner {
             Manner::Faulty if is_second(key) => Ok(Item::KeyFault(text(alloc, "no")?)),
-            _ => Ok(Item::Rows(rows_of(alloc, self.loader, key)?)),
+            _ => Ok(Item::Rows(rows_of(alloc, self.loader, key)?.into())),
         }
     }
 
@@ -215,7 +215,7 @@ fn text(alloc: Global, words: &str) -> Result<String, AllocError> {
 fn resize(alloc: Global, items: &mut Vec<Item>, count: usize) -> Result<(), AllocError> {
     items.truncate(count);
     for _ in items.len()..count {
-        items.push(Item::Rows(Vec::new(alloc)))?;
+        items.push(Item::Rows(Rows::none()))?;
     }
     Ok(())
 }

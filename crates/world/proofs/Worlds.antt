@@ -9,7 +9,7 @@ use Rattle.gq_schema.specs.declared.fault.SchemaFault.{SchemaFault}
 use Rattle.gq_schema.specs.declared.fault.SchemaFault.TheVariants as schema
 use Rattle.csv_source.specs.Reading.{Repeats}
 use Rattle.csv_source.specs.Tables.{SourceOf}
-use Rattle.plan_requests.specs.Servers.{ServerOf, IsServer, IsServerFault, MakesServer}
+use Rattle.plan_requests.specs.Servers.{ServerOf, IsServer, IsServerFault}
 use Rattle.plan_requests.specs.Servers as servers
 use Rattle.world.specs.declared.fault.WorldFault.{WorldFault}
 use Rattle.world.specs.declared.fault.WorldFault.TheVariants as world

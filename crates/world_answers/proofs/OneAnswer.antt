@@ -100,7 +100,7 @@ prepare-report : (want : Wanted) (e : PrepareFault) → is_want_of_memory (fault
 prepare-report want (prepare.NoSuchOperation name) some h = (prepared.no_such_operation (string_bytes name), h, refl)
 prepare-report want prepare.OperationNeeded some h = (prepared.operation_needed, h, refl)
 prepare-report want prepare.VariablesNotObject some h = (prepared.variables_not_object, h, refl)
-prepare-report want (prepare.BadVariable name) some h = (prepared.bad_variable (string_bytes name), h, refl)
+prepare-report want (prepare.BadVariable name) some h = (prepared.bad_variable name, h, refl)
 prepare-report want prepare.NoMemory some h = absurd (cc some)
 
 parse-some : (e : ParseFault) → is_want_of_memory (fault.Parse e) ≡ false → e ≢ parse.NoMemory

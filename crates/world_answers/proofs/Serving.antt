@@ -6,7 +6,6 @@ use Rattle.plan_program.specs.PlanPrograms.{plan_program}
 use Rattle.load_rounds.specs.Sessions.{SessionOf, state_of, restarted}
 use Rattle.load_rounds.specs.SharedRounds.{ReportOf, together}
 use Rattle.request_line.specs.Requests.{RequestOf}
-use Rattle.plan_requests.specs.Planning.{IsRefusal}
 use Rattle.server_lines.specs.Answering.{at_memory}
 use Rattle.server_lines.specs.declared.fault.LineFault.{LineFault}
 use Rattle.server_lines.specs.declared.fault.LineFault.TheVariants as fault
@@ -16,7 +15,7 @@ use Rattle.server.specs.Arrays as server_arrays
 use Rattle.server.specs.Lines as server_lines
 use Rattle.server.specs.Plans.{requests_within}
 use Rattle.server.proofs.Loaders.{rounds-made, stops-made}
-use Rattle.world_answers.specs.Answers.{may_tell, AnswersAnew, AnswersRequest, faulty, planned}
+use Rattle.world_answers.specs.Answers.{may_tell, AnswersRequest, faulty, planned}
 use Rattle.world_answers.specs.Arrays.{AnswersTogether, AnswersArray}
 use Rattle.world_answers.specs.Lines.{IsAnswer, no_request, request, several, IsClientOf, AnswersLine}
 use Rattle.world_answers.specs.Services.{ServiceOf, server_in}

@@ -12,7 +12,7 @@ use Rattle.execution.specs.Program.{Program}
 use Rattle.execution.specs.Rounds.{RuleOf, rule_of, modes_of, may_at, key_by_key, AreRounds, direct, RespectsCacheKeys}
 use Rattle.gq_check.specs.Plans.{PlanOf}
 use Rattle.load_rounds.specs.KeyByKey.{CompareAlike, item_over}
-use Rattle.load_rounds.specs.Sessions.{SessionOf, StateOf, state_of, session_modes}
+use Rattle.load_rounds.specs.Sessions.{StateOf, state_of, session_modes}
 use Rattle.load_rounds.specs.SharedRounds.{ReportOf, AreTexts}
 use Rattle.server.specs.Plans.{requests_within}
 use Rattle.load_rounds.proofs.KeyByKey.{rounds-weaker, may-report, respects-alike}
@@ -20,7 +20,6 @@ use Rattle.load_rounds.proofs.SharedKeyByKey.{report-directly}
 use Rattle.world_answers.specs.Answers.{item_at, may_tell, IsDirectText}
 use Rattle.world_answers.specs.Arrays.{AnswersTogether}
 use Rattle.world_answers.specs.Services.{ServiceOf}
-use Rattle.world_answers.specs.Sessions.{IsOver}
 use Rattle.world_answers.proofs.Direct.{over-alike, over-items, over-held}
 
 -- ---- the loaders of a world

@@ -1,5 +1,5 @@
 -- The values of an array over a world: the texts of direct execution in their places.
-use Rattle.std.proofs.Common.{◌≡◌, ◌∙◌, ℕ, List, [], ◌∷◌, map, Option, Some, None, All, sym, ap, subst}
+use Rattle.std.proofs.Common.{◌≡◌, ◌∙◌, ℕ, List, [], ◌∷◌, map, Option, All, sym, ap, subst}
 use Rattle.std.specs.List.{AllZip}
 use Rattle.csv_source.specs.Tables.{SourceOf}
 use Rattle.gq_check.specs.Planned.{IsPlan}
@@ -9,8 +9,9 @@ use Rattle.load_rounds.specs.SharedRounds.{ReportOf}
 use Rattle.request_line.specs.Requests.{RequestOf}
 use Rattle.plan_requests.specs.Planning.{PlanValues}
 use Rattle.server.specs.Arrays as server
-use Rattle.server.specs.Arrays.{PlaceOf, refused, answered, text_in, plans_in, reports_in, in_places, array_text}
-use Rattle.server.proofs.Values.{filled, plans-valid, shared-many}
+use Rattle.server.specs.Arrays.{PlaceOf, refused, answered, plans_in, reports_in, in_places, array_text}
+use Rattle.plan_requests.proofs.Values.{plans-valid}
+use Rattle.server.proofs.Values.{filled, shared-many}
 use Rattle.load_rounds.specs.Sessions.{state_of}
 use Rattle.world_answers.specs.Answers.{IsDirectText}
 use Rattle.world_answers.specs.Arrays.{IsInPlace, AnswersTogether, AnswersArray}

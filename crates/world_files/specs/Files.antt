@@ -4,8 +4,8 @@ use Rattle.std.specs.List.{AllZip, slice_get}
 use Rattle.world.specs.declared.fault.WorldFault.{WorldFault}
 use Rattle.world.specs.Sources.{TableOf}
 use Rattle.world.specs.Worlds.{WorldOf, IsWorld, IsRefusal}
-use Rattle.world_files.specs.declared.fault.OpenFault.{OpenFault}
-use Rattle.world_files.specs.declared.fault.OpenFault.TheVariants as opening
+use Rattle.world_files.specs.declared.fault.FileFault.{FileFault}
+use Rattle.world_files.specs.declared.fault.FileFault.TheVariants as opening
 use Rattle.world_files.specs.declared.files.TableFile.{TableFile}
 use Rattle.world_files.specs.declared.files.WorldFiles.{WorldFiles}
 use Rattle.world_files.specs.Folders.{Holdings}
@@ -40,13 +40,13 @@ pub record IsRefusedFrom (holds : Holdings) (files : WorldFiles) (fault : WorldF
   pub refused : IsRefusal schema bindings tables files.max_batch fault
 
 -- the file of one of the tables can't be opened, or holds none
-abbrev pub IsUnopenedFrom : Holdings → List TableFile → OpenFault → Type 0
+abbrev pub IsUnopenedFrom : Holdings → List TableFile → FileFault → Type 0
 IsUnopenedFrom holds tables fault = (place : ℕ) × IsSomeAnd (slice_get tables place)
     (λ given. IsUnopened (holds (string_bytes given.file)) place fault)
 
 -- Reason why these files give no world: one of them can't be read; or a table is refused, of what its file holds; or what they all
 -- hold is no world. Of memory this says nothing.
-abbrev pub IsUnmadeFrom : Holdings → WorldFiles → OpenFault → Type 0
+abbrev pub IsUnmadeFrom : Holdings → WorldFiles → FileFault → Type 0
 IsUnmadeFrom holds files (opening.Unread file reason) = IsFileOf files file
 IsUnmadeFrom holds files (opening.Table place fault reason) =
     IsSomeAnd (slice_get files.tables.items place)

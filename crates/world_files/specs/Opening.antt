@@ -7,8 +7,8 @@ use Rattle.csv_source.specs.Reading.{IsTableOf, FaultIs}
 use Rattle.load_memory.specs.Rows.{SheetOf}
 use Rattle.world_files.specs.declared.fault.InputFile.{InputFile}
 use Rattle.world_files.specs.declared.fault.InputFile.TheVariants as file
-use Rattle.world_files.specs.declared.fault.OpenFault.{OpenFault}
-use Rattle.world_files.specs.declared.fault.OpenFault.TheVariants as opening
+use Rattle.world_files.specs.declared.fault.FileFault.{FileFault}
+use Rattle.world_files.specs.declared.fault.FileFault.TheVariants as opening
 use Rattle.world_files.specs.declared.files.WorldFiles.{WorldFiles}
 use Rattle.world.specs.Sources.{TableOf}
 use Rattle.world.specs.Worlds.{IsRefusal}
@@ -35,7 +35,7 @@ reason_of table.ReadFault kept = kept
 reason_of other kept = None
 
 -- this file can't be opened or read, or is no text; of memory this says nothing
-abbrev pub IsUnread : InputFile → OpenFault → Type 0
+abbrev pub IsUnread : InputFile → FileFault → Type 0
 IsUnread file (opening.Unread other reason) = other ≡ file
 IsUnread file (opening.Table place fault reason) = ⊥
 IsUnread file (opening.World fault) = ⊥
@@ -43,7 +43,7 @@ IsUnread file (opening.Uncreated reason) = ⊥
 IsUnread file opening.NoMemory = Unit {0}
 
 -- the file of the trace can't be created; of memory this says nothing
-abbrev pub IsUncreated : OpenFault → Type 0
+abbrev pub IsUncreated : FileFault → Type 0
 IsUncreated (opening.Unread file reason) = ⊥
 IsUncreated (opening.Table place fault reason) = ⊥
 IsUncreated (opening.World fault) = ⊥
@@ -51,13 +51,13 @@ IsUncreated (opening.Uncreated reason) = Unit {0}
 IsUncreated opening.NoMemory = Unit {0}
 
 -- the file of the table of this place can't be opened, or holds none, for its bytes, where they are known, have the fault
-abbrev pub IsUnopened : Option (List ℕ) → ℕ → OpenFault → Type 0
+abbrev pub IsUnopened : Option (List ℕ) → ℕ → FileFault → Type 0
 IsUnopened known place (opening.Table other fault reason) = (other ≡ place)
     × IsSheetFault known fault
 IsUnopened known place other = IsUnread (file.Table place) other
 
 -- a table is refused; of memory this says nothing
-abbrev pub IsTableRefused : OpenFault → Type 0
+abbrev pub IsTableRefused : FileFault → Type 0
 IsTableRefused (opening.Unread file reason) = ⊥
 IsTableRefused (opening.Table place fault reason) = Unit {0}
 IsTableRefused (opening.World fault) = ⊥
@@ -72,7 +72,7 @@ IsFileOf files (file.Table place) = place < length files.tables.items
 IsFileOf files file.Requests = ⊥
 
 -- the file that can't be read, or the table that is refused, is one of these
-abbrev pub IsLocated : WorldFiles → OpenFault → Type 0
+abbrev pub IsLocated : WorldFiles → FileFault → Type 0
 IsLocated files (opening.Unread file reason) = IsFileOf files file
 IsLocated files (opening.Table place fault reason) = place < length files.tables.items
 IsLocated files (opening.World fault) = Unit {0}
@@ -80,7 +80,7 @@ IsLocated files (opening.Uncreated reason) = ⊥
 IsLocated files opening.NoMemory = Unit {0}
 
 -- there is no world with this limit of some texts and tables, for this fault, or they weren't read
-abbrev pub IsUnmade : Option ℕ → OpenFault → Type 0
+abbrev pub IsUnmade : Option ℕ → FileFault → Type 0
 IsUnmade max (opening.World fault) = (schema : List ℕ) × (bindings : List ℕ)
     × (tables : List TableOf) × IsRefusal schema bindings tables max fault
 IsUnmade max (opening.Uncreated reason) = ⊥

@@ -1,7 +1,7 @@
 //! Faults: why files give no world.
 
 ghost use Rattle.std.specs.Prelude.{◌≡◌};
-ghost use Rattle.world_files.specs.declared.fault.OpenFault.TheVariants.{NoMemory};
+ghost use Rattle.world_files.specs.declared.fault.FileFault.TheVariants.{NoMemory};
 
 use csv_source::TableFault;
 use std::alloc::{AllocError, AllocFailed};
@@ -21,7 +21,7 @@ pub enum InputFile {
 
 /// Reason why files give no world or no request lines, or a trace can't be created.
 #[derive(Debug, Drop)]
-pub enum OpenFault {
+pub enum FileFault {
     /// A file can't be opened or read, is too long, or is no text where it has to be.
     Unread {
         file: InputFile,
@@ -41,18 +41,18 @@ pub enum OpenFault {
     NoMemory,
 }
 
-impl From<AllocError> for OpenFault {
+impl From<AllocError> for FileFault {
     ghost from_gives = { λ _ fault. fault ≡ NoMemory };
 
-    fn from(_: AllocError) -> OpenFault {
-        OpenFault::NoMemory
+    fn from(_: AllocError) -> FileFault {
+        FileFault::NoMemory
     }
 }
 
-impl<T: Drop> From<AllocFailed<T>> for OpenFault {
+impl<T: Drop> From<AllocFailed<T>> for FileFault {
     ghost from_gives = { λ _ fault. fault ≡ NoMemory };
 
-    fn from(_: AllocFailed<T>) -> OpenFault {
-        OpenFault::NoMemory
+    fn from(_: AllocFailed<T>) -> FileFault {
+        FileFault::NoMemory
     }
 }

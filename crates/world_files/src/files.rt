@@ -9,7 +9,7 @@ ghost use Rattle.world_files.specs.Folders.{IsAllOf, WritesNoOther};
 ghost use Rattle.world_files.specs.Opening.{IsTextOf, IsSheetOf, IsUnread, IsUncreated, IsUnopened, IsLocated, IsWholeOrLong};
 ghost use Rattle.world_files.specs.Files.{IsTableFrom, IsWorldFrom, IsUnopenedFrom, IsUnmadeFrom};
 
-use crate::fault::{InputFile, OpenFault};
+use crate::fault::{FileFault, InputFile};
 use crate::folder::Folder;
 use crate::reading::{read_schema, read_table, read_text, unread};
 use csv_source::Table;
@@ -41,7 +41,7 @@ pub struct WorldFiles {
 }
 
 // The text of the schema's file.
-fn schema_file<D: Folder>(alloc: Global, folder: &D, path: &str) -> Result<String, OpenFault>
+fn schema_file<D: Folder>(alloc: Global, folder: &D, path: &str) -> Result<String, FileFault>
     ensures ok { IfOk result (λ text. IfSome (D.holds folder.now path.now)
         (λ bytes. IsWholeOrLong MAX_BYTES bytes (string_bytes text))) }
     ensures err { IfErr result (IsUnread Schema) }
@@ -57,7 +57,7 @@ fn schema_file<D: Folder>(alloc: Global, folder: &D, path: &str) -> Result<Strin
 }
 
 // The text of the bindings' file.
-fn bindings_file<D: Folder>(alloc: Global, folder: &D, path: &str) -> Result<String, OpenFault>
+fn bindings_file<D: Folder>(alloc: Global, folder: &D, path: &str) -> Result<String, FileFault>
     ensures ok { IfOk result (λ text. IsTextOf
         (D.holds folder.now path.now) (string_bytes text)) }
     ensures err { IfErr result (IsUnread Bindings) }
@@ -78,7 +78,7 @@ fn table_file<D: Folder>(
     folder: &D,
     path: &str,
     place: usize,
-) -> Result<Table, OpenFault>
+) -> Result<Table, FileFault>
     ensures ok { IfOk result
         (IsSheetOf (D.holds folder.now path.now)) }
     ensures err { IfErr result
@@ -96,7 +96,7 @@ fn named_table<D: Folder>(
     folder: &D,
     given: &TableFile,
     place: usize,
-) -> Result<(String, Table), OpenFault>
+) -> Result<(String, Table), FileFault>
     ensures ok { IfOk result (λ table.
         IsTableFrom (D.holds folder.now) given.now (table_of table)) }
     ensures err { IfErr result
@@ -108,7 +108,7 @@ fn named_table<D: Folder>(
     };
     match String::from_str(alloc, given.name.as_str()) {
         Ok(name) => Ok((name, table)),
-        Err(_) => Err(OpenFault::NoMemory),
+        Err(_) => Err(FileFault::NoMemory),
     }
 }
 
@@ -117,11 +117,11 @@ fn table_files<D: Folder>(
     alloc: Global,
     folder: &D,
     given: &[TableFile],
-) -> Result<Vec<(String, Table)>, OpenFault>
+) -> Result<Vec<(String, Table)>, FileFault>
     ensures ok { IfOk result (λ tables.
         AllZip (IsTableFrom (D.holds folder.now)) given.now (map table_of tables.items)) }
     ensures err { IfErr result (λ fault.
-        (fault ≡ OpenFault.NoMemory) ⊎ IsUnopenedFrom (D.holds folder.now) given.now fault) }
+        (fault ≡ FileFault.NoMemory) ⊎ IsUnopenedFrom (D.holds folder.now) given.now fault) }
 {
     let mut tables = Vec::new(alloc);
     for (place, file) in given.iter().enumerate() {
@@ -146,7 +146,7 @@ pub fn open_world<D: Folder>(
     alloc: Global,
     folder: &D,
     files: &WorldFiles,
-) -> Result<World, OpenFault>
+) -> Result<World, FileFault>
     ensures ok { IfOk result
         (IsWorldFrom (D.holds folder.now) files.now) }
     ensures err { IfErr result
@@ -173,7 +173,7 @@ pub fn open_world<D: Folder>(
         files.max_batch,
     ) {
         Ok(world) => Ok(world),
-        Err(fault) => Err(OpenFault::World(fault)),
+        Err(fault) => Err(FileFault::World(fault)),
     }
 }
 
@@ -182,7 +182,7 @@ pub fn open_world<D: Folder>(
 /// # Errors
 ///
 /// `Unread` where it can't be opened, with the reason, and want of memory.
-pub fn open_requests<D: Folder>(folder: &D, path: &str) -> Result<D::File, OpenFault>
+pub fn open_requests<D: Folder>(folder: &D, path: &str) -> Result<D::File, FileFault>
     ensures ok { IfOk result (λ file.
         IsAllOf (D.holds folder.now path.now) (D.File.remaining file)) }
     ensures err { IfErr result (IsUnread Requests) }
@@ -198,7 +198,7 @@ pub fn open_requests<D: Folder>(folder: &D, path: &str) -> Result<D::File, OpenF
 /// # Errors
 ///
 /// `Uncreated` with the reason, and want of memory.
-pub fn create_trace<D: Folder>(folder: &mut D, path: &str) -> Result<D::Created, OpenFault>
+pub fn create_trace<D: Folder>(folder: &mut D, path: &str) -> Result<D::Created, FileFault>
     ensures empty { IfOk result
         (λ file. D.Created.contents file ≡ D.fresh) }
     ensures created { OnOk result
@@ -209,7 +209,7 @@ pub fn create_trace<D: Folder>(folder: &mut D, path: &str) -> Result<D::Created,
 {
     match folder.create(path) {
         Ok(created) => Ok(created),
-        Err(error) if error.kind() == ErrorKind::OutOfMemory => Err(OpenFault::NoMemory),
-        Err(error) => Err(OpenFault::Uncreated(error)),
+        Err(error) if error.kind() == ErrorKind::OutOfMemory => Err(FileFault::NoMemory),
+        Err(error) => Err(FileFault::Uncreated(error)),
     }
 }

@@ -5,7 +5,7 @@ ghost use Rattle.std.specs.String.{from_utf8_error_vec};
 ghost use Rattle.world_files.specs.Opening.{IsTextOf, IsSheetOf, IsUnread, IsUnopened, IsWholeOrLong, reason_of};
 
 use crate::bounded::{BoundedReader, too_long};
-use crate::fault::{InputFile, OpenFault};
+use crate::fault::{FileFault, InputFile};
 use csv_source::{Table, TableFault};
 use gq_lexer::MAX_BYTES;
 use std::alloc::Global;
@@ -19,15 +19,15 @@ const SCHEMA_FRONT: u64 = 1_048_580;
 const MAX_TABLE: u32 = 4_294_967_295;
 
 /// Returns what a failed call on a file is. Want of memory is in no file.
-pub fn unread(file: InputFile, reason: io::Error) -> OpenFault
+pub fn unread(file: InputFile, reason: io::Error) -> FileFault
     ensures unread { IsUnread file result }
-    ensures reason { (result ≡ OpenFault.NoMemory)
-        ⊎ (result ≡ OpenFault.Unread file reason) }
+    ensures reason { (result ≡ FileFault.NoMemory)
+        ⊎ (result ≡ FileFault.Unread file reason) }
 {
     if reason.kind() == ErrorKind::OutOfMemory {
-        return OpenFault::NoMemory;
+        return FileFault::NoMemory;
     }
-    OpenFault::Unread { file, reason }
+    FileFault::Unread { file, reason }
 }
 
 // Returns what is said of a file that is no text, as the library says it.
@@ -97,15 +97,15 @@ pub fn read_schema<R: Read + Drop>(alloc: Global, reader: R) -> io::Result<Strin
 }
 
 // Returns what a refused table is. Of a file that couldn't be read its reader has kept the reason.
-fn open_fault_of(place: usize, fault: TableFault, kept: Option<io::Error>) -> OpenFault
-    ensures { result ≡ OpenFault.Table place fault
+fn open_fault_of(place: usize, fault: TableFault, kept: Option<io::Error>) -> FileFault
+    ensures { result ≡ FileFault.Table place fault
         (reason_of fault kept) }
 {
     let reason = match fault {
         TableFault::ReadFault => kept,
         _ => None,
     };
-    OpenFault::Table {
+    FileFault::Table {
         place,
         fault,
         reason,
@@ -121,7 +121,7 @@ pub fn read_table<R: Read + Drop>(
     alloc: Global,
     reader: R,
     place: usize,
-) -> Result<Table, OpenFault>
+) -> Result<Table, FileFault>
     ensures ok { IfOk result
         (IsSheetOf (R.remaining reader)) }
     ensures err { IfErr result

@@ -5,7 +5,7 @@ ghost use Rattle.world.specs.Sources.{TableOf};
 ghost use Rattle.world.specs.Worlds.{IsWorld};
 ghost use Rattle.world_files.specs.Opening.{IsTableRefused, IsUnmade};
 
-use crate::fault::OpenFault;
+use crate::fault::FileFault;
 use csv_source::Table;
 use std::alloc::Global;
 use world::World;
@@ -50,7 +50,7 @@ const TABLES: [(&str, &[u8]); 4] = [
 ];
 
 // The tables, read.
-fn sample_tables(alloc: Global) -> Result<Vec<(String, Table)>, OpenFault>
+fn sample_tables(alloc: Global) -> Result<Vec<(String, Table)>, FileFault>
     ensures err { IfErr result IsTableRefused }
 {
     let mut tables = Vec::new(alloc);
@@ -58,7 +58,7 @@ fn sample_tables(alloc: Global) -> Result<Vec<(String, Table)>, OpenFault>
         let table = match Table::read(alloc, text) {
             Ok(table) => table,
             Err(fault) => {
-                return Err(OpenFault::Table {
+                return Err(FileFault::Table {
                     place,
                     fault,
                     reason: None,
@@ -75,7 +75,7 @@ fn sample_tables(alloc: Global) -> Result<Vec<(String, Table)>, OpenFault>
 /// # Errors
 ///
 /// Only when out of memory, since its parts are accepted.
-pub fn sample_world(alloc: Global) -> Result<World, OpenFault>
+pub fn sample_world(alloc: Global) -> Result<World, FileFault>
     ensures ok { IfOk result (λ world.
         (tables : List TableOf) × IsWorld SCHEMA.now BINDINGS.now tables None world) }
     ensures err { IfErr result (IsUnmade None) }
@@ -86,6 +86,6 @@ pub fn sample_world(alloc: Global) -> Result<World, OpenFault>
     };
     match World::new(alloc, SCHEMA, BINDINGS, tables, None) {
         Ok(world) => Ok(world),
-        Err(fault) => Err(OpenFault::World(fault)),
+        Err(fault) => Err(FileFault::World(fault)),
     }
 }

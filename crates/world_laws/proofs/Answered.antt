@@ -2,22 +2,21 @@
 use Rattle.std.proofs.Common.{◌≡◌, ◌≢◌, ◌⊎◌, ◌≤◌, ◌<◌, ◌+◌, ℕ, zero, suc, List, [], ◌∷◌, All, map, length, inl, inr, sym, ◌∙◌, ap, subst, refl, Option, Some, None, arith}
 use Rattle.std.specs.Prelude.{slice_get}
 use Rattle.std.proofs.lemmas.List.{length-map}
-use Rattle.std.proofs.lemmas.List.Elements.{All-nil, All-cons, All-head, All-tail}
-use Rattle.load_memory.specs.Keys.{KeyOf, folded}
+use Rattle.std.proofs.lemmas.List.Elements.{All-head, All-tail}
+use Rattle.load_memory.specs.Keys.{KeyOf}
 use Rattle.load_memory.specs.Outcomes.{ItemOf, OutcomeOf}
 use Rattle.load_memory.specs.Replies.{ReplyOf}
 use Rattle.load_queue.specs.Answers.{given, outcomes_of}
 use Rattle.load_queue.specs.Loaders.{LoaderOf}
 use Rattle.load_queue.specs.Orders.{OrderOf}
 use Rattle.csv_source.specs.Tables.{SourceOf, item_of_key}
-use Rattle.csv_source.specs.KeyLaws.{item_of_key-folded}
 use Rattle.gq_bindings.specs.Tree as bindings
-use Rattle.execution.specs.Loads.{Load, Memory, mode_at, read, AnswersMore}
+use Rattle.execution.specs.Loads.{Load, read, AnswersMore}
 use Rattle.execution.specs.Program.{Program, tree, chain}
 use Rattle.execution.specs.Front.{front, keys_for}
 use Rattle.execution.specs.Completion.{AnsweredOf}
 use Rattle.execution.specs.Executed.{completed}
-use Rattle.execution.specs.Rounds.{RuleOf, rule_of, modes_of, may_at, key_by_key, round_orders, orders_from, IsReply, AreReplies, after_round, AreRounds, without_failed, direct, RespectsCacheKeys, HoldsItems, AreLimited, HasLoaders}
+use Rattle.execution.specs.Rounds.{rule_of, may_at, round_orders, orders_from, IsReply, AreReplies, without_failed, direct, RespectsCacheKeys, HoldsItems, AreLimited, HasLoaders}
 use Rattle.execution.specs.Sessions.{Forgot, AskedLoads}
 use Rattle.execution.proofs.Monotone.{exec-whole, front-open}
 use Rattle.execution.proofs.RoundLaws.{rounds-chain}
@@ -27,7 +26,7 @@ use Rattle.plan_program.specs.PlanPrograms.{plan_program}
 use Rattle.load_rounds.specs.Sessions.{StateOf, state_of, rules_of, session_modes, after_step}
 use Rattle.load_rounds.specs.Calls.{RoundRan}
 use Rattle.execution.specs.Executes.{IsTextOf}
-use Rattle.load_rounds.specs.KeyByKey.{CompareAlike, item_of_loader, item_over}
+use Rattle.load_rounds.specs.KeyByKey.{item_over}
 use Rattle.gq_resolve.specs.PlanLoads.{plan-loads}
 use Rattle.gq_resolve.specs.Within.{text_within}
 use Rattle.load_rounds.proofs.Following.{InRounds, in-none, in-more, in-all}
@@ -36,7 +35,7 @@ use Rattle.load_rounds.proofs.Numbering.{orders-below, orders-loads}
 use Rattle.world.specs.Worlds.{WorldOf, IsLimit, HasSources}
 use Rattle.world_answers.specs.Answers.{may_tell, IsAnsweredAnew}
 use Rattle.world_answers.specs.Services.{ServiceOf}
-use Rattle.world_answers.specs.Sessions.{loader_over, loaders_over, session_over, IsOver}
+use Rattle.world_answers.specs.Sessions.{loaders_over, session_over, IsOver}
 use Rattle.world_answers.proofs.Direct.{over-alike, over-held, answer-direct}
 use Rattle.world_answers.proofs.Loading.{length-over}
 use Rattle.world_answers.proofs.Restarting.{over-new}

@@ -1,5 +1,5 @@
 -- Each line has an answer.
-use Rattle.std.proofs.Common.{◌≡◌, ◌≢◌, ◌<◌, ◌≤◌, ◌^◌, length, arith, cond, refl, sym, ap, subst, ◌∙◌, ℕ, Bool, true, false, List, [], ◌∷◌, map, ◌⊎◌, Option, Some, None, Result, Ok, Err, inl, inr, IsUtf8, string_bytes}
+use Rattle.std.proofs.Common.{◌≡◌, ◌≢◌, ◌<◌, ◌≤◌, ◌^◌, length, arith, cond, refl, sym, subst, ◌∙◌, ℕ, Bool, true, false, List, [], ◌∷◌, map, ◌⊎◌, Option, Some, None, Result, Ok, Err, inl, inr, IsUtf8}
 use Rattle.std.specs.Option.{option_map, option_and_then}
 use Rattle.std.specs.Prelude.{find, nat_lt, nat_le}
 use Rattle.std.specs.Str.{is_utf8}
@@ -10,33 +10,32 @@ use Rattle.serde_json.specs.Find.{as_array}
 use Rattle.serde_json.specs.Read.{read}
 use Rattle.gq_parser.specs.declared.fault.ParseFault.{ParseFault}
 use Rattle.gq_parser.specs.declared.fault.ParseFault.TheVariants as parse
-use Rattle.gq_parser.specs.Fault.{IsDocumentOf, IsParseFault}
+use Rattle.gq_parser.specs.Fault.{IsDocumentOf}
 use Rattle.gq_parser.specs.Tree.{Document, VariableDefinition, Operation}
 use Rattle.schema_syntax.specs.Tree.{Definition}
 use Rattle.gq_schema.specs.Types.{tree_of}
-use Rattle.gq_schema.specs.Inputs.{Input}
 use Rattle.gq_variables.specs.Variables.{VariableOf}
 use Rattle.gq_variables.specs.Values as values
 use Rattle.rules_parts.specs.Listing.{parts_of}
 use Rattle.gq_check.specs.declared.fault.CheckFault.TheVariants as check
 use Rattle.gq_check.specs.declared.fault.PrepareFault.TheVariants as prepare
 use Rattle.gq_check.specs.Plans.{PlanOf}
-use Rattle.gq_check.specs.Prepared.{PreparedOf, FaultOf as Unprepared, no_such_operation, operation_needed, variables_not_object, bad_variable, is_operation, found_operation, only_operation, chosen_operation, with_variables, prepared_operation, prepared}
+use Rattle.gq_check.specs.Prepared.{PreparedOf, FaultOf as Unprepared, no_such_operation, operation_needed, variables_not_object, bad_variable, is_operation, found_operation, chosen_operation, with_variables, prepared_operation, prepared}
 use Rattle.gq_check.specs.Verdict.{FaultOf, Breaks, TooComplex, TooDeep, NotServed, IsVerdict, IsValid}
 use Rattle.load_rounds.specs.SharedRounds.{ReportOf}
 use Rattle.request_line.specs.Requests.{RequestOf, asked, asked_each, most_requests, IsRequest, AreRequests, IsNoRequest}
 use Rattle.plan_requests.specs.declared.fault.RequestFault.{RequestFault}
 use Rattle.plan_requests.specs.declared.fault.RequestFault.TheVariants as fault
-use Rattle.plan_requests.specs.Requests.{IsPlanOf, IsInvalid, IsUnprepared, IsRequestFault, is_want_of_memory, request_message, request_place}
+use Rattle.plan_requests.specs.Requests.{IsRequestFault, is_want_of_memory, request_message, request_place}
 use Rattle.world.specs.Worlds.{HasSources}
 use Rattle.plan_requests.specs.Servers.{ServerOf}
-use Rattle.plan_requests.specs.Planning.{values_of, IsPlanned, IsFaulty, refusal_text, not_a_request, PlanValues}
+use Rattle.plan_requests.specs.Planning.{values_of, refusal_text, not_a_request, PlanValues}
 use Rattle.world_answers.specs.Answers.{IsAnsweredAnew, AnswersRequest, faulty, planned}
 use Rattle.server.specs.Arrays.{array_text, in_places}
 use Rattle.world_answers.specs.Arrays.{AnswersArray}
 use Rattle.world_answers.specs.Lines.{IsAnswer, no_request, request, several}
 use Rattle.world_answers.specs.Services.{ServiceOf, server_in}
-use Rattle.server.proofs.Values.{plans-bound}
+use Rattle.plan_requests.proofs.Values.{plans-bound}
 use Rattle.world_answers.proofs.Values.{array-answered}
 use Rattle.world_laws.specs.Requests.{IsPlanFor, IsRefusedOrAnswered, invalid, unprepared, answered}
 use Rattle.world_laws.proofs.Telling.{outcome-there}
@@ -152,7 +151,7 @@ module _ (s : ServiceOf) (has : HasSources s.world) (r : RequestOf) (called : Ma
     of-unprepared operation_needed said valid e = at-fault (fault.Prepare prepare.OperationNeeded) refl (record { document = d; says = says; valid = valid; fault = e })
     of-unprepared variables_not_object said valid e = at-fault (fault.Prepare prepare.VariablesNotObject) refl (record { document = d; says = says; valid = valid; fault = e })
     of-unprepared (bad_variable n) said valid e =
-        at-fault (fault.Prepare (prepare.BadVariable said.0)) refl (record { document = d; says = says; valid = valid; fault = subst (λ m. want ≡ Err (bad_variable m)) (sym said.1) e })
+        at-fault (fault.Prepare (prepare.BadVariable n)) refl (record { document = d; says = says; valid = valid; fault = e })
 
     of-plan : (plan : PlanOf) (text : List ℕ) → IsValid defs' d → IsPlanFor s.world d r.operation_name (values_of r.variables) plan → IsAnsweredAnew s plan text → HasAnswer
     of-plan plan text valid is anew =

@@ -1,21 +1,17 @@
 -- Over sources that answer key by key a lawful log is there: while something is missing there is a round to be made, and rounds are
 -- at most as many as direct execution's chain has loads.
-use Rattle.std.proofs.Common.{◌≡◌, ◌≢◌, ◌⊎◌, ◌≤◌, ℕ, zero, suc, Bool, true, false, List, [], ◌∷◌, ◌++◌, map, length, inl, inr, sym, ◌∙◌, ap, refl, Option, Some, None, if◌then◌else◌, eq-eqb, arith}
-use Rattle.std.proofs.lemmas.List.{length-map}
-use Rattle.std.specs.Option.{option_or}
-use Rattle.load_memory.specs.Keys.{KeyOf, folded}
+use Rattle.std.proofs.Common.{◌≡◌, ◌≢◌, ◌⊎◌, ◌≤◌, ℕ, zero, suc, false, List, [], ◌∷◌, ◌++◌, map, length, inl, inr, sym, ◌∙◌, ap, refl, Option, Some, None, if◌then◌else◌, arith}
+use Rattle.load_memory.specs.Keys.{KeyOf}
 use Rattle.load_memory.specs.Outcomes.{ItemOf, OutcomeOf, known}
-use Rattle.load_memory.specs.Pairs.{PairOf, is_at, look}
 use Rattle.load_memory.specs.Replies.{ReplyOf}
-use Rattle.load_memory.specs.declared.key.KeyMode.{KeyMode}
-use Rattle.load_queue.specs.Answers.{AnswerOf, given, outcomes_of}
+use Rattle.load_queue.specs.Answers.{given, outcomes_of}
 use Rattle.load_queue.specs.Orders.{OrderOf}
-use Rattle.execution.specs.Loads.{Load, Memory, Reader, mode_at, read, AnswersMore}
+use Rattle.execution.specs.Loads.{Load, Memory, Reader, read, AnswersMore}
 use Rattle.execution.specs.Program.{Program, Programs, Is, Read, Under, End, With, tree, trees, chain, all_chain}
 use Rattle.execution.specs.Completion.{AnsweredOf, is_open, any_open}
 use Rattle.execution.specs.Front.{front}
 use Rattle.execution.specs.Executed.{exec, completed}
-use Rattle.execution.specs.Rounds.{RuleOf, modes_of, key_by_key, round_orders, IsReply, AreReplies, reply_pairs, pairs_of, after_round, AreRounds, IsLawful, direct, RespectsCacheKeys, HoldsItems, AreLimited, HasLoaders}
+use Rattle.execution.specs.Rounds.{RuleOf, modes_of, key_by_key, round_orders, AreReplies, after_round, AreRounds, IsLawful, direct, RespectsCacheKeys, HoldsItems, AreLimited, HasLoaders}
 use Rattle.execution.proofs.Monotone.{exec-whole}
 use Rattle.execution.proofs.RoundLaws.{rounds-chain}
 use Rattle.load_rounds.proofs.Holding.{rounds-held}

@@ -1,6 +1,6 @@
 -- The names of a document's parts are written in its text, and those of a schema are strings.
 use Rattle.std.proofs.Common.{◌≡◌, refl, ℕ, ◌+◌, Bool, true, false, cond, ◌||◌, codes, List, [], ◌∷◌, ◌++◌, map, Option, Some, None}
-use Rattle.std.specs.List.{filter_map, flat_map, find}
+use Rattle.std.specs.List.{filter_map, flat_map}
 use Rattle.std.specs.Prelude.{bytes_eq}
 use Rattle.std.specs.Option.{option_map_or}
 use Rattle.gq_parser.specs.Tree as tree
@@ -11,8 +11,7 @@ use Rattle.schema_syntax.specs.declared.tree.Definition as rust
 use Rattle.schema_syntax.specs.declared.tree.Definition.TheVariants as rust-definition
 use Rattle.schema_syntax.specs.declared.tree.FieldDefinition as rust-field
 use Rattle.schema_syntax.specs.declared.tree.ArgumentDefinition as rust-argument
-use Rattle.gq_schema.specs.Types.{tree_of, own_fields, fields_in, field_in, is_field, type_in, defines}
-use Rattle.gq_schema.specs.Implements.{argument_in}
+use Rattle.gq_schema.specs.Types.{tree_of, own_fields, fields_in, is_field, type_in, defines}
 use Rattle.rules_parts.specs.declared.part.Owner.{Owner}
 use Rattle.rules_parts.specs.declared.part.Owner.TheVariants as owner
 use Rattle.rules_parts.specs.declared.part.DirectiveLocation.{DirectiveLocation}
@@ -22,7 +21,7 @@ use Rattle.rules_parts.specs.Parts.{PartsOf}
 use Rattle.rules_parts.specs.Parents.{known_field, inside_operation, inside_field, inside_condition, inside_inline}
 use Rattle.rules_parts.specs.Selections.{selections_in, selections_among, selections_from, selections_below, operation_selections, fragment_selections, document_selections}
 use Rattle.rules_parts.specs.Uses.{uses_in, uses_among, uses_within, argument_uses, item_location}
-use Rattle.rules_parts.specs.Listing.{field_from, field_part, spread_from, spread_part, inline_from, inline_part, fields_in as all_fields, variables_from, operation_variables, variables_in, directives_at, variable_directives, operation_directives, fragment_directives, directives_from, selection_directives, directives_in, condition_argument, directive_definitions, field_arguments, arguments_with, directive_arguments, argument_with, listed_arguments, argument_lists_in, arguments_in, uses_from, parts_of}
+use Rattle.rules_parts.specs.Listing.{field_from, field_part, spread_from, spread_part, inline_from, inline_part, fields_in as all_fields, variables_from, operation_variables, variables_in, directives_at, variable_directives, operation_directives, fragment_directives, directives_from, selection_directives, directives_in, condition_argument, field_arguments, arguments_with, directive_arguments, argument_with, listed_arguments, argument_lists_in, arguments_in, uses_from, parts_of}
 use Rattle.world_laws.proofs.Each.{Each, Maybe, each-append, each-find, each-map, each-filter_map, each-flat_map, maybe-map}
 use Rattle.world_laws.proofs.Names as names
 use Rattle.world_laws.proofs.Names.{DocumentNames}

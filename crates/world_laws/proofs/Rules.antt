@@ -1,19 +1,18 @@
 -- Lemmas on what a rule tells has a name that a string says.
 use Rattle.std.proofs.Common.{◌≡◌, refl, ℕ, ◌+◌, zero, suc, Bool, true, false, cond, not, codes, ◌++◌, List, [], ◌∷◌, map, length, Option, Some, None, subst, sym}
 use Rattle.std.specs.List.{filter, filter_map, flat_map, find, list_any}
-use Rattle.std.specs.Option.{option_map, option_and_then, unwrap_or}
+use Rattle.std.specs.Option.{option_and_then, unwrap_or}
 use Rattle.std.specs.Prelude.{nat_lt, fold}
 use Rattle.text_place.specs.Order.{is_before}
 use Rattle.text_place.specs.declared.place.Place.{Place}
 use Rattle.gq_parser.specs.declared.tree.OperationKind.{OperationKind}
 use Rattle.gq_parser.specs.declared.tree.OperationKind.TheVariants as kind
-use Rattle.gq_parser.specs.Tree.{Value, Argument, Directive, Condition, VariableDefinition, Operation, Fragment, Document}
+use Rattle.gq_parser.specs.Tree.{Value, Argument, Directive, VariableDefinition, Operation, Fragment}
 use Rattle.schema_syntax.specs.Tree as schema
-use Rattle.schema_syntax.specs.Tree.{Definition}
 use Rattle.gq_schema.specs.Coercion.{accepts, place_of}
 use Rattle.gq_schema.specs.Scan.{or_else}
-use Rattle.rules_parts.specs.Broken.{BrokenOf, earlier, with_broken, earliest}
-use Rattle.rules_parts.specs.Parts.{PartsOf, FieldPart, SpreadPart, InlinePart, VariablePart, DirectiveList, ArgumentList, ArgumentPart, VariableUse}
+use Rattle.rules_parts.specs.Broken.{BrokenOf, with_broken, earliest}
+use Rattle.rules_parts.specs.Parts.{PartsOf, FieldPart, ArgumentList, ArgumentPart}
 use Rattle.rules_untyped.specs.Named.{named_variable, named_fragment, named_directive, named_argument}
 use Rattle.rules_untyped.specs.Repeated.{has_name, repeated_behind, repeated}
 use Rattle.rules_untyped.specs.OperationNameUniqueness.{named_operation, operation_name_uniqueness}
@@ -39,7 +38,7 @@ use Rattle.rules_typed.specs.TypeConditions.{condition_of, inline_condition, con
 use Rattle.rules_typed.specs.FragmentSpreadTypeExistence.{unknown_type, fragment_spread_type_existence}
 use Rattle.rules_typed.specs.FragmentsOnCompositeTypes.{leaf_type, fragments_on_composite_types}
 use Rattle.rules_typed.specs.FragmentSpreadIsPossible.{impossible_spread, impossible_condition, impossible_inline, fragment_spread_is_possible}
-use Rattle.rules_typed.specs.ValuesOfCorrectType.{is_wrong, wrong_argument, wrong_default, wrong_variable, values_of_correct_type}
+use Rattle.rules_typed.specs.ValuesOfCorrectType.{is_wrong, wrong_argument, wrong_variable, values_of_correct_type}
 use Rattle.rules_typed.specs.VariablesAreInputTypes.{non_input_variable, variables_are_input_types}
 use Rattle.rules_typed.specs.AllVariableUsagesAreAllowed.{forbidden_usage, all_variable_usages_are_allowed}
 use Rattle.rules_spreads.specs.Graphs.{GraphOf, graph_of}
@@ -50,10 +49,10 @@ use Rattle.merging_pairs.specs.Merging.{Fields}
 use Rattle.merging_members.specs.Members.{SetOf}
 use Rattle.merging_fields.specs.Compare.{response_key}
 use Rattle.merging_fields.specs.Members.{at}
-use Rattle.merging_fields.specs.FieldSelectionMerging.{AreBroken, none, merges, fails, key_of, IsMerging}
+use Rattle.merging_fields.specs.FieldSelectionMerging.{AreBroken, none, merges, fails, key_of}
 use Rattle.gq_check.specs.declared.fault.Rule.{Rule}
 use Rattle.gq_check.specs.declared.fault.Rule.TheVariants as rule
-use Rattle.gq_check.specs.Verdict.{FaultOf, Breaks, TooComplex, TooDeep, NotServed, breaks, report, served_fault, operations_fault, fields_fault, arguments_fault, fragments_fault, spreads_fault, values_fault, directives_fault, variables_fault, rules_fault, limits_fault, first_fault, IsVerdictAfter, IsVerdict}
+use Rattle.gq_check.specs.Verdict.{FaultOf, Breaks, TooComplex, TooDeep, NotServed, breaks, report, served_fault, operations_fault, fields_fault, arguments_fault, fragments_fault, spreads_fault, directives_fault, variables_fault, rules_fault, limits_fault, first_fault, IsVerdictAfter}
 use Rattle.world_laws.proofs.Each.{Each, Maybe, each-append, each-filter, each-find, each-map, each-filter_map, each-flat_map, maybe-map, maybe-and_then}
 use Rattle.world_laws.proofs.Written.{IsWritten}
 use Rattle.world_laws.proofs.Strings.{IsSaid, said-name, said-variable, said-word}

@@ -23,7 +23,7 @@ use Rattle.world.specs.Worlds.{WorldOf, HasSources}
 use Rattle.world_answers.specs.Answers.{may_tell}
 use Rattle.world_answers.specs.Arrays.{AnswersTogether}
 use Rattle.world_answers.specs.Services.{ServiceOf}
-use Rattle.world_answers.specs.Sessions.{loaders_over, session_over}
+use Rattle.world_answers.specs.Sessions.{session_over}
 use Rattle.world_answers.proofs.Restarting.{over-new}
 use Rattle.world_laws.proofs.Answered.{limited, over-loaders, Done, rounds-end, text_over, text-reported, plan-within}
 

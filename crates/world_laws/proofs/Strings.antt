@@ -1,6 +1,6 @@
 -- A text of UTF-8 is that of a string, where it isn't too long for one.
 use Rattle.std.proofs.Common.{◌≡◌, ◌<◌, ◌≤◌, ◌^◌, ◌+◌, ◌++◌, codes, ltb, true, ℕ, List, [], ◌∷◌, length, IsUtf8, refl, arith, All}
-use Rattle.std.specs.Global.{Vec, Global}
+use Rattle.std.specs.Global.{Global}
 use Rattle.std.specs.Prelude.{string_bytes}
 use Rattle.std.specs.declared.string.String.{String}
 use Rattle.std.specs.List.{list_all}
@@ -10,7 +10,6 @@ use Rattle.std.proofs.lemmas.Str.{IsUtf8-from_ascii, IsAscii-append}
 use Rattle.std.proofs.lemmas.Str.Ascii.{IsAscii-from_all}
 use Rattle.std.proofs.lemmas.List.{length-append}
 use Rattle.std.proofs.lemmas.List.Elements.{All-nil, All-cons}
-use Rattle.gq_parser.specs.Fault.{most_bytes}
 use Rattle.world_laws.proofs.Written.{IsWritten}
 use denote.RawPtr.{null_ptr}
 

@@ -1,5 +1,5 @@
 -- A name in a text is short, and ASCII.
-use Rattle.std.proofs.Common.{◌≡◌, ℕ, ◌+◌, ◌-◌, ◌<◌, ◌≤◌, Bool, true, List, [], ◌∷◌, ◌++◌, length, drop, All, slice_range, refl, sym, ap, subst, ◌∙◌, arith, map}
+use Rattle.std.proofs.Common.{◌≡◌, ℕ, ◌+◌, ◌-◌, ◌<◌, ◌≤◌, true, List, [], ◌∷◌, ◌++◌, length, drop, All, slice_range, refl, sym, ap, subst, ◌∙◌, arith}
 use Rattle.std.specs.List.{list_all}
 use Rattle.std.specs.Str.{IsAscii}
 use Rattle.std.proofs.lemmas.Str.Ascii.{IsAscii-from_all}
@@ -7,14 +7,13 @@ use Rattle.std.proofs.lemmas.Bool.{and_parts}
 use Rattle.std.proofs.lemmas.Bool.Decides.{nat_tests}
 use Rattle.std.proofs.lemmas.List.{take_at, drop_at, drop-drop, length-append, length-drop}
 use Rattle.std.proofs.lemmas.List.Elements.{All-nil, All-cons}
-use Rattle.gq_lexer.specs.declared.token.TokenKind.{TokenKind}
 use Rattle.gq_lexer.specs.declared.token.TokenKind.TheVariants as kind
 use Rattle.gq_lexer.specs.declared.token.Token as lexer
 use Rattle.gq_lexer.specs.declared.scan.ScannedKind.{ScannedKind}
 use Rattle.gq_lexer.specs.declared.scan.ScannedKind.TheVariants as shape
 use Rattle.gq_lexer.specs.Characters.{is_name_start, is_name_continue}
 use Rattle.gq_lexer.specs.Grammar.{IsPart, IsName}
-use Rattle.gq_lexer.specs.Tokens.{Part, Reads, tokens_from, token_of, AreTokens, bytes_of}
+use Rattle.gq_lexer.specs.Tokens.{Part, Reads, tokens_from, token_of, AreTokens}
 use Rattle.gq_parser.specs.Word.{tokens_of}
 use Rattle.gq_parser.specs.Fault.{IsDocumentOf, most_bytes}
 use Rattle.gq_parser.specs.Tree.{Document}

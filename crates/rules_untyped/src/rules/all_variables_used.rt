@@ -12,7 +12,7 @@ ghost use Rattle.rules_untyped.specs.VariableUseIndex.{number_by};
 ghost use Rattle.rules_untyped.specs.SpanSteps.{unused_by, TellsUnused};
 
 use crate::spans::{has_if, using_sets};
-use crate::variable_use_index::{Numbers, VariableUseIndex};
+use crate::variable_use_index::{VariableNumbers, VariableUseIndex};
 use crate::variable_uses::VariableUses;
 use gq_parser::Operation;
 use rules_parts::{EarliestViolation, Violation};
@@ -22,7 +22,7 @@ use std::alloc::{AllocError, Global};
 // Reports the variables that this operation never uses.
 fn add_unused<'d>(
     operation: &'d Operation,
-    names: &Numbers,
+    names: &VariableNumbers,
     used: &[OperationSet],
     number: usize,
     earliest: &mut EarliestViolation<'d>,

@@ -1,4 +1,4 @@
-use Rattle.std.proofs.Common.{◌<◌, arith, length, refl, sym}
+use Rattle.std.proofs.Common.{◌<◌, ap, arith, length, refl, sym}
 use Rattle.std.proofs.lemmas.List.{append-nil}
 use Rattle.std.proofs.lemmas.List.Elements.{All-nil}
 use Rattle.std.proofs.lemmas.Result.{on_ok_weaker}
@@ -10,7 +10,7 @@ use Rattle.flat_outcomes.proofs.outcomes.write_outcome.Goals as goal
 pub returns-in_ok-push-in-Rows-clause-few : goal.returns-in_ok-push-in-Rows-clause-few
 returns-in_ok-push-in-Rows-clause-few c =
     let counted = c.in_ok-count_below-in-Rows.ensures in
-    let below : length c.deref.result.now < batch_mark = omega (arith, counted.below, counted.ok, c.len.ensures, c.deref.ensures.len) in
+    let below : length c.deref.result.now < batch_mark = omega (arith, counted.below, counted.ok, c.len.ensures, ap length c.deref.ensures.value) in
     rw (c.in-Rows.is, ← c.deref.ensures.value)
     (on_ok_weaker c.write_rows.result (λ (narrow : All IsNarrow c.deref.result.now). (below, narrow)) c.write_rows.ensures.narrow)
 

@@ -1,6 +1,6 @@
 use Rattle.std.proofs.Common.{◌≡◌, ◌∙◌, ap}
-use Rattle.gq_parser.specs.Tree.{Array, literal_of, map_literals}
-use Rattle.gq_parser.proofs.Views.{the_literal, type_list, literal_list}
+use Rattle.gq_parser.specs.Tree.{Array, the_literal, literal_of, map_literals}
+use Rattle.gq_parser.proofs.Views.{type_list, literal_list}
 use Rattle.gq_parser.specs.declared.tree.Value.{Value}
 use Rattle.gq_schema.proofs.coercion.+accepts.Goals as goal
 

@@ -1,4 +1,4 @@
-use Rattle.std.proofs.Common.{◌≡◌, ◌++◌, ℕ, map, length}
+use Rattle.std.proofs.Common.{◌≡◌, ◌++◌, map, length}
 use Rattle.load_memory.specs.Keys.{key_of}
 use Rattle.load_queue.specs.Orders.{order_of}
 use Rattle.load_queue.proofs.PieceLaws.{left}

@@ -1,5 +1,5 @@
 use Rattle.std.proofs.Common.{◌≡◌, ◌∙◌, ◌==◌, sym, ap, refl, List, [], ◌∷◌, length, drop, drop_of_length-le, arith}
-use Rattle.gq_parser.specs.Tree.{Values, no_value, Members, no_member, map_literals, map_members}
+use Rattle.gq_parser.specs.Tree.{no_value, no_member, map_literals, map_members}
 use Rattle.gq_parser.specs.declared.tree.Literal.{Literal}
 use Rattle.gq_parser.specs.declared.tree.Argument.{Argument}
 use Rattle.merging_arguments.specs.Same.{same_values, same_members}

@@ -2,7 +2,7 @@ use Rattle.std.proofs.Common.{◌∷◌, ◌≡◌, ◌∙◌, sym, ap, subst, �
 use Rattle.std.specs.Prelude.{find}
 use Rattle.gq_parser.specs.declared.tree.Selection.{Selection}
 use Rattle.gq_parser.specs.Tree as tree
-use Rattle.gq_parser.specs.Tree.{and_selection, set_of, selection_of, map_selections, condition_if, directives_of}
+use Rattle.gq_parser.specs.Tree.{and_selection, set_of, selection_of, map_selections}
 use Rattle.gq_parser.proofs.Views.{of_set, of_inline, selection_spread, selection_inline}
 use Rattle.merging_members.specs.declared.meeting.Met.{Met}
 use Rattle.merging_members.specs.declared.meeting.Came.{Came}
@@ -42,7 +42,7 @@ come_past-returns-in-Some-fragment_met-clause-spread t c = λ test passes.
     let name = c.as_str.result.now in
     let pass : spreads_from test (selection_of c.args.selection.now) ≡ test name =
     ap (λ (s : Selection). spreads_from test (selection_of s)) c.in-Spread.is
-    ∙ (ap (λ (s : tree.Selection). spreads_from test s) (selection_spread c.in-Spread.spread) ∙ ap test (sym c.as_str.ensures.value)) in
+    ∙ (ap (λ (s : tree.Selection). spreads_from test s) (selection_spread c.in-Spread.spread) ∙ ap test (sym c.as_str.ensures)) in
     subst (λ (o : Option Met). IsSpread place test o) c.in-Some-fragment_met.is (c.fragment_met.ensures.spread test (sym pass ∙ passes))
 
 pub come_past-returns-in-Inline-clause-met : goal.come_past-returns-in-Inline-clause-met

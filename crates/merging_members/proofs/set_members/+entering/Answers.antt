@@ -14,10 +14,10 @@ enter-returns-in-Spread-clause-reached t c = λ spread test ms knows passes is.
     let name = c.as_str.result.now in
     let same : members_from spread c.args.number (selection_of c.args.selection.now) ≡ spread name =
     ap (λ (s : Selection). members_from spread c.args.number (selection_of s)) c.in-Spread.is
-    ∙ (ap (λ (s : tree.Selection). members_from spread c.args.number s) (selection_spread c.in-Spread.spread) ∙ ap spread (sym c.as_str.ensures.value)) in
+    ∙ (ap (λ (s : tree.Selection). members_from spread c.args.number s) (selection_spread c.in-Spread.spread) ∙ ap spread (sym c.as_str.ensures)) in
     let pass : spreads_from test (selection_of c.args.selection.now) ≡ test name =
     ap (λ (s : Selection). spreads_from test (selection_of s)) c.in-Spread.is
-    ∙ (ap (λ (s : tree.Selection). spreads_from test s) (selection_spread c.in-Spread.spread) ∙ ap test (sym c.as_str.ensures.value)) in
+    ∙ (ap (λ (s : tree.Selection). spreads_from test s) (selection_spread c.in-Spread.spread) ∙ ap test (sym c.as_str.ensures)) in
     rw same (c.add_fragment.ensures spread ms (knows name (sym pass ∙ passes)) is)
 
 pub enter-returns-in-Inline-clause-reached : goal.enter-returns-in-Inline-clause-reached

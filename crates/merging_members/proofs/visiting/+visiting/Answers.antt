@@ -22,7 +22,7 @@ pub visit-returns-in-Spread-clause-reached : goal.visit-returns-in-Spread-clause
 visit-returns-in-Spread-clause-reached t c = λ spread ms knows is.
     let same : members_from spread c.args.number (selection_of c.args.selection.now) ≡ spread c.as_str.result.now =
     ap (λ (s : Selection). members_from spread c.args.number (selection_of s)) c.in-Spread.is
-    ∙ (ap (λ (s : tree.Selection). members_from spread c.args.number s) (selection_spread c.in-Spread.spread) ∙ ap spread (sym c.as_str.ensures.value)) in
+    ∙ (ap (λ (s : tree.Selection). members_from spread c.args.number s) (selection_spread c.in-Spread.spread) ∙ ap spread (sym c.as_str.ensures)) in
     rw same (c.add_fragment.ensures spread ms (knows c.as_str.result.now) is)
 
 pub visit-returns-in_ok-inside-in-Inline-clause-reached : goal.visit-returns-in_ok-inside-in-Inline-clause-reached

@@ -2,8 +2,8 @@ use Rattle.std.proofs.Common.{◌≡◌, ◌∙◌, ◌+◌, sym, ap, arith, map
 use Rattle.std.specs.Option.{option_map}
 use Rattle.std.proofs.lemmas.List.{drop_all}
 use Rattle.gq_parser.specs.declared.tree.Value.{Value}
-use Rattle.gq_parser.specs.Tree.{Array, type_of, literal_of, map_literals, values_of}
-use Rattle.gq_parser.proofs.Views.{the_literal, type_named, type_list, literal_list}
+use Rattle.gq_parser.specs.Tree.{Array, the_literal, type_of, literal_of, map_literals, values_of}
+use Rattle.gq_parser.proofs.Views.{type_named, type_list, literal_list}
 use Rattle.gq_schema.specs.declared.input.Input.{Input}
 use Rattle.gq_schema.specs.Inputs.{input_of}
 use Rattle.gq_schema.specs.Coercion.{all_items}

@@ -1,10 +1,9 @@
-use Rattle.std.proofs.Common.{◌≡◌, ap, refl, ◌<◌, ◌+◌, List, Some, arith}
+use Rattle.std.proofs.Common.{◌≡◌, ap, refl, ◌<◌, ◌+◌, List, arith}
 use Rattle.gq_parser.specs.declared.tree.Selection.{Selection}
 use Rattle.gq_parser.specs.Tree.{and_selection, selection_of, map_selections}
 use Rattle.gq_check.specs.Plans.{plan_of}
 use Rattle.plan_program.specs.declared.collection.Rest.{Rest}
-use Rattle.plan_program.specs.Collecting.{collected_of, Collects}
-use Rattle.plan_program.specs.Steps.{steps_if, steps_one, steps_inside}
+use Rattle.plan_program.specs.Collecting.{collected_of}
 use Rattle.plan_program.proofs.Rests.{rests-last, steps-last, rests-inside, steps-inside}
 use Rattle.plan_program.proofs.collection.collect_first.Goals as goal
 

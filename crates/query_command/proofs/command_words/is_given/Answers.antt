@@ -1,4 +1,4 @@
-use Rattle.std.proofs.Common.{subst, Bool, Option, List, ℕ}
+use Rattle.std.proofs.Common.{subst, Option, List, ℕ}
 use Rattle.clap.specs.Words.{found_of, one_text}
 use Rattle.clap.proofs.WalkLemmas.{one_text-rows}
 use Rattle.query_command.specs.Words.{IsFlag}

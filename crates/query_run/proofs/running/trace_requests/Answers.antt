@@ -1,4 +1,4 @@
-use Rattle.std.proofs.Common.{inl, inr, refl, sym, ◌∙◌, ap}
+use Rattle.std.proofs.Common.{inl, inr, sym, ◌∙◌, ap}
 use Rattle.std.proofs.KnownBytes.{Keeps-refl}
 use Rattle.query_command.specs.Origins.{origin_of}
 use Rattle.server_traces.specs.Tracing.{trace_device}

@@ -1,4 +1,4 @@
-use Rattle.std.proofs.Common.{rules, ◌≡◌, ℕ, [], ◌∷◌, ◌++◌}
+use Rattle.std.proofs.Common.{rules, ◌≡◌, [], ◌∷◌, ◌++◌}
 use Rattle.server_lines.specs.Devices.{device_of}
 use Rattle.server_lines.specs.Lines.{line_feed}
 use Rattle.query_run.proofs.Written.{cut_at_flush, cut_in_second, cut_in_first}

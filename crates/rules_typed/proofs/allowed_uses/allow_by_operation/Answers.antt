@@ -1,4 +1,4 @@
-use Rattle.std.proofs.Common.{◌≡◌, ◌∙◌, ◌++◌, ◌∷◌, [], sym, ap, refl, false, not, Option, Some, None, List, map, string_bytes}
+use Rattle.std.proofs.Common.{◌≡◌, ◌∙◌, ◌++◌, ◌∷◌, [], sym, ap, refl, false, not, Option, Some, None, List, map}
 use Rattle.std.specs.Slice.Iter.{iter_rest}
 use Rattle.std.specs.Iterator.Adapters.{rev_source}
 use Rattle.std.specs.Option.{option_map_or}
@@ -39,7 +39,7 @@ loop-variable-preserved c =
     record {
       behind = item ∷ before.behind;
       all = sym (append_assoc left (item ∷ []) before.behind) ∙ (ap (λ (xs : List VariableDefinition). xs ++ before.behind) (sym c.in-Some.ensures.steps) ∙ before.all);
-      own = λ r lt kind allowed. variable_more (variable_of item) (map variable_of before.behind) (use_at uses r) n (is_listed known (string_bytes item.name) r) (has (set_at old r) n) (has (set_at new r) n)
-          (kind (string_bytes item.name)) (before.own r lt kind allowed) (c.in_ok-allow_by_variable.ensures r n lt c.requires);
+      own = λ r lt kind allowed. variable_more (variable_of item) (map variable_of before.behind) (use_at uses r) n (is_listed known item.name r) (has (set_at old r) n) (has (set_at new r) n)
+          (kind item.name) (before.own r lt kind allowed) (c.in_ok-allow_by_variable.ensures r n lt c.requires);
       others = λ r m lt below other. variable_other m n _ _ (has (set_at old r) m) (has (set_at new r) m) other (c.in_ok-allow_by_variable.ensures r m lt below) ∙ before.others r m lt below other;
     }

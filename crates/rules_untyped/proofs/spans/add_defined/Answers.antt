@@ -19,7 +19,7 @@ loop-variable-preserved c = λ n m.
     let number : List ℕ → Option ℕ = λ q. get_by (λ (p : Bor (List ℕ)). bytes_eq q p.now) c.args.names.now in
     let rest = map variable_of (drop (k + 1) all) in
     let old = c.loop-variable.sets.items in
-    let found = rw c.as_str.ensures.value at c.get.ensures.value in
+    let found = rw c.as_str.ensures at c.get.ensures.value in
     let before = rw (drop-next all k item c.loop-variable-test.true c.variable-item.is) at (c.loop-variable.invariant n m) in
     elim c.match-get.branch [
       | in-Some+in_ok-put w ↦

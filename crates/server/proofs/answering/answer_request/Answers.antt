@@ -3,6 +3,7 @@ use Rattle.std.proofs.lemmas.Result.{IfOk-weaker, on_err_weaker}
 use Rattle.gq_check.specs.Plans.{plan_of}
 use Rattle.request_line.specs.Seen.{request_of}
 use Rattle.plan_requests.specs.Planning.{IsPlanned, IsRefusal}
+use Rattle.plan_requests.proofs.Requests.{planned-valid}
 use Rattle.server.specs.Answers.{refused, planned, stopped}
 use Rattle.server.proofs.answering.answer_request.Goals as goal
 
@@ -13,6 +14,10 @@ pub returns-in-Refused-clause-answered : goal.returns-in-Refused-clause-answered
 returns-in-Refused-clause-answered g c =
     let refusal = rw c.in-Refused.is at c.in_ok-text-2.ensures in
     refused (subst (λ s. IsRefusal s (request_of c.args.request.now) (string_bytes c.in-Refused.text)) c.keep.ensures.server refusal) refl refl
+
+pub answer_plan-requires-clause-prepared : goal.answer_plan-requires-clause-prepared
+answer_plan-requires-clause-prepared g c =
+    planned-valid _ _ _ (rw c.in-Planned.is at c.in_ok-text-2.ensures)
 
 pub returns-in-Planned-clause-answered : goal.returns-in-Planned-clause-answered
 returns-in-Planned-clause-answered g c =

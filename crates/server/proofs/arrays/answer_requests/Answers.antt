@@ -10,7 +10,8 @@ use Rattle.server.specs.Plans.{AreLimited}
 use Rattle.server.proofs.Limits.{limited-asks, enough, answered-stops}
 use Rattle.server.proofs.Loaders.{plans-many}
 use Rattle.server.proofs.Outcomes.{anyway}
-use Rattle.server.proofs.Values.{plans-bound, array-answered}
+use Rattle.plan_requests.proofs.Values.{plans-bound}
+use Rattle.server.proofs.Values.{array-answered}
 use Rattle.server.proofs.arrays.answer_requests.Goals as goal
 
 pub run-requires : goal.run-requires

@@ -1,10 +1,10 @@
-use Rattle.std.proofs.Common.{◌≡◌, ◌∷◌, [], ◌∙◌, ℕ, List, refl, ap, subst, arith}
+use Rattle.std.proofs.Common.{◌≡◌, ◌∷◌, [], ◌∙◌, List, refl, ap, subst, arith}
 use Rattle.std.proofs.lemmas.Result.{IfOk-weaker}
 use Rattle.gq_check.specs.Plans.{PlanOf, plan_of}
 use Rattle.gq_resolve.specs.Counting.{counted}
 use Rattle.request_line.specs.Requests.{IsRequest, AreRequests}
 use Rattle.request_line.specs.Seen.{request_of, requests_of}
-use Rattle.plan_requests.specs.Planning.{IsPlanned, IsRefusal, PlansArray, refusals_of, plans_of}
+use Rattle.plan_requests.specs.Planning.{IsPlanned, PlansArray, refusals_of, plans_of}
 use Rattle.server.specs.Counts.{refused, planned, several, plans_read}
 use Rattle.server.proofs.Counts.{all-enough, seen-enough, one-counted}
 use Rattle.server.proofs.counting.line_read.Goals as goal

@@ -7,7 +7,7 @@ use Rattle.csv_source.specs.Hashes.{bucket_of, in_bucket}
 use Rattle.csv_source.specs.Tables.{rows_of, has_text}
 use Rattle.csv_source.proofs.Links.{length-rows_of, has_text-in_bucket}
 use Rattle.csv_source.proofs.Walks.{walk-start, walk-step, in_bucket-has_text}
-use Rattle.csv_source.proofs.index.ColumnIndex.rows.Goals.{then-is_same+in_ok-of_sheet+in_ok-add, else-is_same}
+use Rattle.csv_source.proofs.index.ColumnIndex.rows.Goals.{then-is_same+in_ok-of_sheet+in_ok-push, else-is_same}
 use Rattle.csv_source.proofs.index.ColumnIndex.rows.Goals as goal
 
 pub loop-after-init : goal.loop-after-init
@@ -21,7 +21,7 @@ loop-after-init c =
     let first = c.self.inside.links.first.items in
     let folded = fold_text mode c.args.text.now in
     rw (← c.self.view_is, place, value) (walk-start (in_bucket mode name) _ first c.self.inside.links.next.items c.self.invariant.linked (has_text mode name folded) (bucket_of mode (length first) folded)
-    (in_bucket-has_text mode name folded (length first)) _ c.new-found.ensures.items (rw value at lt))
+    (in_bucket-has_text mode name folded (length first)) _ c.none-found.ensures (rw value at lt))
 
 pub loop-after-preserved : goal.loop-after-preserved
 loop-after-preserved c =
@@ -41,10 +41,10 @@ loop-after-preserved c =
     let next = get_or_read _ _ _ linked (rw c.deref.ensures.value at here.1) 0 in
     let row : get_or (rows_of s) place [] ≡ paired s.names (get_or s.rows place []) = get_or-map (paired s.names) s.rows place [] [] within in
     rw (← c.self.view_is, next) (walk-step (in_bucket mode name) (rows_of s) first c.self.inside.links.next.items c.self.invariant.linked (has_text mode name folded) (bucket_of mode (length first) folded)
-    (in_bucket-has_text mode name folded (length first)) place c.loop-after.found.items c.if-is_same.found.items lt walk
+    (in_bucket-has_text mode name folded (length first)) place c.loop-after.found c.if-is_same.found lt walk
     (elim c.if-is_same.branch [
-      | then-is_same+in_ok-of_sheet+in_ok-add w ↦
-          rw (sym tested ∙ w.if-is_same.true, w.found-is, w.in_ok-add.ensures, w.in_ok-of_sheet.ensures, row) refl
+      | then-is_same+in_ok-of_sheet+in_ok-push w ↦
+          rw (sym tested ∙ w.if-is_same.true, w.found-is, w.in_ok-push.ensures.ok, w.in_ok-of_sheet.ensures, row) refl
       | else-is_same w ↦
           rw (sym tested ∙ w.if-is_same.false, w.found-is) refl
     ]))

@@ -7,7 +7,7 @@ use Rattle.csv_source.specs.Hashes.{pair_bucket_of, pair_in_bucket}
 use Rattle.csv_source.specs.Tables.{rows_of, has_pair}
 use Rattle.csv_source.proofs.Links.{length-rows_of, has_pair-in_bucket}
 use Rattle.csv_source.proofs.Walks.{walk-start, walk-step, in_bucket-has_pair}
-use Rattle.csv_source.proofs.pair_index.PairIndex.rows.Goals.{then-is_same_pair+in_ok-of_sheet+in_ok-add, else-is_same_pair}
+use Rattle.csv_source.proofs.pair_index.PairIndex.rows.Goals.{then-is_same_pair+in_ok-of_sheet+in_ok-push, else-is_same_pair}
 use Rattle.csv_source.proofs.pair_index.PairIndex.rows.Goals as goal
 
 pub loop-after-init : goal.loop-after-init
@@ -24,7 +24,7 @@ loop-after-init c =
     let one = fold_text mode c.args.one.now in
     let two = fold_text mode c.args.two.now in
     rw (← c.self.view_is, place, value) (walk-start (pair_in_bucket mode name other) _ first c.self.inside.links.next.items c.self.invariant.linked (has_pair mode name other one two) (pair_bucket_of mode (length first) one two)
-    (in_bucket-has_pair mode name other one two (length first)) _ c.new-found.ensures.items (rw value at lt))
+    (in_bucket-has_pair mode name other one two (length first)) _ c.none-found.ensures (rw value at lt))
 
 pub loop-after-preserved : goal.loop-after-preserved
 loop-after-preserved c =
@@ -48,10 +48,10 @@ loop-after-preserved c =
     let next = get_or_read _ _ _ linked (rw c.deref.ensures.value at here.1) 0 in
     let row : get_or (rows_of s) place [] ≡ paired s.names (get_or s.rows place []) = get_or-map (paired s.names) s.rows place [] [] within in
     rw (← c.self.view_is, next) (walk-step (pair_in_bucket mode name other) (rows_of s) first c.self.inside.links.next.items c.self.invariant.linked (has_pair mode name other one two) bucket
-    (in_bucket-has_pair mode name other one two (length first)) place c.loop-after.found.items c.if-is_same_pair.found.items lt walk
+    (in_bucket-has_pair mode name other one two (length first)) place c.loop-after.found c.if-is_same_pair.found lt walk
     (elim c.if-is_same_pair.branch [
-      | then-is_same_pair+in_ok-of_sheet+in_ok-add w ↦
-          rw (sym tested ∙ w.if-is_same_pair.true, w.found-is, w.in_ok-add.ensures, w.in_ok-of_sheet.ensures, row) refl
+      | then-is_same_pair+in_ok-of_sheet+in_ok-push w ↦
+          rw (sym tested ∙ w.if-is_same_pair.true, w.found-is, w.in_ok-push.ensures.ok, w.in_ok-of_sheet.ensures, row) refl
       | else-is_same_pair w ↦
           rw (sym tested ∙ w.if-is_same_pair.false, w.found-is) refl
     ]))

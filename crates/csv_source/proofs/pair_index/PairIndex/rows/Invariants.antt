@@ -10,7 +10,7 @@ invariant-loop-after l =
     let buckets = length l.self-inside.links.first.items in
     let one = fold_text l.self.mode l.one in
     let two = fold_text l.self.mode l.two in
-    IsWalk (has_pair l.self.mode l.self.column l.self.second one two) (pair_in_bucket l.self.mode l.self.column l.self.second buckets (pair_bucket_of l.self.mode buckets one two)) l.self.rows l.place l.found.items
+    IsWalk (has_pair l.self.mode l.self.column l.self.second one two) (pair_in_bucket l.self.mode l.self.column l.self.second buckets (pair_bucket_of l.self.mode buckets one two)) l.self.rows l.place l.found
 
 abbrev pub decreases-loop-after : goal.decreases-loop-after
 decreases-loop-after l = length l.self.rows - l.place

@@ -1,6 +1,5 @@
-use Rattle.std.proofs.Common.{◌≡◌, ◌∙◌, length, sym, refl, string_bytes, arith}
+use Rattle.std.proofs.Common.{◌≡◌, ◌∙◌, length, refl, string_bytes, arith}
 use Rattle.std.proofs.lemmas.Bool.{false≢true}
-use Rattle.load_memory.specs.Cells.{cut}
 use Rattle.load_memory.proofs.CellLaws.{length-cut}
 use Rattle.flat_orders.specs.Written.{size_of}
 use Rattle.flat_orders.proofs.Writing.{size-cut}

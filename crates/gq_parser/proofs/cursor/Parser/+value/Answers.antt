@@ -61,36 +61,36 @@ value-returns-in_err-members-in-Punct-BraceLeft-clause-reads t c =
 pub value-returns-in_ok-text-in-Int-clause-reads : goal.value-returns-in_ok-text-in-Int-clause-reads
 value-returns-in_ok-text-in-Int-clause-reads t c =
     let e = taken c.in_ok-place.ensures (ap says c.in-Int.is) in
-    rw (e, literal_int, c.in_ok-text-in-Int.ensures.ok) (int, λ stack. refl)
+    rw (e, c.new.ensures, literal_int, c.in_ok-text-in-Int.ensures.ok) (int, λ stack. refl)
 
 pub value-returns-in_ok-text-in-Float-clause-reads : goal.value-returns-in_ok-text-in-Float-clause-reads
 value-returns-in_ok-text-in-Float-clause-reads t c =
     let e = taken c.in_ok-place.ensures (ap says c.in-Float.is) in
-    rw (e, literal_float, c.in_ok-text-in-Float.ensures.ok) (float, λ stack. refl)
+    rw (e, c.new-in-Float.ensures, literal_float, c.in_ok-text-in-Float.ensures.ok) (float, λ stack. refl)
 
 pub value-returns-in-Text-clause-reads : goal.value-returns-in-Text-clause-reads
 value-returns-in-Text-clause-reads t c =
     let e = taken c.in_ok-place.ensures (ap says c.in-Text.is) in
-    rw (e, literal_text) (text, λ stack. refl)
+    rw (e, c.new-in-Text.ensures, literal_text, c.from.ensures) (text, λ stack. refl)
 
 pub value-returns-in_ok-name-in-Punct-Dollar-clause-reads : goal.value-returns-in_ok-name-in-Punct-Dollar-clause-reads
 value-returns-in_ok-name-in-Punct-Dollar-clause-reads t c =
     let e = taken c.in_ok-place.ensures (ap says c.in-Punct-Dollar.is ∙ ap Punct (rw c.in-Punct-Dollar.is at c.in-Punct-Dollar.field-0-is)) in
     let name = c.in_ok-name-in-Punct-Dollar.ensures.reads c.args.room in
     let other = not_const c.args.constness (search rules) in
-    (rw (e, name.0.1, literal_variable, other) variable, λ stack. rw (e, other) (name.1 stack))
+    (rw (e, name.0.1, c.new-in-Punct-Dollar.ensures, literal_variable, other) variable, λ stack. rw (e, other) (name.1 stack))
 
 pub value-returns-in_ok-items-in-Punct-BracketLeft-clause-reads : goal.value-returns-in_ok-items-in-Punct-BracketLeft-clause-reads
 value-returns-in_ok-items-in-Punct-BracketLeft-clause-reads t c =
     let e = taken c.in_ok-place.ensures (ap says c.in-Punct-BracketLeft.is ∙ ap Punct (rw c.in-Punct-BracketLeft.is at c.in-Punct-BracketLeft.field-0-is)) in
     let some : c.args.room ≡ suc (c.args.room - 1) = omega arith in
-    (rw (e, literal_list) (array c.in_ok-items-in-Punct-BracketLeft.ensures.reads.0), λ stack. list_opens _ stack some e ∙ c.in_ok-items-in-Punct-BracketLeft.ensures.reads.1 stack ∙ room_back stack _ some)
+    (rw (e, c.new-in-Punct-BracketLeft.ensures, literal_list) (array c.in_ok-items-in-Punct-BracketLeft.ensures.reads.0), λ stack. list_opens _ stack some e ∙ c.in_ok-items-in-Punct-BracketLeft.ensures.reads.1 stack ∙ room_back stack _ some)
 
 pub value-returns-in_ok-members-in-Punct-BraceLeft-clause-reads : goal.value-returns-in_ok-members-in-Punct-BraceLeft-clause-reads
 value-returns-in_ok-members-in-Punct-BraceLeft-clause-reads t c =
     let e = taken c.in_ok-place.ensures (ap says c.in-Punct-BraceLeft.is ∙ ap Punct (rw c.in-Punct-BraceLeft.is at c.in-Punct-BraceLeft.field-0-is)) in
     let some : c.args.room ≡ suc (c.args.room - 1) = omega arith in
-    (rw (e, literal_object) (object c.in_ok-members-in-Punct-BraceLeft.ensures.reads.0), λ stack. object_opens _ stack some e ∙ c.in_ok-members-in-Punct-BraceLeft.ensures.reads.1 stack ∙ room_back stack _ some)
+    (rw (e, c.new-in-Punct-BraceLeft.ensures, literal_object) (object c.in_ok-members-in-Punct-BraceLeft.ensures.reads.0), λ stack. object_opens _ stack some e ∙ c.in_ok-members-in-Punct-BraceLeft.ensures.reads.1 stack ∙ room_back stack _ some)
 
 pub values-returns-in_err-value-clause-reads : goal.values-returns-in_err-value-clause-reads
 values-returns-in_err-value-clause-reads t c =

@@ -34,7 +34,7 @@ returns-in-Ok-Ready-clause-value g c =
     let is : c.begin-session.result.rounds ≡ rounds_of far = rw c.replace.ensures.value at c.begin-session.ensures.rounds in
     let done = rw c.in-Ok-Ready.field-0-is at c.in-Ok-Ready.ensures.turned in
     rw (← c.self.view_is) (gives-answer may (g.P.Execute.fits plan) (g.P.Execute.loaders plan) (g.P.Execute.program plan) far cur c.begin-session.result.rounds at is can
-    c.in-Ok-Ready.ensures.within (g.P.Execute.text_of plan) c.turn.new.self (record { text = c.in-Ok-Ready.text; rounds = c.begin-session.result.rounds }) c.begin-session.ensures.limited refl done.0 done.1 done.2)
+    c.in-Ok-Ready.ensures.may.0 (g.P.Execute.text_of plan) c.turn.new.self (record { text = c.in-Ok-Ready.text; rounds = c.begin-session.result.rounds }) c.in-Ok-Ready.ensures.may.1 refl done.0 done.1 done.2)
 
 pub returns-in-Some-clause-again : goal.returns-in-Some-clause-again
 returns-in-Some-clause-again g c =
@@ -75,7 +75,7 @@ returns-in-Some-clause-polled g c =
     let next : c.in-Some.rounds ≡ c.begin-session.result.rounds + 1 = SomeIff-at c.checked_add.result _ _ _ c.in-Some.is c.checked_add.ensures in
     rw (← c.self.view_is, c.yield_now.ensures.pending) (record {
       plan = refl;
-      round = poll-ran may (g.P.Execute.fits plan) (g.P.Execute.loaders plan) (g.P.Execute.program plan) far cur c.begin-session.result.rounds at is can c.turn.new.self c.in-Some.rounds c.turn.new.progress next done.0 done.1 c.in-Ok-Pending.ensures.within c.begin-session.ensures.limited;
+      round = poll-ran may (g.P.Execute.fits plan) (g.P.Execute.loaders plan) (g.P.Execute.program plan) far cur c.begin-session.result.rounds at is can c.turn.new.self c.in-Some.rounds c.turn.new.progress next done.0 done.1 c.in-Ok-Pending.ensures.may.0 c.in-Ok-Pending.ensures.may.1;
       yielded = c.yield_now.ensures.woken;
       counted = tt;
       asks_nothing = tt;

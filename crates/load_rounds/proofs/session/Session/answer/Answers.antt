@@ -31,7 +31,7 @@ returns-in-Ready-clause-answer g c =
     let cur = state_of c.loop-progress.self in
     let plan = c.args.plan.now in
     let done = rw c.in-Ready.is at c.in_ok-text.ensures.turned in
-    rw done.0 (in-all g.S.LocalSource.may_tell old cur (g.P.Execute.program plan) c.loop-progress.rounds (g.P.Execute.loaders plan) (g.P.Execute.text_of plan) (string_bytes c.in-Ready.text) c.loop-progress.invariant.rounds c.forget.ensures.limited c.in_ok-text.ensures.within c.requires
+    rw done.0 (in-all g.S.LocalSource.may_tell old cur (g.P.Execute.program plan) c.loop-progress.rounds (g.P.Execute.loaders plan) (g.P.Execute.text_of plan) (string_bytes c.in-Ready.text) c.loop-progress.invariant.rounds c.forget.ensures.limited c.in_ok-text.ensures.may.0 c.requires
     done.1 done.2)
 
 pub loop-progress-preserved : goal.loop-progress-preserved

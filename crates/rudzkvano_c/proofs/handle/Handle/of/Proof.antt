@@ -3,7 +3,6 @@ use Rattle.std.proofs.Common.{List, [], ◌∷◌, ◌++◌, refl, sym, subst}
 use Rattle.std.proofs.alloc.Calls.{Goes-blank}
 use Rattle.std.proofs.raw_atomic.Walks.{proved_at}
 use mir.Val.{Val}
-use base.Fml.{ftrue}
 use base.Logic.{SProp, ent, id⊢}
 use contract.Running.{tables}
 use prog.Wp.{WpFn}

@@ -22,7 +22,7 @@ object_field-returns-in_err-value-clause-reads t c =
 
 pub object_field-returns-clause-reads : goal.object_field-returns-clause-reads
 object_field-returns-clause-reads t c = (
-  member_read _ _ _ _ _ _ _ (c.in_ok-text.ensures.reads c.args.room).0 c.in_ok-expect.ensures c.in_ok-value.ensures.reads.0,
+  rw c.from.ensures (member_read _ _ _ _ _ _ _ (c.in_ok-text.ensures.reads c.args.room).0 c.in_ok-expect.ensures c.in_ok-value.ensures.reads.0),
   λ stack. (c.in_ok-text.ensures.reads c.args.room).1 (A AColon ∷ AValue ∷ stack) ∙ colon_comes c.args.room _ _ (AValue ∷ stack) c.in_ok-expect.ensures ∙ c.in_ok-value.ensures.reads.1 stack,
 )
 
@@ -46,7 +46,7 @@ object_fields-returns-clause-reads t c =
     (c.loop-fields.invariant.joins no_member _ (rw eaten.is no_more_members), λ stack. c.loop-fields.invariant.reads stack ∙ rw eaten.is refl)
 
 pub value-returns-in-Some-clause-reads : goal.value-returns-in-Some-clause-reads
-value-returns-in-Some-clause-reads t c = text_read _ _ c.in-Some.field-0.value _ _ (rw c.in-Some.is at c.in_ok-place.ensures)
+value-returns-in-Some-clause-reads t c = rw c.from.ensures (text_read _ _ _ _ _ (rw c.in-Some.is at c.in_ok-place.ensures))
 
 pub value-returns-in_err-values-clause-reads : goal.value-returns-in_err-values-clause-reads
 value-returns-in_err-values-clause-reads t c =

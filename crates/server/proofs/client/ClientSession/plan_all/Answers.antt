@@ -6,7 +6,7 @@ use Rattle.plan_requests.specs.Servers.{ServerOf}
 use Rattle.server.specs.Clients.{client_of}
 use Rattle.server.specs.Planned.{several}
 use Rattle.server.proofs.Asking.{asks}
-use Rattle.server.proofs.Values.{plans-bound}
+use Rattle.plan_requests.proofs.Values.{plans-bound}
 use Rattle.server.proofs.client.ClientSession.plan_all.Goals as goal
 
 pub of-requires : goal.of-requires

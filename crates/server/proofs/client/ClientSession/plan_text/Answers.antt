@@ -3,10 +3,10 @@ use Rattle.gq_check.specs.Plans.{PlanOf}
 use Rattle.request_line.specs.Seen.{requests_of}
 use Rattle.plan_requests.specs.Planning.{refusals_of, plans_of}
 use Rattle.plan_requests.specs.Servers.{ServerOf}
+use Rattle.plan_requests.proofs.Values.{plans-bound}
 use Rattle.server.specs.Clients.{client_of}
 use Rattle.server.specs.Planned.{text, no_request, request, several_requests}
 use Rattle.server.proofs.Asking.{asks}
-use Rattle.server.proofs.Values.{plans-bound}
 use Rattle.server.proofs.client.ClientSession.plan_text.Goals as goal
 
 pub of-requires-in-Ok-Several : goal.of-requires-in-Ok-Several

@@ -1,5 +1,4 @@
 use Rattle.std.proofs.Common.{◌≡◌, refl, sym, subst, arith}
-use Rattle.load_rounds.specs.Sessions.{restarted}
 use Rattle.world_answers.specs.Sessions.{IsOver}
 use Rattle.world_answers.proofs.Loading.{enough}
 use Rattle.world_answers.proofs.Restarting.{over-new}
