@@ -1,6 +1,6 @@
 //! The rules in the order of their sections (section 5).
 
-ghost use Rattle.std.specs.Prelude.{◌≡◌, ◌≤◌, None, IfOk, length, option_map};
+ghost use Rattle.std.specs.Prelude.{◌≡◌, ◌≤◌, None, IsTrue, IfOk, length, option_map};
 ghost use Rattle.rules_parts.specs.Broken.{broken_of, earliest};
 ghost use Rattle.rules_parts.specs.Listing.{parts_of};
 ghost use Rattle.rules_parts.specs.Parts.{parts_in};
@@ -85,10 +85,23 @@ fn arguments_fault<'d>(alloc: Global, parts: &Parts<'d>) -> Result<Option<Report
     Ok(report(Rule::RequiredArguments, required_arguments(parts)))
 }
 
+// Tells whether a document has neither fragments nor inline fragments, and spreads none.
+fn has_no_fragments(parts: &Parts) -> bool
+    ensures fragments { IsTrue result
+        → fragments_fault (parts_in parts.now) ≡ None }
+    ensures spreads { IsTrue result
+        → spreads_fault (parts_in parts.now) ≡ None }
+{
+    parts.spreads.is_empty() && parts.inlines.is_empty() && parts.document.fragments.is_empty()
+}
+
 fn fragments_fault<'d>(alloc: Global, parts: &Parts<'d>) -> Result<Option<Report<'d>>, AllocError>
     ensures { IfOk result (λ fault.
         option_map report_of fault ≡ fragments_fault (parts_in parts.now)) }
 {
+    if has_no_fragments(parts) {
+        return Ok(None);
+    }
     if let Some(broken) = fragment_name_uniqueness(alloc, parts)? {
         return Ok(Some(Report::Breaks(Rule::FragmentNameUniqueness, broken)));
     }
@@ -111,6 +124,9 @@ fn spreads_fault<'d>(
     ensures { IfOk result (λ fault.
         option_map report_of fault ≡ spreads_fault (parts_in parts.now)) }
 {
+    if has_no_fragments(parts) {
+        return Ok(None);
+    }
     if let Some(broken) = fragment_spread_target_defined(parts) {
         return Ok(Some(Report::Breaks(Rule::FragmentSpreadTargetDefined, broken)));
     }
@@ -127,6 +143,9 @@ fn directives_fault<'d>(alloc: Global, parts: &Parts<'d>) -> Result<Option<Repor
     ensures { IfOk result (λ fault.
         option_map report_of fault ≡ directives_fault (parts_in parts.now)) }
 {
+    if parts.directive_lists.is_empty() {
+        return Ok(None);
+    }
     if let Some(broken) = directives_are_defined(parts) {
         return Ok(Some(Report::Breaks(Rule::DirectivesAreDefined, broken)));
     }
@@ -137,7 +156,25 @@ fn directives_fault<'d>(alloc: Global, parts: &Parts<'d>) -> Result<Option<Repor
     Ok(report(Rule::DirectivesAreUniquePerLocation, broken))
 }
 
-fn variables_fault<'d>(
+// Tells whether a document has no variables, and uses none.
+fn has_no_variables(parts: &Parts) -> bool
+    ensures { IsTrue result
+        → variables_fault (parts_in parts.now) ≡ None }
+{
+    if !parts.uses.is_empty() {
+        return false;
+    }
+    if !parts.variables.is_empty() {
+        return false;
+    }
+    let operations = parts.document.operations.as_slice();
+    operations
+        .iter()
+        .all(|operation| operation.variables.is_empty())
+}
+
+// The fault of a document that may have variables.
+fn fault_of_variables<'d>(
     alloc: Global,
     parts: &Parts<'d>,
     graph: &Graph,
@@ -161,6 +198,21 @@ fn variables_fault<'d>(
     }
     let broken = all_variable_usages_are_allowed(alloc, parts, graph)?;
     Ok(report(Rule::AllVariableUsagesAreAllowed, broken))
+}
+
+fn variables_fault<'d>(
+    alloc: Global,
+    parts: &Parts<'d>,
+    graph: &Graph,
+) -> Result<Option<Report<'d>>, AllocError>
+    requires { graph.now ≡ graph_of (parts_in parts.now) }
+    ensures { IfOk result (λ fault.
+        option_map report_of fault ≡ variables_fault (parts_in parts.now)) }
+{
+    if has_no_variables(parts) {
+        return Ok(None);
+    }
+    Ok(fault_of_variables(alloc, parts, graph)?)
 }
 
 // Returns what isn't served, and the rules.

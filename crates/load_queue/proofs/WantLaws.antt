@@ -1,5 +1,7 @@
 -- A set of cache keys beside the list of keys, in the same order.
 use Rattle.std.proofs.Common.{◌≡◌, ℕ, zero, suc, ◌<◌, Bool, true, false, List, [], ◌∷◌, ◌++◌, map, length, get_or, refl, ap, ◌∙◌, sym, arith}
+use Rattle.std.proofs.Common.{◌≤◌}
+use Rattle.std.proofs.lemmas.List.{length-map}
 use Rattle.std.specs.Prelude.{slice_set}
 use Rattle.std.specs.List.{list_any}
 use Rattle.load_memory.specs.Keys.{KeyOf, key_of, cache_of, folded, same_key}
@@ -8,7 +10,7 @@ use Rattle.load_memory.specs.declared.key.Key.{Key}
 use Rattle.load_memory.specs.declared.key.KeyMode.{KeyMode}
 use Rattle.load_memory.specs.contracts.key.CacheKeyPartialEq.TheImpl as cache_eq
 use Rattle.load_memory.proofs.LoaderMemoryLaws.{cache-eq}
-use Rattle.load_queue.specs.Wanted.{WantedOf, nothing_wanted, is_wanted, with_key, keys_wanted, is_key_wanted, with_wanted, taken_from}
+use Rattle.load_queue.specs.Wanted.{WantedOf, nothing_wanted, wanted_in, is_wanted, with_key, keys_wanted, is_key_wanted, with_wanted, taken_from}
 
 any-map : {A B : Type 0} (f : A → Bool) (g : B → Bool) (h : A → B) → ((x : A) → f x ≡ g (h x)) → (xs : List A) → list_any f xs ≡ list_any g (map h xs)
 any-map f g h same [] = refl
@@ -61,3 +63,63 @@ taken-other [] i j lt = refl
 taken-other (x ∷ ws) i zero lt = absurd (omega arith)
 taken-other (x ∷ ws) zero (suc j) lt = refl
 taken-other (x ∷ ws) (suc i) (suc j) lt = taken-other ws i j (omega arith)
+
+-- loaders without lists
+pub length-in : (ws : List WantedOf) (modes : List KeyMode) → length (wanted_in ws modes) ≡ length modes
+length-in [] modes = length-map modes nothing_wanted
+length-in (w ∷ ws) [] = refl
+length-in (w ∷ ws) (m ∷ modes) = ap suc (length-in ws modes)
+
+pub more-in : (ws : List WantedOf) (modes : List KeyMode) (other : KeyMode) → length ws < length modes → wanted_in (ws ++ nothing_wanted (get_or modes (length ws) other) ∷ []) modes ≡ wanted_in ws modes
+more-in [] [] other lt = absurd (omega arith)
+more-in [] (m ∷ modes) other lt = refl
+more-in (w ∷ ws) [] other lt = absurd (omega arith)
+more-in (w ∷ ws) (m ∷ modes) other lt = ap (λ vs. w ∷ vs) (more-in ws modes other (omega arith))
+
+pub none-keys : (modes : List KeyMode) (i : ℕ) → keys_wanted (map nothing_wanted modes) i ≡ []
+none-keys [] i = refl
+none-keys (m ∷ modes) zero = refl
+none-keys (m ∷ modes) (suc i) = none-keys modes i
+
+pub none-taken : (modes : List KeyMode) (i : ℕ) → taken_from (map nothing_wanted modes) i ≡ map nothing_wanted modes
+none-taken [] i = refl
+none-taken (m ∷ modes) zero = refl
+none-taken (m ∷ modes) (suc i) = ap (λ vs. nothing_wanted m ∷ vs) (none-taken modes i)
+
+-- past the lists nothing is wanted
+pub past-keys : (ws : List WantedOf) (modes : List KeyMode) (i : ℕ) → length ws ≤ i → keys_wanted (wanted_in ws modes) i ≡ []
+past-keys [] modes i le = none-keys modes i
+past-keys (w ∷ ws) [] i le = refl
+past-keys (w ∷ ws) (m ∷ modes) zero le = absurd (omega arith)
+past-keys (w ∷ ws) (m ∷ modes) (suc i) le = past-keys ws modes i (omega arith)
+
+pub past-taken : (ws : List WantedOf) (modes : List KeyMode) (i : ℕ) → length ws ≤ i → taken_from (wanted_in ws modes) i ≡ wanted_in ws modes
+past-taken [] modes i le = none-taken modes i
+past-taken (w ∷ ws) [] i le = refl
+past-taken (w ∷ ws) (m ∷ modes) zero le = absurd (omega arith)
+past-taken (w ∷ ws) (m ∷ modes) (suc i) le = ap (λ vs. w ∷ vs) (past-taken ws modes i (omega arith))
+
+-- a loader with a list
+pub keys-in : (ws : List WantedOf) (modes : List KeyMode) (i : ℕ) → i < length ws → i < length modes → keys_wanted (wanted_in ws modes) i ≡ keys_wanted ws i
+keys-in [] modes i lt inside = absurd (omega arith)
+keys-in (w ∷ ws) [] i lt inside = absurd (omega arith)
+keys-in (w ∷ ws) (m ∷ modes) zero lt inside = refl
+keys-in (w ∷ ws) (m ∷ modes) (suc i) lt inside = keys-in ws modes i (omega arith) (omega arith)
+
+pub is-in : (ws : List WantedOf) (modes : List KeyMode) (i : ℕ) (key : KeyOf) → i < length ws → i < length modes → is_key_wanted (wanted_in ws modes) i key ≡ is_key_wanted ws i key
+is-in [] modes i key lt inside = absurd (omega arith)
+is-in (w ∷ ws) [] i key lt inside = absurd (omega arith)
+is-in (w ∷ ws) (m ∷ modes) zero key lt inside = refl
+is-in (w ∷ ws) (m ∷ modes) (suc i) key lt inside = is-in ws modes i key (omega arith) (omega arith)
+
+pub with-in : (ws : List WantedOf) (modes : List KeyMode) (i : ℕ) (key : KeyOf) → i < length ws → i < length modes → with_wanted (wanted_in ws modes) i key ≡ wanted_in (with_wanted ws i key) modes
+with-in [] modes i key lt inside = absurd (omega arith)
+with-in (w ∷ ws) [] i key lt inside = absurd (omega arith)
+with-in (w ∷ ws) (m ∷ modes) zero key lt inside = refl
+with-in (w ∷ ws) (m ∷ modes) (suc i) key lt inside = ap (λ vs. w ∷ vs) (with-in ws modes i key (omega arith) (omega arith))
+
+pub taken-in : (ws : List WantedOf) (modes : List KeyMode) (i : ℕ) → i < length ws → i < length modes → taken_from (wanted_in ws modes) i ≡ wanted_in (taken_from ws i) modes
+taken-in [] modes i lt inside = absurd (omega arith)
+taken-in (w ∷ ws) [] i lt inside = absurd (omega arith)
+taken-in (w ∷ ws) (m ∷ modes) zero lt inside = refl
+taken-in (w ∷ ws) (m ∷ modes) (suc i) lt inside = ap (λ vs. w ∷ vs) (taken-in ws modes i (omega arith) (omega arith))

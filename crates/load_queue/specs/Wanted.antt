@@ -23,6 +23,12 @@ is_wanted w key = list_any (λ k. same_key (folded w.mode key) (folded w.mode k)
 abbrev pub with_key : WantedOf → KeyOf → WantedOf
 with_key w key = if is_wanted w key then w else record { mode = w.mode; keys = w.keys ++ key ∷ [] }
 
+-- gives what is wanted of loaders of these modes, of which the first have lists; nothing of the others
+abbrev pub wanted_in : List WantedOf → List KeyMode → List WantedOf
+wanted_in [] modes = map nothing_wanted modes
+wanted_in (w ∷ ws) [] = []
+wanted_in (w ∷ ws) (m ∷ modes) = w ∷ wanted_in ws modes
+
 -- gives the same of all loaders, by the loader's number
 abbrev pub keys_wanted : List WantedOf → ℕ → List KeyOf
 keys_wanted [] loader = []

@@ -215,6 +215,9 @@ impl<S> Loader<S> {
     pub fn restart(&mut self)
         ensures { self.new ≡ unasked self.old }
     {
+        if self.log.is_empty() {
+            return;
+        }
         if self.log.len() > KEPT_ENTRIES {
             self.log = Vec::new(*self.log.allocator());
         } else {

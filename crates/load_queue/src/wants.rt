@@ -1,7 +1,7 @@
 //! The keys that are wanted of each loader, in order, of equal cache keys only the first.
-ghost use Rattle.std.specs.Prelude.{◌≡◌, ◌<◌, IfOk, OnOk, OnErr, length, map, not};
+ghost use Rattle.std.specs.Prelude.{◌≡◌, ◌<◌, [], IfOk, OnOk, OnErr, length, map, not};
 ghost use Rattle.load_memory.specs.Keys.{key_of, cache_of, folded};
-ghost use Rattle.load_queue.specs.Wanted.{nothing_wanted, HaveSeen, is_wanted, with_key, keys_wanted, is_key_wanted, with_wanted, taken_from};
+ghost use Rattle.load_queue.specs.Wanted.{nothing_wanted, wanted_in, HaveSeen, is_wanted, with_key, keys_wanted, is_key_wanted, with_wanted, taken_from};
 
 use indexmap::IndexSet;
 use load_memory::{CacheKey, Key, KeyMode, Memory, cache_key};
@@ -108,33 +108,73 @@ impl WantedKeys {
 /// The keys that are wanted of each loader. A contract sees for each loader its mode and its keys.
 ///
 /// The keys stand in a list, since callers read them as a slice, and their cache keys in an ordered set beside
-/// it. Room is made before a key is looked up, so to add a key that is there may be out of memory too.
+/// it. Room is made before a key is looked up, so to add a key that is there may be out of memory too. Only the
+/// loaders up to the last one that something asks have a list.
 #[derive(Drop)]
 pub struct Wants {
-    parts: Vec<WantedKeys>,
+    // the loaders' modes
+    modes: Vec<KeyMode>,
+    // of the first loaders; nothing is wanted of the others
+    lists: Vec<WantedKeys>,
 }
 
 impl Model for Wants {
     ghost use Rattle.std.specs.Prelude.{List};
-    ghost use Rattle.load_queue.specs.Wanted.{WantedOf};
+    ghost use Rattle.load_queue.specs.Wanted.{WantedOf, wanted_in};
 
     ghost Value = { List WantedOf };
 
-    ghost view = { λ w. w.parts.items };
+    ghost view = { λ w. wanted_in w.lists.items w.modes.items };
+}
+
+// Makes lists for the loaders up to this one. In them nothing is wanted.
+fn reach(modes: &[KeyMode], lists: &mut Vec<WantedKeys>, loader: usize) -> Result<(), AllocError>
+    requires { loader < length modes.now }
+    ensures same { wanted_in lists.new.items modes.now
+        ≡ wanted_in lists.old.items modes.now }
+    ensures there { OnOk result (loader < length lists.new.items) }
+{
+    let alloc = *lists.allocator();
+    for number in lists.len()..loader + 1 {
+        lists.push(WantedKeys::new(alloc, modes[number]))?;
+    }
+    Ok(())
 }
 
 impl Wants {
+    /// No loaders. It takes no memory.
+    pub fn none(alloc: Global) -> Wants
+        ensures { result ≡ [] }
+    {
+        Wants {
+            modes: Vec::new(alloc),
+            lists: Vec::new(alloc),
+        }
+    }
+
     /// No wanted keys yet, for the memory's loaders, whose modes say when two keys are the same.
     pub fn new(alloc: Global, memory: &Memory) -> Result<Wants, AllocError>
         ensures { IfOk result
             (λ w. w ≡ map nothing_wanted memory.now.modes) }
     {
-        let modes = memory.modes();
-        let mut parts = Vec::with_capacity(alloc, modes.len())?;
-        for mode in modes {
-            parts.push(WantedKeys::new(alloc, *mode))?;
-        }
-        Ok(Wants { parts })
+        Ok(Wants {
+            modes: memory.modes().to_vec(alloc)?,
+            lists: Vec::new(alloc),
+        })
+    }
+
+    /// Forgets what was wanted, and is as [new](Wants::new) for the memory's loaders. What room it has is used again.
+    ///
+    /// # Errors
+    ///
+    /// Only when out of memory.
+    pub fn begin(&mut self, memory: &Memory) -> Result<(), AllocError>
+        ensures { OnOk result
+            (self.new ≡ map nothing_wanted memory.now.modes) }
+    {
+        self.lists.clear();
+        self.modes.clear();
+        self.modes.extend_from_slice(memory.modes())
     }
 
     /// The keys that are wanted of a loader, in the order in which they were added.
@@ -143,7 +183,10 @@ impl Wants {
         ensures { map key_of result.now
             ≡ keys_wanted self.now loader }
     {
-        self.parts[loader].keys()
+        if loader < self.lists.len() {
+            return self.lists[loader].keys();
+        }
+        &[]
     }
 
     /// Takes the wanted keys of a loader out, in the order in which they were added.
@@ -154,7 +197,10 @@ impl Wants {
         ensures after { self.new
             ≡ taken_from self.old loader }
     {
-        self.parts[loader].take_keys()
+        if loader < self.lists.len() {
+            return self.lists[loader].take_keys();
+        }
+        Vec::new(*self.lists.allocator())
     }
 
     /// Adds a key to those that are wanted of a loader. Returns true if no equal cache key was there. If one
@@ -173,6 +219,7 @@ impl Wants {
             ≡ length self.old }
         ensures kept { OnErr result (self.new ≡ self.old) }
     {
-        self.parts[loader].add(key)
+        reach(&self.modes, &mut self.lists, loader)?;
+        self.lists[loader].add(key)
     }
 }

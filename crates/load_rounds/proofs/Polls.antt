@@ -1,5 +1,5 @@
 -- Polls of an answering future that follow one another.
-use Rattle.std.proofs.Common.{◌≡◌, ◌≢◌, ◌≤◌, ◌+◌, ℕ, List, [], length, IsSome, Some, None, Result, Ok, Err, refl, ap, ◌∙◌, sym, arith, inl, ◌⊎◌}
+use Rattle.std.proofs.Common.{◌≡◌, ◌≢◌, ◌≤◌, ◌+◌, ℕ, true, List, [], length, IsSome, Some, None, Result, Ok, Err, refl, ap, ◌∙◌, sym, arith, inl, ◌⊎◌}
 use Rattle.std.proofs.lemmas.List.{length-map}
 use Rattle.std.specs.Prelude.{slice_get, string_bytes}
 use Rattle.load_memory.specs.Keys.{KeyOf}
@@ -13,6 +13,11 @@ use Rattle.execution.specs.Front.{front}
 use Rattle.execution.specs.Rounds.{rule_of, modes_of, may_at, AreLimited, HasLoaders, without_failed}
 use Rattle.execution.specs.Sessions.{Forgot}
 use Rattle.execution.proofs.RoundLaws.{rounds-chain}
+use Rattle.futures.specs.Poll.{OnPending}
+use Rattle.futures.specs.Task.{Covers, Holds}
+use Rattle.futures.specs.declared.task.Poll.{Poll}
+use Rattle.futures.specs.declared.task.Poll.TheVariants.{Ready, Pending}
+use Rattle.futures.specs.declared.task.context.Context.{Context}
 use Rattle.load_rounds.specs.Sessions.{SessionOf, StateOf, state_of, rules_of, session_modes, memory_of, after_step}
 use Rattle.load_rounds.specs.Calls.{RoundRan, RoundLost}
 use Rattle.load_rounds.specs.Headline.{asked_steps, Answers}
@@ -21,6 +26,12 @@ use Rattle.load_rounds.specs.Answerings.{FarOf, handed, polled, over, rounds_of,
 use Rattle.load_rounds.specs.declared.answer.Answer.{Answer}
 use Rattle.load_rounds.proofs.Following.{InRounds, in-none, in-more, in-all, in-stops}
 use Rattle.load_rounds.proofs.Stepping.{steps-rules, steps-sources}
+
+-- a pending poll that has asked for the next one owes no more, where its future waits for no source
+pub woken-covers : {T : Type 0} (polled : Poll T) (cx : Context) → OnPending polled (cx.is_woken ≡ true) → OnPending polled (Covers cx (λ _. ⊥))
+unfolding Holds
+woken-covers (Ready x) cx woken = tt
+woken-covers Pending cx woken = (inl woken, λ s need. absurd need)
 
 some-is : {X : Type 0} (x y : X) → Some x ≡ Some y → x ≡ y
 some-is x y e = cc e

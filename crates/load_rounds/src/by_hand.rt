@@ -199,9 +199,9 @@ impl<'p, P> RoundsByHand<'p, P> {
                 let rounds = self.rounds;
                 Ok(Next::Finished(Answer { text, rounds }))
             }
-            ExecutionFinding::Missing(mut wants) => {
+            ExecutionFinding::Missing(wants) => {
                 let rounds = self.rounds.checked_add(1).ok_or(AllocError)?;
-                let orders = session.cut(&mut wants)?;
+                let orders = session.cut(wants)?;
                 self.rounds = rounds;
                 self.stage = Stage::Out;
                 Ok(Next::Round(orders))

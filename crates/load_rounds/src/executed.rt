@@ -1,6 +1,6 @@
 //! Executions over what a session knows.
 ghost use Rattle.std.specs.Prelude.{◌≤◌, length, IfOk, OnOk};
-ghost use Rattle.execution.specs.Rounds.{AreLimited, HasLoaders};
+ghost use Rattle.execution.specs.Rounds.{HasLoaders};
 
 use crate::session::Session;
 use execution::Execute;
@@ -18,31 +18,34 @@ pub(crate) enum ExecutionFinding {
 }
 
 impl<S> Session<S> {
-    ghost use Rattle.load_rounds.specs.Sessions.{state_of, rules_of, memory_of};
-    ghost use Rattle.load_rounds.specs.Executes.{Finds};
+    ghost use Rattle.load_rounds.specs.Sessions.{state_of, memory_of};
+    ghost use Rattle.load_rounds.specs.Executes.{Finds, StaysLimited};
     ghost use Rattle.execution.specs.Executes.{FitsFrom};
 
     /// Goes on with an execution over what is known. A contract also sees here that no loader's limit is 0.
     pub(crate) fn execute<'p, E, P: Execute<'p, E>>(
-        &self,
+        &mut self,
         plan: &'p P,
         progress: &mut E,
     ) -> Result<ExecutionFinding, AllocError>
         requires loaders { P.loaders plan.now
-            ≤ length self.now.loaders }
+            ≤ length self.old.loaders }
         requires fits { P.fits plan.now progress.old
-            (memory_of self.now) }
+            (memory_of self.old) }
         ensures found { IfOk result
-            (Finds (P.text_of plan.now) (P.program plan.now) (state_of self.now)) }
-        ensures fits { OnOk result (FitsFrom (P.fits plan.now progress.new) (memory_of self.now)) }
-        ensures limited { AreLimited
-            (rules_of (state_of self.now)) }
+            (Finds (P.text_of plan.now) (P.program plan.now) (state_of self.old)) }
+        ensures fits { OnOk result (FitsFrom (P.fits plan.now progress.new) (memory_of self.old)) }
+        ensures stays { StaysLimited self.old self.new }
         ensures within { OnOk result (HasLoaders (P.loaders plan.now) (P.program plan.now)) }
     {
+        let alloc = self.alloc();
+        let mut wants = self.begin_wants()?;
         let memory = self.memory();
-        let mut wants = Wants::new(self.alloc(), memory)?;
-        match plan.execute(progress, self.alloc(), memory, &mut wants)? {
-            Poll::Ready(text) => Ok(ExecutionFinding::Ready(text)),
+        match plan.execute(progress, alloc, memory, &mut wants)? {
+            Poll::Ready(text) => {
+                self.keep_wants(wants);
+                Ok(ExecutionFinding::Ready(text))
+            }
             Poll::Pending => Ok(ExecutionFinding::Missing(wants)),
         }
     }

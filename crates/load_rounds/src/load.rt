@@ -86,7 +86,7 @@ impl<S: LocalSource> Session<S> {
         self.forget();
         match self.wanted_keys(loader, keys)? {
             None => Ok(NextLoad::Loaded(self.outcomes(loader, keys)?)),
-            Some(mut wants) => Ok(NextLoad::Round(self.cut(&mut wants)?)),
+            Some(wants) => Ok(NextLoad::Round(self.cut(wants)?)),
         }
     }
 

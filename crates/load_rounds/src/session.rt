@@ -7,6 +7,7 @@ ghost use Rattle.load_memory.specs.Replies.{reply_of};
 ghost use Rattle.load_memory.specs.Shelves.{IsOn, shown};
 ghost use Rattle.load_queue.specs.Loaders.{AreOnRecord};
 ghost use Rattle.load_queue.specs.Logs.{asked_of};
+ghost use Rattle.load_queue.specs.Wanted.{nothing_wanted};
 ghost use Rattle.execution.specs.Loads.{Load, read};
 ghost use Rattle.execution.specs.Rounds.{AreLimited, round_orders, without_failed};
 ghost use Rattle.execution.specs.Sessions.{Forgot, Lost, AskedLoads};
@@ -20,6 +21,7 @@ use load_memory::{Item, Key, Memory, Outcome, Receipt, Reply, Shelf, cache_key};
 use load_queue::{Loader, LocalSource, LogEntry, Order, Wants};
 use std::alloc::{AllocError, Global};
 use std::marker::Model;
+use std::mem;
 
 /// A set of loaders with one cache of what they returned. A contract sees the loaders with their logs, the known pairs,
 /// and how many rounds were made.
@@ -28,6 +30,8 @@ pub struct Session<S> {
     loaders: Vec<Loader<S>>,
     memory: Memory,
     rounds: u32,
+    // lists of earlier rounds, whose room the next round uses again
+    spare: Wants,
 }
 
 impl<S> Model for Session<S> {
@@ -59,22 +63,46 @@ impl<S> Session<S> {
         self.memory.drop_failed();
     }
 
+    /// No wanted keys yet, for the session's loaders. A contract also sees here that no loader's limit is 0.
+    pub(crate) fn begin_wants(&mut self) -> Result<Wants, AllocError>
+        ensures none { IfOk result (λ wants. wants
+            ≡ map nothing_wanted (session_modes (state_of self.old))) }
+        ensures same { self.new ≡ self.old }
+        ensures limited { AreLimited
+            (rules_of (state_of self.old)) }
+    {
+        let alloc = self.alloc();
+        let mut wants = mem::replace(&mut self.spare, Wants::none(alloc));
+        wants.begin(&self.memory)?;
+        Ok(wants)
+    }
+
+    /// Keeps the room of wants for those that are begun next.
+    pub(crate) fn keep_wants(&mut self, wants: Wants)
+        ensures { self.new ≡ self.old }
+    {
+        self.spare = wants;
+    }
+
     /// Cuts the wanted keys into the batches of the next round, enters these in the logs, and returns their orders, into
     /// which the keys move. A contract also sees here that the log's entries have the numbers of rounds that were made.
-    pub(crate) fn cut(&mut self, wants: &mut Wants) -> Result<Vec<Order>, AllocError>
-        requires { length wants.old
+    pub(crate) fn cut(&mut self, wants: Wants) -> Result<Vec<Order>, AllocError>
+        requires { length wants
             ≡ length self.old.loaders }
-        ensures orders { (loads : List Load) → AreWanted wants.old loads → IfOk result
+        ensures orders { (loads : List Load) → AreWanted wants loads → IfOk result
             (λ orders. orders.items ≡ round_orders (rules_of (state_of self.old)) loads) }
-        ensures entered { (loads : List Load) → AreWanted wants.old loads
+        ensures entered { (loads : List Load) → AreWanted wants loads
             → OnOk result (state_of self.new ≡ after_step (state_of self.old) (Lost loads)) }
-        ensures lost { (loads : List Load) → AreWanted wants.old loads
+        ensures lost { (loads : List Load) → AreWanted wants loads
             → OnErr result (RoundLost (state_of self.old) (state_of self.new) loads) }
         ensures numbered { AreNumbered
             self.old.rounds self.old.loaders }
     {
         let round = self.rounds.checked_add(1).ok_or(AllocError)?;
-        cut_all(&mut self.loaders, &mut self.rounds, round, wants)
+        let mut wants = wants;
+        let orders = cut_all(&mut self.loaders, &mut self.rounds, round, &mut wants)?;
+        self.spare = wants;
+        Ok(orders)
     }
 
     /// Stores the replies to the latest round, given by their receipts in any order, and marks its log entries as
@@ -249,6 +277,7 @@ impl<S: Drop> Session<S> {
             loaders,
             memory,
             rounds: 0,
+            spare: Wants::none(alloc),
         })
     }
 }
@@ -320,8 +349,7 @@ impl<S: LocalSource> Session<S> {
         }
     }
 
-    /// Asks for the wanted keys in one round, batch after batch, and stores the replies. The wants are dropped once
-    /// their orders are made.
+    /// Asks for the wanted keys in one round, batch after batch, and stores the replies. The room of the wants is kept.
     pub(crate) fn ask(&mut self, wants: Wants) -> Result<(), AllocError>
         requires { length wants ≡ length self.old.loaders }
         ensures ran { (loads : List Load) → AreWanted wants loads
@@ -332,7 +360,7 @@ impl<S: LocalSource> Session<S> {
         let round = self.rounds.checked_add(1).ok_or(AllocError)?;
         let mut wants = wants;
         let orders = cut_all(&mut self.loaders, &mut self.rounds, round, &mut wants)?;
-        drop(wants);
+        self.spare = wants;
         let replies = run_all(*self.loaders.allocator(), orders, &self.loaders)?;
         self.memory.keep_owned(replies)?;
         mark_all(&mut self.loaders, round);

@@ -5,7 +5,6 @@
 //! empty.
 ghost use Rattle.std.specs.Prelude.{◌≡◌, ◌≤◌, All, length, map, is_none, IfOk, OnOk};
 ghost use Rattle.execution.specs.Front.{front, wanting, modes_wanted};
-ghost use Rattle.execution.specs.Rounds.{AreLimited};
 ghost use Rattle.load_memory.specs.Pairs.{look};
 ghost use Rattle.execution.specs.Executes.{CanExecute};
 ghost use Rattle.load_rounds.specs.SharedRounds.{report_of};
@@ -123,7 +122,8 @@ fn go_on_all<'p, E: Drop, P: Execute<'p, E>>(
 }
 
 impl<'p, E: Drop, P: Execute<'p, E>> Together<'p, P, E> {
-    ghost use Rattle.load_rounds.specs.Sessions.{state_of, rules_of, memory_of};
+    ghost use Rattle.load_rounds.specs.Executes.{StaysLimited};
+    ghost use Rattle.load_rounds.specs.Sessions.{state_of, memory_of};
     ghost use Rattle.load_rounds.specs.SharedRounds.{joint};
     ghost use Rattle.load_rounds.specs.Together.{AreBegun, CountsAsked, FindsAll, reports_in};
 
@@ -145,28 +145,29 @@ impl<'p, E: Drop, P: Execute<'p, E>> Together<'p, P, E> {
 
     /// Goes on with each plan that has no answer yet, in order, over what is known. Returns what is missing for all of them, of
     /// which the caller makes a round, and nothing once each has its answer. A contract also sees here that no loader's limit is 0.
-    pub(crate) fn go_on<S>(&mut self, session: &Session<S>) -> Result<Option<Wants>, AllocError>
+    pub(crate) fn go_on<S>(&mut self, session: &mut Session<S>) -> Result<Option<Wants>, AllocError>
         requires loaders { All (λ plan.
-            P.loaders plan ≤ length session.now.loaders) (plans_in self.old.parts) }
+            P.loaders plan ≤ length session.old.loaders) (plans_in self.old.parts) }
         requires fits { FitParts P.program P.text_of P.loaders
-            P.fits self.old.parts (memory_of session.now) }
+            P.fits self.old.parts (memory_of session.old) }
         ensures found { IfOk result (λ wants. FindsAll
-            (joint P.program P.text_of (plans_in self.old.parts)) (state_of session.now) wants) }
+            (joint P.program P.text_of (plans_in self.old.parts)) (state_of session.old) wants) }
         ensures went { OnOk result (GoOn P.program P.text_of P.loaders P.fits
-            self.old.rounds (memory_of session.now) self.old.parts self.new.parts) }
+            self.old.rounds (memory_of session.old) self.old.parts self.new.parts) }
         ensures counted { CountsAsked
             self.old.rounds self.new.rounds result }
-        ensures limited { AreLimited
-            (rules_of (state_of session.now)) }
+        ensures stays { StaysLimited session.old session.new }
     {
         let rounds = self.rounds;
+        let alloc = session.alloc();
+        let mut wants = session.begin_wants()?;
         let memory = session.memory();
-        let mut wants = Wants::new(session.alloc(), memory)?;
-        let is_missing = go_on_all(&mut self.parts, session.alloc(), memory, rounds, &mut wants)?;
+        let is_missing = go_on_all(&mut self.parts, alloc, memory, rounds, &mut wants)?;
         if is_missing {
             self.rounds = rounds.checked_add(1).ok_or(AllocError)?;
             Ok(Some(wants))
         } else {
+            session.keep_wants(wants);
             Ok(None)
         }
     }

@@ -9,3 +9,4 @@ pub mod Orders
 pub mod FieldSelectionMerging
 pub mod Reports
 pub mod Selected
+pub mod Lone

@@ -13,6 +13,7 @@ mod fields;
 mod grounds;
 mod known;
 mod law;
+mod lone;
 mod ranks;
 mod rules;
 

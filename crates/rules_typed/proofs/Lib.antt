@@ -3,3 +3,4 @@ pub mod PlaceLaws
 pub mod KindLaws
 pub mod AllowLaws
 pub mod FindLaws
+pub mod Insides

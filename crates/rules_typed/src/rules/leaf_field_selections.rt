@@ -3,6 +3,7 @@
 ghost use Rattle.std.specs.Prelude.{◌≡◌};
 ghost use Rattle.std.specs.Option.{option_map};
 ghost use Rattle.gq_schema.specs.Types.{tree_of};
+ghost use Rattle.rules_parts.specs.Parents.{inside_field};
 ghost use Rattle.rules_parts.specs.Broken.{broken_of, earliest};
 ghost use Rattle.rules_parts.specs.Parts.{field_part_of, parts_in};
 ghost use Rattle.rules_typed.specs.LeafFieldSelections.{kind_of_field, misfit_field, leaf_field_selections};
@@ -25,10 +26,16 @@ fn kind_of_field(schema: &Schema, part: &FieldPart) -> Option<TypeKind>
     }
 }
 
+// What is inside a field is known only where its type is composite: then a set fits, and the type isn't looked up.
 fn misfit_field<'d>(schema: &Schema, part: &FieldPart<'d>) -> Option<Violation<'d>>
+    requires { (field_part_of part.now).inside
+        ≡ inside_field (tree_of schema.now) (field_part_of part.now).definition }
     ensures { option_map broken_of result
         ≡ misfit_field (tree_of schema.now) (field_part_of part.now) }
 {
+    if part.inside.is_some() && part.field.selection_set.is_some() && !is_type_name(part) {
+        return None;
+    }
     let kind = kind_of_field(schema, part)?;
     if kind.is_leaf() == part.field.selection_set.is_none() {
         return None;

@@ -30,23 +30,23 @@ pub returns-in_err-go_on-clause-run : goal.returns-in_err-go_on-clause-run
 returns-in_err-go_on-clause-run g c =
     let s = state_of c.args.session.now in
     let stage = rw (← c.self.view_is) at c.requires.can.ready in
-    record {
+    rw c.go_on.ensures.stays.same (record {
       since = λ begun ready.
           let was = rw stage at (rw (← c.self.view_is) at ready) in
           run-failed g.P.Execute.program g.P.Execute.text_of g.P.Execute.loaders g.P.Execute.fits g.S.LocalSource.may_tell c.self.inside.plans.now begun s s c.self.inside.executions c.go_on.new.self was (inl refl);
       answers = IfOk-from_err c.from_residual.result _ c.from_residual.ensures.0;
-    }
+    })
 
 pub returns-in_err-answers-in-None-clause-run : goal.returns-in_err-answers-in-None-clause-run
 returns-in_err-answers-in-None-clause-run g c =
     let s = state_of c.args.session.now in
     let stage = rw (← c.self.view_is) at c.requires.can.ready in
-    record {
+    rw c.go_on.ensures.stays.same (record {
       since = λ begun ready.
           let was = rw stage at (rw (← c.self.view_is) at ready) in
           run-failed g.P.Execute.program g.P.Execute.text_of g.P.Execute.loaders g.P.Execute.fits g.S.LocalSource.may_tell c.self.inside.plans.now begun s s c.self.inside.executions c.take_answers.new.self was (inl refl);
       answers = IfOk-from_err c.from_residual-in_err-answers-in-None.result _ c.from_residual-in_err-answers-in-None.ensures.0;
-    }
+    })
 
 pub returns-in_ok-answers-in-None-clause-next : goal.returns-in_ok-answers-in-None-clause-next
 returns-in_ok-answers-in-None-clause-next g c =
@@ -68,7 +68,7 @@ returns-in_ok-answers-in-None-clause-next g c =
       answered = subst (λ ts. AreTexts (requests g.P.Execute.program g.P.Execute.text_of plans) (read m.modes (look m.pairs)) ts) (sym c.in_ok-answers-in-None.ensures.answers) texts;
       same = refl;
     } in
-    rw (← c.self.view_is) (last, refl)
+    rw (c.go_on.ensures.stays.same, ← c.self.view_is) (last, refl)
 
 pub returns-in_ok-answers-in-None-clause-run : goal.returns-in_ok-answers-in-None-clause-run
 returns-in_ok-answers-in-None-clause-run g c =
@@ -88,7 +88,7 @@ returns-in_ok-answers-in-None-clause-run g c =
     let are = gone-plans g.P.Execute.program g.P.Execute.text_of g.P.Execute.loaders g.P.Execute.fits t.rounds m t.parts ys gone ∙ fit.plans in
     let enough = rw (← c.self.view_is) at c.requires.can.within in
     let same : c.take_answers.new.self.rounds ≡ c.self.inside.executions.rounds = omega (arith, c.in_ok-answers-in-None.ensures.counted, rw c.in-None.is at c.in_ok-go_on.ensures.counted.counted) in
-    record {
+    rw c.go_on.ensures.stays.same (record {
       since = λ begun ready.
           let was = rw stage at (rw (← c.self.view_is) at ready) in
           run-finished g.P.Execute.program g.P.Execute.text_of g.P.Execute.loaders g.P.Execute.fits g.S.LocalSource.may_tell c.self.inside.plans.now begun s c.self.inside.executions c.take_answers.new.self was same none;
@@ -96,12 +96,14 @@ returns-in_ok-answers-in-None-clause-run g c =
           let was = rw stage at (rw (← c.self.view_is) at ready) in
           let shared = ready-shared g.P.Execute.program g.P.Execute.text_of g.P.Execute.loaders g.P.Execute.fits g.S.LocalSource.may_tell plans begun s t was in
           let report = shared-gone g.P.Execute.program g.P.Execute.text_of g.P.Execute.loaders g.P.Execute.fits g.S.LocalSource.may_tell plans begun s t.parts ys t.rounds m shared gone in
-          let headline = run-answers g.P.Execute.program g.P.Execute.text_of g.P.Execute.loaders g.P.Execute.fits g.S.LocalSource.may_tell plans begun session t.parts ys t.rounds report gone fit.plans enough c.go_on.ensures.limited are all kept none in
+          let headline = run-answers g.P.Execute.program g.P.Execute.text_of g.P.Execute.loaders g.P.Execute.fits g.S.LocalSource.may_tell plans begun session t.parts ys t.rounds report gone fit.plans enough c.go_on.ensures.stays.limited are all kept none in
           rw (← c.self.view_is) (subst (λ ts. SharedHeadline g.S.LocalSource.may_tell begun s (requests g.P.Execute.program g.P.Execute.text_of plans) ts) (sym c.in_ok-answers-in-None.ensures.answers) headline);
-    }
+    })
 
 pub cut-requires : goal.cut-requires
-cut-requires g c = let found = rw c.in-Some.is at c.in_ok-go_on.ensures.found in found.1
+cut-requires g c =
+    let found = rw c.in-Some.is at c.in_ok-go_on.ensures.found in
+    rw c.go_on.ensures.stays.same found.1
 
 pub returns-in_err-orders-in-Some-clause-failed : goal.returns-in_err-orders-in-Some-clause-failed
 returns-in_err-orders-in-Some-clause-failed g c =
@@ -109,7 +111,8 @@ returns-in_err-orders-in-Some-clause-failed g c =
     let p : Program = together (requests g.P.Execute.program g.P.Execute.text_of c.self.inside.plans.now) in
     let fit = rw (← c.self.view_is) at c.requires.fits in
     let found : FindsAll p s (Some c.in-Some.wants) = subst (λ ps. FindsAll (together (requests g.P.Execute.program g.P.Execute.text_of ps)) s (Some c.in-Some.wants)) fit.plans (rw c.in-Some.is at c.in_ok-go_on.ensures.found) in
-    rw (← c.self.view_is) (on-err c.from_residual-in_err-orders-in-Some.result (record { failed = refl; lost = inr (c.in_err-orders-in-Some.ensures.lost (front_in s p) found.2) }))
+    let lost = rw c.go_on.ensures.stays.same at c.in_err-orders-in-Some.ensures.lost in
+    rw (← c.self.view_is) (on-err c.from_residual-in_err-orders-in-Some.result (record { failed = refl; lost = inr (lost (front_in s p) found.2) }))
 
 pub returns-in_err-orders-in-Some-clause-run : goal.returns-in_err-orders-in-Some-clause-run
 returns-in_err-orders-in-Some-clause-run g c =
@@ -118,10 +121,11 @@ returns-in_err-orders-in-Some-clause-run g c =
     let stage = rw (← c.self.view_is) at c.requires.can.ready in
     let fit = rw (← c.self.view_is) at c.requires.fits in
     let found : FindsAll p s (Some c.in-Some.wants) = subst (λ ps. FindsAll (together (requests g.P.Execute.program g.P.Execute.text_of ps)) s (Some c.in-Some.wants)) fit.plans (rw c.in-Some.is at c.in_ok-go_on.ensures.found) in
+    let lost = rw c.go_on.ensures.stays.same at c.in_err-orders-in-Some.ensures.lost in
     record {
       since = λ begun ready.
           let was = rw stage at (rw (← c.self.view_is) at ready) in
-          run-failed g.P.Execute.program g.P.Execute.text_of g.P.Execute.loaders g.P.Execute.fits g.S.LocalSource.may_tell c.self.inside.plans.now begun s (state_of c.cut.new.self) c.self.inside.executions c.go_on.new.self was (inr (c.in_err-orders-in-Some.ensures.lost (front_in s p) found.2));
+          run-failed g.P.Execute.program g.P.Execute.text_of g.P.Execute.loaders g.P.Execute.fits g.S.LocalSource.may_tell c.self.inside.plans.now begun s (state_of c.cut.new.self) c.self.inside.executions c.go_on.new.self was (inr (lost (front_in s p) found.2));
       answers = IfOk-from_err c.from_residual-in_err-orders-in-Some.result _ c.from_residual-in_err-orders-in-Some.ensures.0;
     }
 
@@ -138,13 +142,16 @@ returns-in_ok-orders-in-Some-clause-next g c =
     let each = subst (λ ps. All (λ plan. g.P.Execute.loaders plan ≤ length s.loaders) ps) (sym fit.plans) enough in
     let within : HasLoaders (length s.loaders) p = subst (λ ps. HasLoaders (length s.loaders) (together (requests g.P.Execute.program g.P.Execute.text_of ps))) fit.plans
     (gone-within g.P.Execute.program g.P.Execute.text_of g.P.Execute.loaders g.P.Execute.fits 0 t.rounds (length s.loaders) m t.parts c.go_on.new.self.parts c.in_ok-go_on.ensures.went each) in
-    let entered = c.in_ok-orders-in-Some.ensures.entered (front_in s p) found.2 in
+    let enters = rw c.go_on.ensures.stays.same at c.in_ok-orders-in-Some.ensures.entered in
+    let entered = enters (front_in s p) found.2 in
+    let numbered = rw c.go_on.ensures.stays.same at c.in_ok-orders-in-Some.ensures.numbered in
+    let batches = rw c.go_on.ensures.stays.same at c.in_ok-orders-in-Some.ensures.orders in
     let round : IsRound p s (state_of c.cut.new.self) c.in_ok-orders-in-Some.orders.items = record {
       lacks = found.0;
-      batches = c.in_ok-orders-in-Some.ensures.orders (front_in s p) found.2;
+      batches = batches (front_in s p) found.2;
       entered = entered;
       counted = round-counted s (state_of c.cut.new.self) p (length s.loaders) within (omega arith) found.0 entered;
-      numbered = c.in_ok-orders-in-Some.ensures.numbered;
+      numbered = numbered;
     } in
     rw (← c.self.view_is) (round, rw c.in-Some.is at c.in_ok-go_on.ensures.counted.counted, refl)
 
@@ -162,12 +169,14 @@ returns-in_ok-orders-in-Some-clause-run g c =
     let each = subst (λ ps. All (λ plan. g.P.Execute.loaders plan ≤ length s.loaders) ps) (sym fit.plans) enough in
     let within : HasLoaders (length s.loaders) p = subst (λ ps. HasLoaders (length s.loaders) (together (requests g.P.Execute.program g.P.Execute.text_of ps))) fit.plans
     (gone-within g.P.Execute.program g.P.Execute.text_of g.P.Execute.loaders g.P.Execute.fits 0 t.rounds (length s.loaders) m t.parts c.go_on.new.self.parts c.in_ok-go_on.ensures.went each) in
-    let entered = c.in_ok-orders-in-Some.ensures.entered (front_in s p) found.2 in
+    let enters = rw c.go_on.ensures.stays.same at c.in_ok-orders-in-Some.ensures.entered in
+    let entered = enters (front_in s p) found.2 in
+    let numbered = rw c.go_on.ensures.stays.same at c.in_ok-orders-in-Some.ensures.numbered in
     let counted = round-counted s (state_of c.cut.new.self) p (length s.loaders) within (omega arith) found.0 entered in
     record {
       since = λ begun ready.
           let was = rw stage at (rw (← c.self.view_is) at ready) in
-          run-out g.P.Execute.program g.P.Execute.text_of g.P.Execute.loaders g.P.Execute.fits g.S.LocalSource.may_tell plans begun c.args.session.now (state_of c.cut.new.self) t c.go_on.new.self was (rw c.in-Some.is at c.in_ok-go_on.ensures.counted.counted) c.in_ok-go_on.ensures.went c.in_ok-orders-in-Some.ensures.numbered found.0 entered counted;
+          run-out g.P.Execute.program g.P.Execute.text_of g.P.Execute.loaders g.P.Execute.fits g.S.LocalSource.may_tell plans begun c.args.session.now (state_of c.cut.new.self) t c.go_on.new.self was (rw c.in-Some.is at c.in_ok-go_on.ensures.counted.counted) c.in_ok-go_on.ensures.went numbered found.0 entered counted;
       answers = tt;
     }
 
@@ -180,7 +189,8 @@ returns-in_ok-orders-in-Some-clause-left g c =
     let p : Program = together (requests g.P.Execute.program g.P.Execute.text_of c.self.inside.plans.now) in
     let fit = rw (← c.self.view_is) at c.requires.fits in
     let found : FindsAll p s (Some c.in-Some.wants) = subst (λ ps. FindsAll (together (requests g.P.Execute.program g.P.Execute.text_of ps)) s (Some c.in-Some.wants)) fit.plans (rw c.in-Some.is at c.in_ok-go_on.ensures.found) in
-    let asked = lost-grows session c.cut.new.self (front_in s p) (c.in_ok-orders-in-Some.ensures.entered (front_in s p) found.2) in
+    let enters = rw c.go_on.ensures.stays.same at c.in_ok-orders-in-Some.ensures.entered in
+    let asked = lost-grows session c.cut.new.self (front_in s p) (enters (front_in s p) found.2) in
     let gone = c.in_ok-go_on.ensures.went in
     record {
       plans = rw (← c.self.view_is) refl;

@@ -23,29 +23,33 @@ returns-in-Ready-clause-run g c =
     let plan = c.self.inside.plan.now in
     let enough = rw (← c.self.view_is) at c.requires.can.within in
     let done = rw c.in-Ready.is at c.in_ok-text.ensures.found in
-    rw (← c.self.view_is) (record {
+    rw (c.execute.ensures.stays.same, ← c.self.view_is) (record {
       since = λ begun between. (between, done.0);
-      answer = λ begun between. between-answers g.S.LocalSource.may_tell (g.P.Execute.program plan) begun s c.self.inside.rounds (g.P.Execute.loaders plan) (g.P.Execute.text_of plan) (string_bytes c.in-Ready.text) between c.execute.ensures.limited c.in_ok-text.ensures.within enough done.0 done.1;
+      answer = λ begun between. between-answers g.S.LocalSource.may_tell (g.P.Execute.program plan) begun s c.self.inside.rounds (g.P.Execute.loaders plan) (g.P.Execute.text_of plan) (string_bytes c.in-Ready.text) between c.execute.ensures.stays.limited c.in_ok-text.ensures.within enough done.0 done.1;
       bounded = c.self.invariant;
     })
 
 pub cut-requires : goal.cut-requires
-cut-requires g c = let lacks = rw c.in-Missing.is at c.in_ok-text.ensures.found in lacks.1
+cut-requires g c =
+    let lacks = rw c.in-Missing.is at c.in_ok-text.ensures.found in
+    rw c.execute.ensures.stays.same lacks.1
 
 pub returns-in_err-orders-in-Missing-clause-failed : goal.returns-in_err-orders-in-Missing-clause-failed
 returns-in_err-orders-in-Missing-clause-failed g c =
     let s = state_of c.args.session.now in
     let p : Program = g.P.Execute.program c.self.inside.plan.now in
     let lacks = rw c.in-Missing.is at c.in_ok-text.ensures.found in
-    rw (← c.self.view_is) (on-err c.from_residual-in_err-orders-in-Missing.result (record { failed = refl; lost = inr (c.in_err-orders-in-Missing.ensures.lost (front_in s p) lacks.2) }))
+    let lost = rw c.execute.ensures.stays.same at c.in_err-orders-in-Missing.ensures.lost in
+    rw (← c.self.view_is) (on-err c.from_residual-in_err-orders-in-Missing.result (record { failed = refl; lost = inr (lost (front_in s p) lacks.2) }))
 
 pub returns-in_err-orders-in-Missing-clause-run : goal.returns-in_err-orders-in-Missing-clause-run
 returns-in_err-orders-in-Missing-clause-run g c =
     let s = state_of c.args.session.now in
     let p : Program = g.P.Execute.program c.self.inside.plan.now in
     let lacks = rw c.in-Missing.is at c.in_ok-text.ensures.found in
+    let lost = rw c.execute.ensures.stays.same at c.in_err-orders-in-Missing.ensures.lost in
     rw (← c.self.view_is) (record {
-      since = λ begun between. between-stops g.S.LocalSource.may_tell p begun s (state_of c.cut.new.self) c.self.inside.rounds between (inr (c.in_err-orders-in-Missing.ensures.lost (front_in s p) lacks.2));
+      since = λ begun between. between-stops g.S.LocalSource.may_tell p begun s (state_of c.cut.new.self) c.self.inside.rounds between (inr (lost (front_in s p) lacks.2));
       answer = λ begun between. IfOk-from_err c.from_residual-in_err-orders-in-Missing.result _ c.from_residual-in_err-orders-in-Missing.ensures.0;
       bounded = c.self.invariant;
     })
@@ -58,13 +62,16 @@ returns-in_ok-orders-in-Missing-clause-next g c =
     let enough = rw (← c.self.view_is) at c.requires.can.within in
     let lacks = rw c.in-Missing.is at c.in_ok-text.ensures.found in
     let next : c.in_ok-rounds-in-Missing.rounds ≡ c.self.inside.rounds + 1 = SomeIff-at c.checked_add.result _ _ _ c.in_ok-rounds-in-Missing.ensures.ok_part c.checked_add.ensures in
-    let entered = c.in_ok-orders-in-Missing.ensures.entered (front_in s p) lacks.2 in
+    let enters = rw c.execute.ensures.stays.same at c.in_ok-orders-in-Missing.ensures.entered in
+    let entered = enters (front_in s p) lacks.2 in
+    let numbered = rw c.execute.ensures.stays.same at c.in_ok-orders-in-Missing.ensures.numbered in
+    let batches = rw c.execute.ensures.stays.same at c.in_ok-orders-in-Missing.ensures.orders in
     let round : IsRound p s (state_of c.cut.new.self) c.in_ok-orders-in-Missing.orders.items = record {
       lacks = lacks.0;
-      batches = c.in_ok-orders-in-Missing.ensures.orders (front_in s p) lacks.2;
+      batches = batches (front_in s p) lacks.2;
       entered = entered;
       counted = round-counted s (state_of c.cut.new.self) p (g.P.Execute.loaders plan) c.in_ok-text.ensures.within enough lacks.0 entered;
-      numbered = c.in_ok-orders-in-Missing.ensures.numbered;
+      numbered = numbered;
     } in
     rw (← c.self.view_is) (round, ap (λ n. run_of plan n Out) next)
 
@@ -76,9 +83,11 @@ returns-in_ok-orders-in-Missing-clause-run g c =
     let enough = rw (← c.self.view_is) at c.requires.can.within in
     let lacks = rw c.in-Missing.is at c.in_ok-text.ensures.found in
     let next : c.in_ok-rounds-in-Missing.rounds ≡ c.self.inside.rounds + 1 = SomeIff-at c.checked_add.result _ _ _ c.in_ok-rounds-in-Missing.ensures.ok_part c.checked_add.ensures in
-    let entered = c.in_ok-orders-in-Missing.ensures.entered (front_in s p) lacks.2 in
+    let enters = rw c.execute.ensures.stays.same at c.in_ok-orders-in-Missing.ensures.entered in
+    let entered = enters (front_in s p) lacks.2 in
+    let numbered = rw c.execute.ensures.stays.same at c.in_ok-orders-in-Missing.ensures.numbered in
     rw (← c.self.view_is) (record {
-      since = λ begun between. between-out g.S.LocalSource.may_tell p begun s (state_of c.cut.new.self) c.self.inside.rounds c.in_ok-rounds-in-Missing.rounds (g.P.Execute.loaders plan) between next c.in_ok-orders-in-Missing.ensures.numbered c.in_ok-text.ensures.within enough lacks.0 entered;
+      since = λ begun between. between-out g.S.LocalSource.may_tell p begun s (state_of c.cut.new.self) c.self.inside.rounds c.in_ok-rounds-in-Missing.rounds (g.P.Execute.loaders plan) between next numbered c.in_ok-text.ensures.within enough lacks.0 entered;
       answer = λ begun between. tt;
       bounded = search rules;
     })
@@ -89,17 +98,18 @@ returns-in_ok-orders-in-Missing-clause-fits g c = λ later grown.
     let s = c.args.session.now in
     let t = c.cut.new.self in
     let lacks = rw c.in-Missing.is at c.in_ok-text.ensures.found in
-    let asked = lost-grows s t (front_in (state_of s) p) (c.in_ok-orders-in-Missing.ensures.entered (front_in (state_of s) p) lacks.2) in
+    let enters = rw c.execute.ensures.stays.same at c.in_ok-orders-in-Missing.ensures.entered in
+    let asked = lost-grows s t (front_in (state_of s) p) (enters (front_in (state_of s) p) lacks.2) in
     rw (← c.self.view_is) (c.in_ok-text.ensures.fits later (grows-trans (memory_of s) (memory_of t) later asked grown))
 
 pub returns-in-Ready-clause-fits : goal.returns-in-Ready-clause-fits
-returns-in-Ready-clause-fits g c = rw (← c.self.view_is) c.in_ok-text.ensures.fits
+returns-in-Ready-clause-fits g c = rw (c.execute.ensures.stays.same, ← c.self.view_is) c.in_ok-text.ensures.fits
 
 pub returns-in_err-text-clause-run : goal.returns-in_err-text-clause-run
 returns-in_err-text-clause-run g c =
     let s = state_of c.args.session.now in
     let p : Program = g.P.Execute.program c.self.inside.plan.now in
-    rw (← c.self.view_is) (record {
+    rw (c.execute.ensures.stays.same, ← c.self.view_is) (record {
       since = λ begun between. between-stops g.S.LocalSource.may_tell p begun s s c.self.inside.rounds between (inl refl);
       answer = λ begun between. IfOk-from_err c.from_residual.result _ c.from_residual.ensures.0;
       bounded = c.self.invariant;
@@ -109,7 +119,7 @@ pub returns-in_err-rounds-in-Missing-clause-run : goal.returns-in_err-rounds-in-
 returns-in_err-rounds-in-Missing-clause-run g c =
     let s = state_of c.args.session.now in
     let p : Program = g.P.Execute.program c.self.inside.plan.now in
-    rw (← c.self.view_is) (record {
+    rw (c.execute.ensures.stays.same, ← c.self.view_is) (record {
       since = λ begun between. between-stops g.S.LocalSource.may_tell p begun s s c.self.inside.rounds between (inl refl);
       answer = λ begun between. IfOk-from_err c.from_residual-in_err-rounds-in-Missing.result _ c.from_residual-in_err-rounds-in-Missing.ensures.0;
       bounded = c.self.invariant;

@@ -43,7 +43,9 @@ go_on-requires g c =
     λ κs. ((refl, tt), (subst (λ ps. All (λ plan. g.P.Execute.loaders plan ≤ length cur.loaders) ps) (sym was.plans) enough, was.fits))
 
 pub ask-requires : goal.ask-requires
-ask-requires g c = let found = rw c.in-Some.is at c.in_ok-wants.ensures.found in found.1
+ask-requires g c =
+    let found = rw c.in-Some.is at c.in_ok-wants.ensures.found in
+    rw c.go_on.ensures.stays.same found.1
 
 pub returns-in_err-ask-clause-stopped : goal.returns-in_err-ask-clause-stopped
 returns-in_err-ask-clause-stopped g c =
@@ -52,7 +54,8 @@ returns-in_err-ask-clause-stopped g c =
     let p : Program = together (requests g.P.Execute.program g.P.Execute.text_of c.args.plans.now) in
     let was = c.loop-together.invariant in
     let found : FindsAll p cur (Some c.in-Some.wants) = subst (λ ps. FindsAll (together (requests g.P.Execute.program g.P.Execute.text_of ps)) cur (Some c.in-Some.wants)) was.plans (rw c.in-Some.is at c.in_ok-wants.ensures.found) in
-    on-err c.from_residual-in_err-ask.result (in-stops g.S.LocalSource.may_tell old cur (state_of c.ask.new.self) p c.loop-together.together.rounds was.shared.is (inr (c.in_err-ask.ensures.lost (front (session_modes cur) p cur.memory) found.2)))
+    let lost = rw c.go_on.ensures.stays.same at c.in_err-ask.ensures.lost in
+    on-err c.from_residual-in_err-ask.result (in-stops g.S.LocalSource.may_tell old cur (state_of c.ask.new.self) p c.loop-together.together.rounds was.shared.is (inr (lost (front (session_modes cur) p cur.memory) found.2)))
 
 pub loop-together-preserved : goal.loop-together-preserved
 loop-together-preserved g c =
@@ -69,7 +72,8 @@ loop-together-preserved g c =
     let one : later.rounds ≡ t.rounds + 1 = rw c.in-Some.is at c.in_ok-wants.ensures.counted.counted in
     let gone = c.in_ok-wants.ensures.went in
     let report = shared-gone g.P.Execute.program g.P.Execute.text_of g.P.Execute.loaders g.P.Execute.fits g.S.LocalSource.may_tell plans old cur t.parts later.parts t.rounds (memory_of s) was.shared gone in
-    let ran = c.in_ok-ask.ensures.ran loads found.2 in
+    let runs = rw c.go_on.ensures.stays.same at c.in_ok-ask.ensures.ran in
+    let ran = runs loads found.2 in
     record {
       plans = gone-plans g.P.Execute.program g.P.Execute.text_of g.P.Execute.loaders g.P.Execute.fits t.rounds (memory_of s) t.parts later.parts gone ∙ was.plans;
       shared = shared-more g.P.Execute.program g.P.Execute.text_of g.P.Execute.loaders g.P.Execute.fits g.S.LocalSource.may_tell plans old (state_of c.ask.new.self) s t.parts later.parts t.rounds later.rounds report one gone found.0 ran;
@@ -96,18 +100,18 @@ returns-clause-answers g c =
     let fit = gone-fit g.P.Execute.program g.P.Execute.text_of g.P.Execute.loaders g.P.Execute.fits t.rounds (memory_of s) (memory_of s) t.parts later.parts gone (same-grows s s refl) in
     let are = gone-plans g.P.Execute.program g.P.Execute.text_of g.P.Execute.loaders g.P.Execute.fits t.rounds (memory_of s) t.parts later.parts gone ∙ was.plans in
     let headline = shared-all g.P.Execute.program g.P.Execute.text_of g.P.Execute.loaders g.P.Execute.fits g.S.LocalSource.may_tell plans old s later.parts t.rounds report c.forget.ensures.limited within are all fit none in
-    if-ok c.take_answers.result (λ answers e. subst (λ ts. SharedHeadline g.S.LocalSource.may_tell old cur (requests g.P.Execute.program g.P.Execute.text_of plans) ts) (sym e) headline) c.take_answers.ensures.answers
+    rw c.go_on.ensures.stays.same (if-ok c.take_answers.result (λ answers e. subst (λ ts. SharedHeadline g.S.LocalSource.may_tell old cur (requests g.P.Execute.program g.P.Execute.text_of plans) ts) (sym e) headline) c.take_answers.ensures.answers)
 
 pub returns-clause-stopped : goal.returns-clause-stopped
 returns-clause-stopped g c =
     let old = state_of c.args.self.now in
     let cur = state_of c.loop-together.self in
     let p : Program = together (requests g.P.Execute.program g.P.Execute.text_of c.args.plans.now) in
-    on-err c.take_answers.result (in-stops g.S.LocalSource.may_tell old cur cur p c.loop-together.together.rounds c.loop-together.invariant.shared.is (inl refl))
+    rw c.go_on.ensures.stays.same (on-err c.take_answers.result (in-stops g.S.LocalSource.may_tell old cur cur p c.loop-together.together.rounds c.loop-together.invariant.shared.is (inl refl)))
 
 pub returns-in_err-wants-clause-stopped : goal.returns-in_err-wants-clause-stopped
 returns-in_err-wants-clause-stopped g c =
     let old = state_of c.args.self.now in
     let cur = state_of c.loop-together.self in
     let p : Program = together (requests g.P.Execute.program g.P.Execute.text_of c.args.plans.now) in
-    on-err c.from_residual-in_err-wants.result (in-stops g.S.LocalSource.may_tell old cur cur p c.loop-together.together.rounds c.loop-together.invariant.shared.is (inl refl))
+    rw c.go_on.ensures.stays.same (on-err c.from_residual-in_err-wants.result (in-stops g.S.LocalSource.may_tell old cur cur p c.loop-together.together.rounds c.loop-together.invariant.shared.is (inl refl)))

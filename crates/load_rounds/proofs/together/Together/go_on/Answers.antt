@@ -1,8 +1,9 @@
-use Rattle.std.proofs.Common.{◌≡◌, ◌≤◌, [], length, ap, subst, ◌∙◌, sym, refl}
+use Rattle.std.proofs.Common.{◌≡◌, ◌≤◌, [], map, length, ap, subst, ◌∙◌, sym, refl}
 use Rattle.std.specs.Prelude.{All}
 use Rattle.load_memory.specs.Pairs.{MemoryOf, look}
+use Rattle.load_queue.specs.Wanted.{nothing_wanted}
 use Rattle.execution.specs.Front.{front}
-use Rattle.load_rounds.specs.Sessions.{state_of, memory_of}
+use Rattle.load_rounds.specs.Sessions.{state_of, session_modes, memory_of}
 use Rattle.load_rounds.specs.SharedRounds.{requests, together}
 use Rattle.load_rounds.specs.Together.{plans_in, FitParts, GoOn}
 use Rattle.load_rounds.proofs.Following.{nothing-modes, rules-size}
@@ -13,10 +14,12 @@ use Rattle.load_rounds.proofs.together.Together.go_on.Goals as goal
 pub go_on_all-requires : goal.go_on_all-requires
 go_on_all-requires g c =
     let m : MemoryOf = c.memory-memory.result.now in
+    let pairs : m.pairs ≡ c.args.session.now.pairs = rw c.begin_wants.ensures.same at c.memory-memory.ensures.pairs in
+    let modes : m.modes ≡ session_modes (state_of c.args.session.now) = rw c.begin_wants.ensures.same at c.memory-memory.ensures.modes in
     let s = state_of c.args.session.now in
     let xs = c.self.inside.parts.items in
-    let is : m ≡ memory_of c.args.session.now = memory-is c.args.session.now m c.memory-memory.ensures.pairs c.memory-memory.ensures.modes in
-    let size : length s.loaders ≡ length m.modes = sym (rules-size s) ∙ sym (ap length c.memory-memory.ensures.modes) in
+    let is : m ≡ memory_of c.args.session.now = memory-is c.args.session.now m pairs modes in
+    let size : length s.loaders ≡ length m.modes = sym (rules-size s) ∙ sym (ap length modes) in
     let enough = rw (← c.self.view_is) at c.requires.loaders in
     let fit = rw (← c.self.view_is) at c.requires.fits in
     λ κs. (
@@ -24,7 +27,7 @@ go_on_all-requires g c =
       (
         subst (λ n. All (λ plan. g.P.Execute.loaders plan ≤ n) (plans_in xs)) size enough,
         (
-          rw c.in_ok-wants.ensures (nothing-modes m.modes),
+          rw c.in_ok-wants.ensures.none (nothing-modes (session_modes s) ∙ sym modes),
           subst (λ (n : MemoryOf). FitParts g.P.Execute.program g.P.Execute.text_of g.P.Execute.loaders g.P.Execute.fits xs n) (sym is) fit,
         ),
       ),
@@ -33,9 +36,11 @@ go_on_all-requires g c =
 pub returns-else-is_missing-clause-found : goal.returns-else-is_missing-clause-found
 returns-else-is_missing-clause-found g c =
     let m : MemoryOf = c.memory-memory.result.now in
+    let pairs : m.pairs ≡ c.args.session.now.pairs = rw c.begin_wants.ensures.same at c.memory-memory.ensures.pairs in
+    let modes : m.modes ≡ session_modes (state_of c.args.session.now) = rw c.begin_wants.ensures.same at c.memory-memory.ensures.modes in
     let xs = c.self.inside.parts.items in
     let ys = c.go_on_all.new.parts.items in
-    let is : m ≡ memory_of c.args.session.now = memory-is c.args.session.now m c.memory-memory.ensures.pairs c.memory-memory.ensures.modes in
+    let is : m ≡ memory_of c.args.session.now = memory-is c.args.session.now m pairs modes in
     let all = sym c.in_ok-is_missing.ensures.missing ∙ c.if-is_missing.false in
     let none = gone-lacks-none g.P.Execute.program g.P.Execute.text_of g.P.Execute.loaders g.P.Execute.fits c.self.inside.rounds m xs ys c.in_ok-is_missing.ensures.went all in
     rw (← c.self.view_is) (subst (λ (n : MemoryOf). front n.modes (together (requests g.P.Execute.program g.P.Execute.text_of (plans_in xs))) (look n.pairs) ≡ []) is none)
@@ -43,21 +48,27 @@ returns-else-is_missing-clause-found g c =
 pub returns-else-is_missing-clause-went : goal.returns-else-is_missing-clause-went
 returns-else-is_missing-clause-went g c =
     let m : MemoryOf = c.memory-memory.result.now in
-    let is : m ≡ memory_of c.args.session.now = memory-is c.args.session.now m c.memory-memory.ensures.pairs c.memory-memory.ensures.modes in
+    let pairs : m.pairs ≡ c.args.session.now.pairs = rw c.begin_wants.ensures.same at c.memory-memory.ensures.pairs in
+    let modes : m.modes ≡ session_modes (state_of c.args.session.now) = rw c.begin_wants.ensures.same at c.memory-memory.ensures.modes in
+    let is : m ≡ memory_of c.args.session.now = memory-is c.args.session.now m pairs modes in
     rw (← c.self.view_is) (subst (λ (n : MemoryOf). GoOn g.P.Execute.program g.P.Execute.text_of g.P.Execute.loaders g.P.Execute.fits c.self.inside.rounds n c.self.inside.parts.items c.go_on_all.new.parts.items) is c.in_ok-is_missing.ensures.went)
 
 pub returns-in_ok-self-inside-clause-found : goal.returns-in_ok-self-inside-clause-found
 returns-in_ok-self-inside-clause-found g c =
     let m : MemoryOf = c.memory-memory.result.now in
+    let pairs : m.pairs ≡ c.args.session.now.pairs = rw c.begin_wants.ensures.same at c.memory-memory.ensures.pairs in
+    let modes : m.modes ≡ session_modes (state_of c.args.session.now) = rw c.begin_wants.ensures.same at c.memory-memory.ensures.modes in
     let s = state_of c.args.session.now in
     let xs = c.self.inside.parts.items in
     let ys = c.go_on_all.new.parts.items in
     let some = sym c.in_ok-is_missing.ensures.missing ∙ c.if-is_missing.true in
     let lacks = gone-lacks g.P.Execute.program g.P.Execute.text_of g.P.Execute.loaders g.P.Execute.fits c.self.inside.rounds m xs ys c.in_ok-is_missing.ensures.went some in
-    rw (← c.self.view_is) (found-wants g.P.Execute.program g.P.Execute.text_of m s (plans_in xs) c.in_ok-wants.wants c.go_on_all.new.wants c.memory-memory.ensures.modes (ap look c.memory-memory.ensures.pairs) c.in_ok-wants.ensures c.in_ok-is_missing.ensures.wanted lacks)
+    rw (← c.self.view_is) (found-wants g.P.Execute.program g.P.Execute.text_of m s (plans_in xs) c.in_ok-wants.wants c.go_on_all.new.wants modes (ap look pairs) (c.in_ok-wants.ensures.none ∙ ap (map nothing_wanted) (sym modes)) c.in_ok-is_missing.ensures.wanted lacks)
 
 pub returns-in_ok-self-inside-clause-went : goal.returns-in_ok-self-inside-clause-went
 returns-in_ok-self-inside-clause-went g c =
     let m : MemoryOf = c.memory-memory.result.now in
-    let is : m ≡ memory_of c.args.session.now = memory-is c.args.session.now m c.memory-memory.ensures.pairs c.memory-memory.ensures.modes in
+    let pairs : m.pairs ≡ c.args.session.now.pairs = rw c.begin_wants.ensures.same at c.memory-memory.ensures.pairs in
+    let modes : m.modes ≡ session_modes (state_of c.args.session.now) = rw c.begin_wants.ensures.same at c.memory-memory.ensures.modes in
+    let is : m ≡ memory_of c.args.session.now = memory-is c.args.session.now m pairs modes in
     rw (← c.self.view_is) (subst (λ (n : MemoryOf). GoOn g.P.Execute.program g.P.Execute.text_of g.P.Execute.loaders g.P.Execute.fits c.self.inside.rounds n c.self.inside.parts.items c.go_on_all.new.parts.items) is c.in_ok-is_missing.ensures.went)
