@@ -2,6 +2,8 @@ pub mod Behind
 pub mod Columns
 pub mod Fields
 pub mod Links
+pub mod Lookups
 pub mod Names
+pub mod PairLookups
 pub mod Unique
 pub mod Walks

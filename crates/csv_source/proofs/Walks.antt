@@ -4,7 +4,7 @@ use Rattle.std.proofs.lemmas.Bool.{eq-eqb}
 use Rattle.std.proofs.lemmas.List.{append-nil, take_all}
 use Rattle.std.proofs.lemmas.List.Elements.{filter_more}
 use Rattle.std.proofs.lemmas.Slice.Eq.{bytes_eq-Decides}
-use Rattle.std.specs.Prelude.{◌==◌, ◌&&◌, not, bytes_eq, filter, if◌then◌else◌}
+use Rattle.std.specs.Prelude.{◌==◌, ◌&&◌, not, bytes_eq, filter}
 use Rattle.load_memory.specs.Keys.{fold_text}
 use Rattle.load_memory.specs.Rows.{RowOf, cell_of}
 use Rattle.load_memory.specs.declared.key.KeyMode.{KeyMode}
@@ -86,35 +86,82 @@ module _ (p : RowOf → Bool) (rows : List RowOf) where
   pub filter-here : (place : ℕ) → place < length rows → p (get_or rows place []) ≡ true → filter p (take (place + 1) rows) ≡ filter p (take place rows) ++ get_or rows place [] ∷ []
   filter-here place lt here = rw (filter_more p rows place [] lt, here) refl
 
-  pub filter-past : (place : ℕ) → place < length rows → p (get_or rows place []) ≡ false → filter p (take (place + 1) rows) ≡ filter p (take place rows)
-  filter-past place lt past = rw (filter_more p rows place [] lt, past) (append-nil (filter p (take place rows)))
+  -- from a row of a bucket that wasn't passed to the next one that passes
+  pub next-through : (test : RowOf → Bool) (from mid to : ℕ) → ((x : RowOf) → p x ≡ true → test x ≡ true) → IsNext test rows from mid → IsNext p rows mid to → IsNext p rows from to
+  next-through test from mid to wider near far =
+      let low = near.later in
+      let high = far.later in
+      record {
+        later = omega arith;
+        between = λ k from below within. elim (cases k) [
+          | inl early ↦ not-passing _ (λ yes. absurd (cc (sym (wider _ yes) ∙ near.between k from early within)))
+          | inr late ↦ far.between k late below within
+        ];
+        passes = far.passes;
+      }
+    where
+      cases : (k : ℕ) → (k < mid) ⊎ (mid ≤ k)
+      cases k = grind arith
 
--- the rows that pass before a place whose row is inside
-pub record IsWalk (p inside : RowOf → Bool) (rows : List RowOf) (place : ℕ) (found : List RowOf) : Type 0 where
+-- the rows that pass before a place past the rows or of a row that passes
+pub record IsWalk (p : RowOf → Bool) (rows : List RowOf) (place : ℕ) (found : List RowOf) : Type 0 where
   pub rows_before : found ≡ filter p (take place rows)
+  pub reached : place < length rows → p (get_or rows place []) ≡ true
+
+-- no row passes from a place on up to one in a bucket
+pub record IsSearch (p inside : RowOf → Bool) (rows : List RowOf) (from place : ℕ) : Type 0 where
+  pub later : from ≤ place
+  pub between : (k : ℕ) → from ≤ k → k < place → k < length rows → p (get_or rows k []) ≡ false
   pub reached : place < length rows → inside (get_or rows place []) ≡ true
+
+module _ (p : RowOf → Bool) (rows : List RowOf) where
+  pub walk-all : (place : ℕ) (found : List RowOf) → length rows ≤ place → IsWalk p rows place found → found ≡ filter p rows
+  walk-all place found past walk = walk.rows_before ∙ ap (filter p) (take_all place rows past)
+
+  pub search-start : (inside : RowOf → Bool) (place : ℕ) → (place < length rows → inside (get_or rows place []) ≡ true) → IsSearch p inside rows place place
+  search-start inside place reached = record { later = omega arith; between = λ k from below within. absurd (omega arith); reached = reached }
+
+  pub search-end : (inside : RowOf → Bool) (from place : ℕ) → IsSearch p inside rows from place → (place < length rows → p (get_or rows place []) ≡ true) → IsNext p rows from place
+  search-end inside from place search passes = record { later = search.later; between = search.between; passes = passes }
 
 -- by the links of a bucket in which all rows are that pass
 module _ (is_in : ℕ → ℕ → RowOf → Bool) (rows : List RowOf) (first next : List ℕ) (linked : IsLinked is_in rows first next 0) (p : RowOf → Bool) (bucket : ℕ)
     (wider : (x : RowOf) → p x ≡ true → is_in (length first) bucket x ≡ true) where
-  pub walk-start : (found : List RowOf) → found ≡ [] → bucket < length first → IsWalk p (is_in (length first) bucket) rows (get_or first bucket 0) found
-  walk-start found none lt =
-      let head = linked.heads bucket lt in
-      record {
-        rows_before = none ∙ sym (filter-next p rows (is_in (length first) bucket) 0 _ wider head);
-        reached = head.passes;
-      }
+  pub walk-start : (to : ℕ) → bucket < length first → IsNext p rows (get_or first bucket 0) to → IsWalk p rows to []
+  walk-start to lt far =
+      let all = next-through p rows (is_in (length first) bucket) 0 _ to wider (linked.heads bucket lt) far in
+      record { rows_before = sym (filter-next p rows p 0 to (λ x yes. yes) all); reached = all.passes }
 
-  pub walk-step : (place : ℕ) (found more : List RowOf) → place < length rows → IsWalk p (is_in (length first) bucket) rows place found
-      → more ≡ (if p (get_or rows place []) then found ++ get_or rows place [] ∷ [] else found) → IsWalk p (is_in (length first) bucket) rows (get_or next place 0) more
-  walk-step place found more lt walk is = record {
-    rows_before = is ∙ here (p (get_or rows place [])) refl ∙ sym (filter-next p rows (is_in (length first) bucket) (place + 1) _ wider following);
-    reached = following.passes;
-  }
-    where
-      following : IsNext (is_in (length first) bucket) rows (place + 1) (get_or next place 0)
-      following = linked.follows place bucket (omega arith) lt (walk.reached lt)
+  module _ (place : ℕ) (lt : place < length rows) where
+    following : is_in (length first) bucket (get_or rows place []) ≡ true → IsNext (is_in (length first) bucket) rows (place + 1) (get_or next place 0)
+    following here = linked.follows place bucket (omega arith) lt here
 
-      here : (b : Bool) → p (get_or rows place []) ≡ b → (if p (get_or rows place []) then found ++ get_or rows place [] ∷ [] else found) ≡ filter p (take (place + 1) rows)
-      here true e = rw (filter-here p rows place lt e, e, walk.rows_before) refl
-      here false e = rw (filter-past p rows place lt e, e, walk.rows_before) refl
+    pub walk-following : (found : List RowOf) → IsWalk p rows place found → IsNext (is_in (length first) bucket) rows (place + 1) (get_or next place 0)
+    walk-following found walk = following (wider _ (walk.reached lt))
+
+    pub walk-step : (found : List RowOf) (to : ℕ) → IsWalk p rows place found → IsNext p rows (get_or next place 0) to → IsWalk p rows to (found ++ get_or rows place [] ∷ [])
+    walk-step found to walk far =
+        let here = walk.reached lt in
+        let all = next-through p rows (is_in (length first) bucket) (place + 1) _ to wider (following (wider _ here)) far in
+        record {
+          rows_before = rw (walk.rows_before) (sym (filter-here p rows place lt here)) ∙ sym (filter-next p rows p (place + 1) to (λ x yes. yes) all);
+          reached = all.passes;
+        }
+
+    pub search-step : (from : ℕ) → IsSearch p (is_in (length first) bucket) rows from place → p (get_or rows place []) ≡ false → IsSearch p (is_in (length first) bucket) rows from (get_or next place 0)
+    search-step from search past =
+        let near = following (search.reached lt) in
+        let low = search.later in
+        let high = near.later in
+        record {
+          later = omega arith;
+          between = λ k after below within. elim (cases k) [
+            | inl early ↦ search.between k after early within
+            | inr (inl here) ↦ rw here past
+            | inr (inr late) ↦ not-passing _ (λ yes. absurd (cc (sym (wider _ yes) ∙ near.between k late below within)))
+          ];
+          reached = near.passes;
+        }
+      where
+        cases : (k : ℕ) → (k < place) ⊎ (k ≡ place) ⊎ (place + 1 ≤ k)
+        cases k = grind arith

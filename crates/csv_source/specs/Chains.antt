@@ -2,8 +2,10 @@
 use Rattle.std.specs.Prelude.{◌≡◌, ◌≤◌, ◌<◌, ◌+◌, ℕ, Bool, true, false, List, [], Some, length, get_or, position, bytes_eq}
 use Rattle.load_memory.specs.Rows.{RowOf, SheetOf, IsRectangular}
 use Rattle.load_memory.specs.declared.key.KeyMode.{KeyMode}
-use Rattle.csv_source.specs.Hashes.{in_bucket, pair_in_bucket}
-use Rattle.csv_source.specs.Tables.{rows_of}
+use Rattle.load_memory.specs.Keys.{fold_text}
+use Rattle.csv_source.specs.Hashes.{in_bucket, bucket_of, pair_in_bucket, pair_bucket_of}
+use Rattle.csv_source.specs.Tables.{rows_of, has_text, has_pair}
+use Rattle.csv_source.specs.declared.pair_index.Pairing.{Pairing}
 
 -- the first place from a place on at which a row passes; past the rows where none does
 pub record IsNext (test : RowOf → Bool) (rows : List RowOf) (from to : ℕ) : Type 0 where
@@ -42,6 +44,18 @@ pub record IsIndex (s : SheetOf) (column : ℕ) (mode : KeyMode) (first next : L
   pub buckets : 0 < length first
   pub linked : IsLinkedIn s column mode first next 0
 
+-- a place past the rows, or that of a row in the bucket of a text
+abbrev pub IsBeside : SheetOf → ℕ → KeyMode → ℕ → List ℕ → ℕ → Type 0
+IsBeside s column mode buckets text place =
+    let bucket = bucket_of mode buckets (fold_text mode text) in
+    place < length (rows_of s)
+    → in_bucket mode (get_or s.names column []) buckets bucket (get_or (rows_of s) place []) ≡ true
+
+-- the first place from a place on of a row that has a text
+abbrev pub IsNextOfText : SheetOf → ℕ → KeyMode → List ℕ → ℕ → ℕ → Type 0
+IsNextOfText s column mode text from to =
+    IsNext (has_text mode (get_or s.names column []) (fold_text mode text)) (rows_of s) from to
+
 abbrev pub AreColumns : SheetOf → ℕ → ℕ → Type 0
 AreColumns s column second = IsColumn s column × IsColumn s second
 
@@ -63,3 +77,19 @@ pub record IsPairIndex (s : SheetOf) (column second : ℕ) (mode : KeyMode)
   pub named : AreColumns s column second
   pub buckets : 0 < length first
   pub linked : IsPairLinkedIn s column second mode first next 0
+
+-- a place past the rows, or that of a row in the bucket of two texts
+abbrev pub IsBesidePair : SheetOf → Pairing → ℕ → List ℕ → List ℕ → ℕ → Type 0
+IsBesidePair s by buckets one two place =
+    let name = get_or s.names by.column [] in
+    let other = get_or s.names by.second [] in
+    let bucket =
+    pair_bucket_of by.mode buckets (fold_text by.mode one) (fold_text by.mode two) in
+    place < length (rows_of s)
+    → pair_in_bucket by.mode name other buckets bucket (get_or (rows_of s) place []) ≡ true
+
+-- the first place from a place on of a row that has two texts
+abbrev pub IsNextOfPair : SheetOf → Pairing → List ℕ → List ℕ → ℕ → ℕ → Type 0
+IsNextOfPair s by one two from to =
+    IsNext (has_pair by.mode (get_or s.names by.column []) (get_or s.names by.second [])
+    (fold_text by.mode one) (fold_text by.mode two)) (rows_of s) from to

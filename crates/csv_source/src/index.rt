@@ -1,9 +1,9 @@
 //! The index of a column, by which the rows of a text are found.
-ghost use Rattle.std.specs.Prelude.{◌≡◌, ◌<◌, ◌+◌, ◌++◌, ◌∷◌, [], IfOk, IfErr, OnOk, Some, bytes_eq, length, Contains, filter};
+ghost use Rattle.std.specs.Prelude.{◌≡◌, ◌<◌, ◌≤◌, ◌+◌, ◌++◌, ◌∷◌, [], IfOk, IfErr, OnOk, Some, bytes_eq, length, Contains, filter};
 ghost use Rattle.std.specs.Arc.{arc_value};
 ghost use Rattle.load_memory.specs.Keys.{fold_text};
 ghost use Rattle.load_memory.specs.Rows.{IsRectangular};
-ghost use Rattle.csv_source.specs.Chains.{IsColumn, IsLinkable, IsLinkedIn};
+ghost use Rattle.csv_source.specs.Chains.{IsColumn, IsLinkable, IsLinkedIn, IsIndex, IsBeside, IsNextOfText};
 ghost use Rattle.csv_source.specs.Faults.{ColumnFault};
 ghost use Rattle.csv_source.specs.Tables.{rows_of, has_text};
 
@@ -21,6 +21,26 @@ use std::sync::Arc;
 pub(crate) struct Links {
     pub(crate) first: Vec<u32>,
     pub(crate) next: Vec<u32>,
+}
+
+// Number of rows of a bucket up to which they get their room at once.
+const MOST_ROOM: usize = 64;
+
+impl Links {
+    /// Room for the rows from a place of a bucket on: their number, up to `MOST_ROOM`. So a bucket of
+    /// many texts takes little memory for the rows of one.
+    pub(crate) fn room(&self, place: u32) -> usize
+        ensures { result ≤ 64 }
+    {
+        let mut place = place;
+        for count in 0..MOST_ROOM {
+            let Some(after) = self.next.get(place as usize) else {
+                return count;
+            };
+            place = *after;
+        }
+        MOST_ROOM
+    }
 }
 
 /// The rows of a table by the text that they have in a column.
@@ -109,6 +129,23 @@ pub(crate) fn is_same(mode: KeyMode, field: &str, text: &str) -> bool
     }
 }
 
+// The first place of a row that has the text, from a place of the text's bucket on.
+fn find(sheet: &Sheet, column: usize, mode: KeyMode, links: &Links, text: &str, place: u32) -> u32
+    requires index { IsIndex sheet.now column mode links.now.first.items links.now.next.items }
+    requires reached { IsBeside sheet.now column mode
+        (length links.now.first.items) text.now place }
+    ensures { IsNextOfText sheet.now column mode text.now place result }
+{
+    let mut place = place;
+    while let Some(after) = links.next.get(place as usize) {
+        if is_same(mode, sheet.field(place, column), text) {
+            return place;
+        }
+        place = *after;
+    }
+    place
+}
+
 impl ColumnIndex {
     /// The index of the first column of that name.
     ///
@@ -153,15 +190,24 @@ impl ColumnIndex {
         ensures { IfOk result (λ rows. rows ≡ filter (has_text self.now.mode self.now.column
             (fold_text self.now.mode text.now)) self.now.rows) }
     {
-        let mut found = Rows::none();
-        let Links { first, next } = &self.links;
-        let mut place = first[bucket(self.mode, first.len(), text)];
-        while let Some(after) = next.get(place as usize) {
-            if is_same(self.mode, self.sheet.field(place, self.column), text) {
-                found.push(alloc, Row::of_sheet(&self.sheet, place)?)?;
-            }
-            place = *after;
+        let (sheet, links) = (&self.sheet, &self.links);
+        let Links { first, next } = links;
+        let head = first[bucket(self.mode, first.len(), text)];
+        let place = find(sheet, self.column, self.mode, links, text, head);
+        let Some(after) = next.get(place as usize) else {
+            return Ok(Rows::none());
+        };
+        let row = Row::of_sheet(sheet, place)?;
+        let mut place = find(sheet, self.column, self.mode, links, text, *after);
+        if place as usize >= next.len() {
+            return Ok(Rows::from(row));
         }
-        Ok(found)
+        let mut found = Vec::with_capacity(alloc, 1 + links.room(place))?;
+        found.push(row)?;
+        while let Some(after) = next.get(place as usize) {
+            found.push(Row::of_sheet(sheet, place)?)?;
+            place = find(sheet, self.column, self.mode, links, text, *after);
+        }
+        Ok(Rows::from(found))
     }
 }

@@ -3,7 +3,7 @@ ghost use Rattle.std.specs.Prelude.{◌≡◌, ◌<◌, ◌+◌, ◌&&◌, [], I
 ghost use Rattle.std.specs.Arc.{arc_value};
 ghost use Rattle.load_memory.specs.Keys.{pair};
 ghost use Rattle.load_memory.specs.Rows.{IsRectangular};
-ghost use Rattle.csv_source.specs.Chains.{AreColumns, IsPairLinkable, IsPairLinkedIn};
+ghost use Rattle.csv_source.specs.Chains.{AreColumns, IsPairLinkable, IsPairLinkedIn, IsPairIndex, IsBesidePair, IsNextOfPair};
 ghost use Rattle.csv_source.specs.Faults.{PairFault};
 ghost use Rattle.csv_source.specs.Tables.{rows_of, rows_by, index_by_two, two_columns, equals_at};
 
@@ -94,6 +94,24 @@ fn link_rows(alloc: Global, sheet: &Sheet, by: Pairing) -> Result<Links, AllocEr
     Ok(links)
 }
 
+// The first place of a row that has the two texts, from a place of their bucket on.
+fn find(sheet: &Sheet, by: Pairing, links: &Links, one: &str, two: &str, place: u32) -> u32
+    requires index { IsPairIndex sheet.now by.column by.second by.mode
+        links.now.first.items links.now.next.items }
+    requires reached { IsBesidePair sheet.now by
+        (length links.now.first.items) one.now two.now place }
+    ensures { IsNextOfPair sheet.now by one.now two.now place result }
+{
+    let mut place = place;
+    while let Some(after) = links.next.get(place as usize) {
+        if is_same_pair(sheet, by, place, one, two) {
+            return place;
+        }
+        place = *after;
+    }
+    place
+}
+
 impl PairIndex {
     /// The index of the first columns of these two names.
     ///
@@ -142,16 +160,24 @@ impl PairIndex {
         ensures { IfOk result (λ rows. rows ≡ rows_by self.now.mode self.now.rows
             (two_columns self.now.column self.now.second) (pair one.now two.now)) }
     {
-        let mut found = Rows::none();
         let Links { first, next } = &self.links;
-        let mut place = first[pair_bucket(self.by.mode, first.len(), one, two)];
-        while let Some(after) = next.get(place as usize) {
-            if is_same_pair(&self.sheet, self.by, place, one, two) {
-                found.push(alloc, Row::of_sheet(&self.sheet, place)?)?;
-            }
-            place = *after;
+        let head = first[pair_bucket(self.by.mode, first.len(), one, two)];
+        let place = find(&self.sheet, self.by, &self.links, one, two, head);
+        let Some(after) = next.get(place as usize) else {
+            return Ok(Rows::none());
+        };
+        let row = Row::of_sheet(&self.sheet, place)?;
+        let mut place = find(&self.sheet, self.by, &self.links, one, two, *after);
+        if place as usize >= next.len() {
+            return Ok(Rows::from(row));
         }
-        Ok(found)
+        let mut found = Vec::with_capacity(alloc, 1 + self.links.room(place))?;
+        found.push(row)?;
+        while let Some(after) = next.get(place as usize) {
+            found.push(Row::of_sheet(&self.sheet, place)?)?;
+            place = find(&self.sheet, self.by, &self.links, one, two, *after);
+        }
+        Ok(Rows::from(found))
     }
 }
 

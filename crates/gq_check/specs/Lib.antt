@@ -6,3 +6,4 @@ pub mod Verdict
 pub mod Report
 pub mod Planned
 pub mod Valid
+pub mod Plain

@@ -1,4 +1,5 @@
 -- Lemmas on how far an execution comes: what waits is what the plan still asks.
+use Rattle.std.specs.Arc.{arc_value}
 use Rattle.std.proofs.Common.{◌≡◌, ℕ, ◌<◌, true, false, List, [], ◌∷◌, ◌++◌, Vec, Global, length, refl, sym, ap, subst, ◌∙◌, arith, append_assoc, append-nil, length-append, codes}
 use Rattle.std.specs.List.{flat_map}
 use Rattle.std.proofs.lemmas.Bool.{and_parts}
@@ -43,15 +44,19 @@ use Rattle.gq_resolve.proofs.Putting.{puts_ask, puts_tokens, asks-puts, waits-pu
 -- ---- roots
 
 -- a root whose members were made of no groups
-pub begun-rooted : (plan : PlanOf) (r : RootObject) (old : List LoadingField) → old ≡ [] → AreMade old r.groups.items (root_prepared plan) r.members.items → IsRooted plan r
+pub begun-rooted : (plan : PlanOf) (r : RootObject) (old : List LoadingField) → old ≡ [] → AreMade old r.groups.items (root_prepared plan) (arc_value r.members).items → IsRooted plan r
 begun-rooted plan r old none made = record { root = made.makes plan; right = (made.grows plan).right (subst (AreRight plan) (sym none) (λ k g lt. absurd (omega (arith, lt)))) }
 
 -- a root whose groups have grown
 pub rooted-more : (plan : PlanOf) (r : RootObject) (gs : Vec LoadingField Global) → Grows plan r.groups.items gs.items → IsRooted plan r → IsRooted plan (record { members = r.members; groups = gs })
-rooted-more plan r gs grows is = record { root = makes-more plan r.groups.items gs.items r.members.items (root_prepared plan) grows is.root; right = grows.right is.right }
+rooted-more plan r gs grows is = record { root = makes-more plan r.groups.items gs.items (arc_value r.members).items (root_prepared plan) grows is.root; right = grows.right is.right }
+
+-- a copy of a root, which shares its members
+pub copied-rooted : (plan : PlanOf) (r copy : RootObject) → arc_value copy.members ≡ arc_value r.members → Grows plan r.groups.items copy.groups.items → IsRooted plan r → IsRooted plan copy
+copied-rooted plan r copy same grows is = record { root = rw same (makes-more plan r.groups.items copy.groups.items (arc_value r.members).items (root_prepared plan) grows is.root); right = grows.right is.right }
 
 -- the walk over the root object, which has no row
-pub over-root : {S : Type 0} {goes : Putting S} {below : Below S} {most : ℕ} (plan : PlanOf) (m : MemoryOf) (r : RootObject) (row : RowOf) (ms : List Member) (a b : Progress S) → a.groups ≡ r.groups → row ≡ [] → ms ≡ r.members.items → IsRooted plan r
+pub over-root : {S : Type 0} {goes : Putting S} {below : Below S} {most : ℕ} (plan : PlanOf) (m : MemoryOf) (r : RootObject) (row : RowOf) (ms : List Member) (a b : Progress S) → a.groups ≡ r.groups → row ≡ [] → ms ≡ (arc_value r.members).items → IsRooted plan r
     → below (length r.groups.items) a.out → Goes goes below most plan (AreKnown (length a.groups.items) ms) (λ v. puts false (Under ObjectOf (members_seen plan.definitions v most_levels row ms)) (lookup m)) a b
     → GoesOver goes plan m a.out (record { rooted = record { members = r.members; groups = b.groups }; out = b.out })
 over-root {goes = goes} {below = below} plan m r row ms a b start none same rooted wait p =

@@ -4,6 +4,7 @@ pub mod Completing
 pub mod Written
 pub mod Composing
 pub mod Suspended
+pub mod PreparedPlans
 pub mod Built
 pub mod Faulted
 pub mod Texted

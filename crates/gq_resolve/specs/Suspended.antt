@@ -1,5 +1,6 @@
 -- *Suspended resolvers*: an execution that has stopped, and when it may go on.
 use Rattle.std.specs.Prelude.{◌≡◌, ◌≢◌, ℕ, false, List, [], map, length, Option, Some, None}
+use Rattle.std.specs.Arc.{arc_value}
 use Rattle.json.specs.Tree.{json_tokens}
 use Rattle.load_memory.specs.Keys.{key_of}
 use Rattle.load_memory.specs.Pairs.{MemoryOf}
@@ -28,7 +29,7 @@ use Rattle.plan_walk.specs.declared.walk.Walk.{Walk}
 
 -- the members of the root, and groups that are right
 pub record IsRooted (plan : PlanOf) (r : RootObject) : Type 0 where
-  pub root : Makes plan r.groups.items r.members.items (root_prepared plan)
+  pub root : Makes plan r.groups.items (arc_value r.members).items (root_prepared plan)
   pub right : AreRight plan r.groups.items
 
 -- Over each larger memory these positions ask what the plan asks, each load once.

@@ -3,7 +3,7 @@
 ghost use Rattle.std.specs.Prelude.{length, IfOk, OnErr};
 ghost use Rattle.load_memory.specs.Pairs.{MemoryOf};
 ghost use Rattle.execution.specs.Executes.{CanExecute, GrowsTo};
-ghost use Rattle.gq_check.specs.Plans.{plan_of};
+ghost use Rattle.gq_check.specs.Plans.{PlanOf, plan_of};
 ghost use Rattle.gq_resolve.specs.Evaluated.{AddsPart};
 ghost use Rattle.gq_resolve.specs.Suspended.{plan_on, IsRooted, WaitsBelow, GoesOverTour, IsResponse, MayGoOn, Advanced, FitsStopped, FitsTour, IsAdvanced, lacking};
 
@@ -15,12 +15,13 @@ use gq_lexer::Place;
 use load_memory::{Probe, Row};
 use load_queue::Wants;
 use plan_program::{collect, prepare_groups};
-use plan_walk::loading_fields::{LoadingField, Member, members_of};
+use plan_walk::loading_fields::{LoadingField, Member, copy_of, members_of};
 use plan_walk::positions::{FieldPosition, Nullability, PositionKind};
 use plan_walk::sink::Sink;
 use plan_walk::waiting::Waiting;
 use plan_walk::walk::{LoadingPosition, Progress, Walk};
 use std::alloc::AllocError;
+use std::sync::Arc;
 
 /// Says how many levels of objects a plan has at most below its root.
 const MOST_LEVELS: u32 = 128;
@@ -28,7 +29,7 @@ const MOST_LEVELS: u32 = 128;
 /// The positions of the root object, and the groups that were met.
 #[derive(Drop)]
 pub struct RootObject<'p> {
-    pub members: Vec<Member<'p>>,
+    pub members: Arc<Vec<Member<'p>>>,
     pub groups: Vec<LoadingField<'p>>,
 }
 
@@ -58,7 +59,23 @@ pub fn prepare_root<'p>(walk: &Walk<'_, 'p>) -> Result<RootObject<'p>, AllocErro
     let all = prepare_groups(walk.alloc, walk.plan, ty, collected)?;
     let mut groups = Vec::new(walk.alloc);
     let members = members_of(walk.alloc, &mut groups, all)?;
-    Ok(RootObject { members, groups })
+    Ok(RootObject {
+        members: Arc::new(walk.alloc, members)?,
+        groups,
+    })
+}
+
+impl<'p> RootObject<'p> {
+    /// A copy, which shares the members.
+    pub fn copy(&self) -> Result<RootObject<'p>, AllocError>
+        ensures { IfOk result (λ copy.
+            (plan : PlanOf) → IsRooted plan self.now → IsRooted plan copy) }
+    {
+        Ok(RootObject {
+            members: Arc::try_clone(&self.members)?,
+            groups: copy_of(&self.groups)?,
+        })
+    }
 }
 
 /// Goes over the whole plan, into a sink in which nothing waits at a later group.

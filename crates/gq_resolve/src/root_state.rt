@@ -1,6 +1,6 @@
 //! The execution of a plan that is polled, and goes on where it stopped.
 
-ghost use Rattle.std.specs.Prelude.{◌≡◌, length, IfOk, OnErr};
+ghost use Rattle.std.specs.Prelude.{◌≡◌, length, IfOk, OnOk, OnErr};
 ghost use Rattle.load_memory.specs.Pairs.{MemoryOf};
 ghost use Rattle.execution.specs.Executes.{CanExecute, IsExecuted, GrowsTo};
 ghost use Rattle.gq_check.specs.Plans.{plan_of};
@@ -8,9 +8,9 @@ ghost use Rattle.plan_program.specs.PlanPrograms.{plan_program};
 ghost use Rattle.gq_resolve.specs.Answered.{answer_text};
 ghost use Rattle.gq_resolve.specs.Evaluated.{missing_over, AddsPart};
 ghost use Rattle.gq_resolve.specs.Limited.{limited_answer};
-ghost use Rattle.gq_resolve.specs.Suspended.{plan_in, FitsMemory};
+ghost use Rattle.gq_resolve.specs.Suspended.{plan_in, FitsMemory, IsRooted};
 
-use crate::advance::{FinishedWalk, Suspension, advance, build_response};
+use crate::advance::{FinishedWalk, RootObject, Suspension, advance, build_response};
 use crate::answered::ExecutionResult;
 use crate::faulted_text::whole_text;
 use crate::limited::text_or_refusal;
@@ -50,6 +50,22 @@ impl<'p> RootState<'p> {
             most: most_groups_of(plan),
             stopped: None,
         }
+    }
+
+    /// Begins with a copy of what was prepared of the plan, where nothing is done yet.
+    pub(crate) fn begin_prepared(&mut self, prepared: &RootObject<'p>) -> Result<(), AllocError>
+        ensures same_plan { plan_in self.new
+            ≡ plan_in self.old }
+        ensures fits { OnOk result (IsRooted (plan_in self.old) prepared.now → (m : MemoryOf)
+            → FitsMemory self.old m → FitsMemory self.new m) }
+    {
+        if self.stopped.is_none() {
+            self.stopped = Some(Suspension {
+                rooted: prepared.copy()?,
+                waiting: None,
+            });
+        }
+        Ok(())
     }
 
     /// [`poll`](Resolve::poll) to the text of the answer (section 7.1). An answer without errors is written straight from

@@ -4,7 +4,7 @@ use denote.Param.Send.{IsSend, sendable}
 use denote.Param.SendFields.{declared_send, variants_send, VariantsHave}
 use Rattle.std.proofs.Crossing as over
 use Rattle.rounds_by_hand.proofs.load_hand.LoadHand.TheSendSync as load_hand_crosses
-use Rattle.server.proofs.Crossing.{client_send, documents_send, reader_send, server_send}
+use Rattle.server.proofs.Crossing.{client_send, reader_send, request_cache_send, server_send}
 use Rattle.server.specs.contracts.client.ClientSession as session
 use Rattle.server.specs.contracts.load_by_hand.LoadByHand as by_hand
 use Rattle.server.specs.contracts.load_by_hand.LoadByHand.TheInside as by_hand_inside
@@ -50,7 +50,7 @@ keys_send = search (over.crosses, sendable) depth 20
 by_hand_inside_send : IsSend (by_hand_inside.the_row handed_in.the_row)
 by_hand_inside_send =
     declared_send (by_hand_inside.the_type handed_in.the_row)
-    (search sendable depth 20, (search documents_send, (search reader_send, (search sendable depth 20, (search (load_hand_crosses.the_send, sendable, handed_in_crosses.the_send) depth 20, tt)))))
+    (search sendable depth 20, (search request_cache_send, (search reader_send, (search sendable depth 20, (search (load_hand_crosses.the_send, sendable, handed_in_crosses.the_send) depth 20, tt)))))
 
 by_hand_send : IsSend (by_hand.the_row handed_in.the_row)
 by_hand_send = let i = by_hand_inside_send in record { owned = λ d vs x. (i.owned x.0 vs, tt); leaving = λ k d w. tt }

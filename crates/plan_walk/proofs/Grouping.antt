@@ -1,6 +1,6 @@
 -- Groups that are more and more, and shapes that are kept.
 use Rattle.std.specs.Arc.{arc_value}
-use Rattle.std.proofs.Common.{◌≡◌, ℕ, zero, suc, ◌<◌, ◌≤◌, ◌+◌, true, List, [], ◌∷◌, ◌++◌, take, length, get_or, set, refl, sym, ap, subst, ◌∙◌, arith, length-append, length-set, Some, None, string_bytes}
+use Rattle.std.proofs.Common.{◌≡◌, ℕ, zero, suc, ◌<◌, ◌≤◌, ◌+◌, true, List, [], ◌∷◌, ◌++◌, take, length, get_or, set, refl, sym, ap, subst, ◌∙◌, arith, length-append, length-set, Some, None}
 use Rattle.std.specs.List.{All, slice_get}
 use Rattle.std.specs.Option.{option_map_or}
 use Rattle.std.proofs.lemmas.Option.{slice_get-get_or, slice_get_within, get_or_from_slice_get}
@@ -55,7 +55,7 @@ grows-then plan a b c f g = record {
 }
 
 -- a view that covers a list of groups covers another whose groups do the same
-covers-like : (plan : PlanOf) (old new : List LoadingField) (v : View) → length old ≤ length new
+pub covers-like : (plan : PlanOf) (old new : List LoadingField) (v : View) → length old ≤ length new
     → ((i : ℕ) → i < length old → then_at new i ≡ then_at old i) → ((i : ℕ) → i < length old → children_at new i ≡ children_at old i) → Covers plan new v → Covers plan old v
 covers-like plan old new v le e f c = record {
   count = omega (arith, le, c.count);
@@ -78,7 +78,7 @@ slice-end (x ∷ xs) y = slice-end xs y
 length-more : {X : Type 0} (xs : List X) (y : X) → length (xs ++ y ∷ []) ≡ length xs + 1
 length-more xs y = length-append xs (y ∷ [])
 
-shape-more : (plan : PlanOf) (old new : List LoadingField) (children : ChildrenOf) (s : TypePositions) → length old ≤ length new → ((v : View) → Covers plan new v → Covers plan old v) → IsShape plan old children s → IsShape plan new children s
+pub shape-more : (plan : PlanOf) (old new : List LoadingField) (children : ChildrenOf) (s : TypePositions) → length old ≤ length new → ((v : View) → Covers plan new v → Covers plan old v) → IsShape plan old children s → IsShape plan new children s
 shape-more plan old new children s le covers made = record {
   makes = record {
     known = λ n m among. asked-more (length old) (length new) (get_or (arc_value s.members).items n m).asks le (made.makes.known n m among);
@@ -132,7 +132,7 @@ children-there gs i g e = ap (λ o. option_map_or (λ (x : LoadingField). childr
 right-there : (plan : PlanOf) (gs : List LoadingField) (i : ℕ) (g : LoadingField) → slice_get gs i ≡ Some g → AreRight plan gs → IsRight plan gs g
 right-there plan gs i g e h = subst (IsRight plan gs) (get_or_from_slice_get gs i g g e) (h i g (slice_get_within gs i g e))
 
-pub kept-there : (gs : List LoadingField) (i k : ℕ) (g : LoadingField) (s : TypePositions) (ty : List ℕ) → i < length gs → g ≡ get_or gs i g → k < length g.shapes.items → s ≡ get_or g.shapes.items k s → string_bytes s.ty ≡ ty → AreKept gs i ty (arc_value s.members).items
+pub kept-there : (gs : List LoadingField) (i k : ℕ) (g : LoadingField) (s : TypePositions) (ty : List ℕ) → i < length gs → g ≡ get_or gs i g → k < length g.shapes.items → s ≡ get_or g.shapes.items k s → s.ty ≡ ty → AreKept gs i ty (arc_value s.members).items
 kept-there gs i k g s ty within same lt is name = λ plan h.
     let there : slice_get gs i ≡ Some g = slice_get-get_or gs i g within ∙ ap Some (sym same) in
     let here : IsShape plan gs (children_in g.children) s = subst (IsShape plan gs (children_in g.children)) (sym is) (right-there plan gs i g there h k s lt) in
@@ -230,12 +230,12 @@ pub shaped-kept : (plan : PlanOf) (most : ℕ) (gs : List LoadingField) (group :
 shaped-kept plan most gs group ty ms h = record { grows = grows-self plan gs; front = λ le. take_all (length gs) gs (omega arith); makes = λ r. h plan r }
 
 -- a shape that was made is kept, where there was such a group
-pub shaped-then : (plan : PlanOf) (most : ℕ) (old mid new : List LoadingField) (count group : ℕ) (ty : List ℕ) (s : TypePositions) (ms : List Member) → count ≡ length old → string_bytes s.ty ≡ ty → (arc_value s.members).items ≡ ms
+pub shaped-then : (plan : PlanOf) (most : ℕ) (old mid new : List LoadingField) (count group : ℕ) (ty : List ℕ) (s : TypePositions) (ms : List Member) → count ≡ length old → s.ty ≡ ty → (arc_value s.members).items ≡ ms
     → (s.only ≡ true → IsOnly plan.definitions (children_at old group) ty) → AreMade old mid (type_prepared plan (children_at old group) ty) ms → ((p : PlanOf) → (group < count → IsShape p mid (children_at mid group) s) → Grows p mid new) → (most ≤ count → new ≡ mid) → IsShaped plan most old new group ty ms
 shaped-then plan most old mid new count group ty s ms counted name same only h kept full =
     let made : Makes plan mid ms (type_prepared plan (children_at old group) ty) = h.makes plan in
     let here : IsShape plan mid (children_at old group) s = record {
-      makes = subst (λ (xs : List Member). Makes plan mid xs (type_prepared plan (children_at old group) (string_bytes s.ty))) (sym same)
+      makes = subst (λ (xs : List Member). Makes plan mid xs (type_prepared plan (children_at old group) s.ty)) (sym same)
           (subst (λ (t : List ℕ). Makes plan mid ms (type_prepared plan (children_at old group) t)) (sym name) made);
       only = λ e. subst (λ (t : List ℕ). IsOnly plan.definitions (children_at old group) t) (sym name) (only e);
     } in

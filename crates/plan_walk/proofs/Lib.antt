@@ -1,5 +1,6 @@
 pub mod Lookups
 pub mod Grouping
+pub mod Copying
 pub mod Stepping
 pub mod Touring
 pub mod Noting

@@ -1,5 +1,5 @@
 -- Definitions of what is kept of the groups that load, by their numbers.
-use Rattle.std.specs.Prelude.{◌≡◌, ◌<◌, ◌≤◌, ℕ, true, false, List, [], ◌∷◌, length, map, take, string_bytes, Option, Some, None}
+use Rattle.std.specs.Prelude.{◌≡◌, ◌<◌, ◌≤◌, ℕ, true, false, List, [], ◌∷◌, length, map, take, Option, Some, None}
 use Rattle.std.specs.List.{All, slice_get}
 use Rattle.std.specs.Option.{option_map_or}
 use Rattle.std.specs.Arc.{arc_value}
@@ -139,8 +139,8 @@ pub record IsOnly (defs : List Definition) (children : ChildrenOf) (ty : List �
 pub record IsShape (plan : PlanOf) (gs : List LoadingField) (children : ChildrenOf)
     (s : TypePositions) : Type 0 where
   pub makes : Makes plan gs (arc_value s.members).items
-      (type_prepared plan children (string_bytes s.ty))
-  pub only : s.only ≡ true → IsOnly plan.definitions children (string_bytes s.ty)
+      (type_prepared plan children s.ty)
+  pub only : s.only ≡ true → IsOnly plan.definitions children s.ty
 
 abbrev pub IsRight : PlanOf → List LoadingField → LoadingField → Type 0
 IsRight plan gs g = All (IsShape plan gs (children_in g.children)) g.shapes.items

@@ -4,11 +4,11 @@ ghost use Rattle.std.specs.Prelude.{◌≡◌, ◌<◌, ◌≤◌, IfOk, IfSome,
 ghost use Rattle.std.specs.Arc.{arc_value};
 ghost use Rattle.gq_schema.specs.Types.{tree_of};
 ghost use Rattle.gq_bindings.specs.Seen.{step_of};
-ghost use Rattle.gq_check.specs.Plans.{plan_of};
+ghost use Rattle.gq_check.specs.Plans.{PlanOf, plan_of};
 ghost use Rattle.plan_program.specs.FieldValues.{each_row};
 ghost use Rattle.plan_program.specs.Prepared.{keys_seen, value_from_seen, prepared_seen, all_prepared_seen, children_seen};
 ghost use Rattle.plan_walk.specs.Positions.{is_non_null, position_seen};
-ghost use Rattle.plan_walk.specs.Groups.{children_in, children_at, then_at, steps_in, GrowsByShape, IsNew, IsAsking, AreMade, Meets, AreKept, IsOnly, AreOnly, IsShaped};
+ghost use Rattle.plan_walk.specs.Groups.{children_in, children_at, then_at, steps_in, GrowsByShape, IsNew, IsAsking, AreMade, Meets, AreKept, IsOnly, AreOnly, IsShaped, Grows};
 
 use crate::cells::is_object_type;
 use crate::positions::{FieldPosition, Items, Nullability, Onward};
@@ -17,12 +17,15 @@ use gq_bindings::ViaLoader;
 use gq_lexer::Place;
 use gq_parser::{Field, Selection, TypeRef};
 use gq_schema::Schema;
-use load_memory::Key;
+use load_memory::{Key, Text};
 use plan_program::{
     Children, KeyFrom, LeafValue, PreparedField, ValueFrom, collect_subfields, prepare_groups,
 };
 use std::alloc::{AllocError, Global};
 use std::sync::Arc;
+
+/// Says of how many groups, and of how many members, what stands below is prepared ahead.
+const MOST_PREPARED: usize = 256;
 
 /// Says what is done with the rows of a load.
 #[derive(Clone, Copy, Drop)]
@@ -67,17 +70,18 @@ pub struct Member<'p> {
     pub asks: FieldResolver<'p>,
 }
 
-/// The positions of the objects of one type below a group.
-#[derive(Drop)]
+/// The positions of the objects of one type below a group. A copy shares the members.
+#[derive(Clone, Drop)]
 pub struct TypePositions<'p> {
-    pub ty: String,
+    pub ty: Text,
     /// Tells whether all objects below the group have this type, since the group's field is of it.
     pub only: bool,
     pub members: Arc<Vec<Member<'p>>>,
 }
 
-/// A group of fields that loads: what is done with the rows, and the shapes of the objects that were met there.
-#[derive(Drop)]
+/// A group of fields that loads: what is done with the rows, and the shapes of the objects that were met there. A copy shares what
+/// stands below.
+#[derive(Clone, Drop)]
 pub struct LoadingField<'p> {
     pub then: RowUse<'p>,
     pub children: Arc<Children<'p>>,
@@ -389,12 +393,57 @@ pub fn shape_of<'p>(
     let children = children_of(walk.alloc, groups, group)?;
     let members = meet(walk, groups, &children, ty)?;
     let shape = TypePositions {
-        ty: String::from_str(walk.alloc, ty)?,
+        ty: Text::from_str(walk.alloc, ty)?,
         only,
         members: Arc::try_clone(&members)?,
     };
     keep(groups, count, walk.most, group, shape)?;
     Ok(members)
+}
+
+/// A copy of groups, which shares what stands below them.
+pub fn copy_of<'p>(groups: &Vec<LoadingField<'p>>) -> Result<Vec<LoadingField<'p>>, AllocError>
+    ensures { IfOk result (λ copy.
+        (plan : PlanOf) → Grows plan groups.now.items copy.items) }
+{
+    let copy = groups.clone()?;
+    Ok(copy)
+}
+
+/// Prepares what is asked of the objects below groups of one object type, for some of them: not more than a short document has.
+pub fn prepare_below<'p>(
+    walk: &Walk<'_, 'p>,
+    groups: &mut Vec<LoadingField<'p>>,
+) -> Result<(), AllocError>
+    ensures { OnOk result
+        (Grows (plan_of walk.now.plan.now) groups.old.items groups.new.items) }
+{
+    let mut room = MOST_PREPARED;
+    for group in 0..MOST_PREPARED {
+        if group >= groups.len() || room == 0 {
+            return Ok(());
+        }
+        let members = prepare_only(walk, groups, group)?;
+        room = room.saturating_sub(members);
+    }
+    Ok(())
+}
+
+// Prepares what is asked of the objects below a group, if they have one object type. Returns how many members there are.
+fn prepare_only<'p>(
+    walk: &Walk<'_, 'p>,
+    groups: &mut Vec<LoadingField<'p>>,
+    group: usize,
+) -> Result<usize, AllocError>
+    ensures { OnOk result
+        (Grows (plan_of walk.now.plan.now) groups.old.items groups.new.items) }
+{
+    let ty = type_name_of(groups, group);
+    if !is_object_type(walk.plan.schema(), ty) {
+        return Ok(0);
+    }
+    let members = shape_of(walk, groups, group, ty)?;
+    Ok(members.len())
 }
 
 // Tells whether an object is selected below one that these fields select of.

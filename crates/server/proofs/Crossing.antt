@@ -6,22 +6,14 @@ use denote.Param.Send.{IsSend, IsSync, sendable}
 use denote.Param.SendFields.{declared_send}
 use Rattle.std.proofs.Crossing as over
 use Rattle.std.proofs.MapsCrossing as maps
-use Rattle.short_text.proofs.text.Text.TheSendSync as text
-use Rattle.gq_parser.proofs.tree.Selection.TheLaws.TheKnot as selection
-use Rattle.gq_parser.proofs.tree.TypeRef.TheLaws.TheKnot as type_ref
-use Rattle.gq_parser.proofs.tree.Value.TheLaws.TheKnot as value
-use Rattle.gq_parser.specs.contracts.tree.Fragment as fragment
-use Rattle.gq_parser.specs.contracts.tree.Operation as operation
-use Rattle.gq_schema.specs.contracts.schema.Schema as schema
-use Rattle.gq_bindings.specs.contracts.read.Bindings as bindings
 use Rattle.gq_bindings.proofs.read.Bindings.TheSendSync as bindings_cross
 use Rattle.gq_check.specs.contracts.prepared_document.PreparedDocument as kept
 use Rattle.plan_requests.specs.contracts.server.Server as server
 use Rattle.plan_requests.specs.contracts.document_cache.DocumentCache as documents
+use Rattle.kept_plans.proofs.KeptCrossing.{kept_plan_send}
+use Rattle.server.specs.contracts.request_cache.RequestCache as request_cache
 use Rattle.gq_check.specs.contracts.checked.CheckedDocument as checked
-use Rattle.gq_check.specs.contracts.plan.Plan as plan
-use Rattle.gq_schema.proofs.input.Input.TheLaws.TheKnot as input
-use Rattle.gq_variables.specs.contracts.variable.Variable as variable
+use Rattle.kept_plans.proofs.PlanCrossing.{fragment_send, fragment_sync, operation_send, operation_sync, plan_send, schema_send, schema_sync}
 use Rattle.plan_requests.specs.contracts.plans.RequestPlan as request_plan
 use Rattle.plan_requests.specs.contracts.plans.ArrayPlan as array_plan
 use Rattle.load_rounds.proofs.session.Session.TheSendSync as session
@@ -30,35 +22,11 @@ use Rattle.serde_json.proofs.value.Value.TheLaws.TheKnot as json
 use Rattle.server.specs.contracts.client.ClientSession as client
 use Rattle.server.specs.contracts.client.ClientSession.TheInside as inside
 
-pub schema_send : IsSend schema.the_row
-schema_send = search (over.crosses, maps.crosses, sendable, text.the_send, value.send-Literal, type_ref.send-TypeRef) depth 40 fits 10000
-
-pub schema_sync : IsSync schema.the_row
-schema_sync = search (over.crosses, maps.crosses, sendable, text.the_sync, value.sync-Literal, type_ref.sync-TypeRef) depth 40 fits 10000
-
-pub operation_send : IsSend operation.the_row
-operation_send = search (over.crosses, maps.crosses, sendable, text.the_send, value.send-Literal, value.send-Argument, type_ref.send-TypeRef, selection.send-SelectionSet) depth 40 fits 10000
-
-pub operation_sync : IsSync operation.the_row
-operation_sync = search (over.crosses, maps.crosses, sendable, text.the_sync, value.sync-Literal, value.sync-Argument, type_ref.sync-TypeRef, selection.sync-SelectionSet) depth 40 fits 10000
-
 pub server_send : IsSend server.the_row
 server_send = search (over.crosses, sendable, schema_send, schema_sync, bindings_cross.the_send, bindings_cross.the_sync) depth 20
 
 pub server_sync : IsSync server.the_row
 server_sync = search (over.crosses, sendable, schema_send, schema_sync, bindings_cross.the_send, bindings_cross.the_sync) depth 20
-
-pub fragment_send : IsSend fragment.the_row
-fragment_send = search (over.crosses, maps.crosses, sendable, text.the_send, value.send-Literal, value.send-Argument, selection.send-SelectionSet) depth 40 fits 10000
-
-pub fragment_sync : IsSync fragment.the_row
-fragment_sync = search (over.crosses, maps.crosses, sendable, text.the_sync, value.sync-Literal, value.sync-Argument, selection.sync-SelectionSet) depth 40 fits 10000
-
-pub variable_send : IsSend variable.the_row
-variable_send = search (over.crosses, maps.crosses, sendable, text.the_send, input.send-Input) depth 40 fits 10000
-
-pub variable_sync : IsSync variable.the_row
-variable_sync = search (over.crosses, maps.crosses, sendable, text.the_sync, input.sync-Input) depth 40 fits 10000
 
 pub checked_send : IsSend checked.the_row
 checked_send = search (over.crosses, sendable, schema_send, schema_sync, operation_send, fragment_send) depth 20
@@ -69,12 +37,6 @@ kept_send = search (over.crosses, maps.crosses, sendable, schema_send, schema_sy
 pub kept_sync : IsSync kept.the_row
 kept_sync = search (over.crosses, maps.crosses, sendable, schema_send, schema_sync, operation_send, operation_sync, fragment_send, fragment_sync) depth 40 fits 10000
 
-pub plan_send : IsSend plan.the_row
-plan_send = search (over.crosses, maps.crosses, sendable, schema_send, schema_sync, bindings_cross.the_send, bindings_cross.the_sync, operation_send, operation_sync, fragment_send, fragment_sync, variable_send) depth 40 fits 10000
-
-pub plan_sync : IsSync plan.the_row
-plan_sync = search (over.crosses, maps.crosses, sendable, schema_send, schema_sync, bindings_cross.the_send, bindings_cross.the_sync, operation_send, operation_sync, fragment_send, fragment_sync, variable_sync) depth 40 fits 10000
-
 pub request_plan_send : IsSend request_plan.the_row
 request_plan_send = search (over.crosses, maps.crosses, sendable, plan_send) depth 20
 
@@ -84,11 +46,14 @@ array_plan_send = search (over.crosses, maps.crosses, sendable, plan_send) depth
 pub documents_send : IsSend documents.the_row
 documents_send = search (over.crosses, maps.crosses, sendable, server_send, kept_send) depth 40 fits 10000
 
+pub request_cache_send : IsSend request_cache.the_row
+request_cache_send = search (over.crosses, maps.crosses, sendable, documents_send, kept_plan_send) depth 40 fits 10000
+
 pub reader_send : IsSend reader.the_row
 reader_send = search (over.crosses, maps.crosses, sendable, json.send-Value) depth 40 fits 10000
 
 pub inside_send : (S : RattleType) → IsSend S → IsSend (inside.the_row S)
-inside_send S s = declared_send (inside.the_type S) (search sendable depth 20, (search documents_send, (search reader_send, (search (session.the_send, sendable, s) depth 20, (search sendable depth 20, tt)))))
+inside_send S s = declared_send (inside.the_type S) (search sendable depth 20, (search request_cache_send, (search reader_send, (search (session.the_send, sendable, s) depth 20, (search sendable depth 20, tt)))))
 
 pub client_send : (S : RattleType) → IsSend S → IsSend (client.the_row S)
 client_send S s = let i = inside_send S s in record { owned = λ d vs x. (i.owned x.0 vs, tt); leaving = λ k d w. tt }

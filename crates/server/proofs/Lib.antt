@@ -3,6 +3,7 @@ pub mod Bounding
 pub mod Handing
 pub mod Crossing
 pub mod Limits
+pub mod Keeping
 pub mod Loaders
 pub mod LoadsByHand
 pub mod Opened

@@ -10,7 +10,7 @@ use Rattle.load_rounds.specs.Headline.{StopsAnswering}
 use Rattle.load_rounds.specs.Sessions.{SessionOf, StateOf}
 use Rattle.load_rounds.specs.SharedRounds.{RequestOf, ReportOf, request_of, requests, together, SharedHeadline}
 use Rattle.gq_resolve.specs.Within.{text_within}
-use Rattle.gq_resolve.specs.declared.limited_plan.LimitedPlan.{LimitedPlan}
+use Rattle.gq_resolve.specs.PreparedPlans.{LimitedPlanOf as LimitedPlan}
 use Rattle.plan_requests.specs.Servers.{ServerOf}
 use Rattle.server.specs.Clients.{HasLoaders}
 use Rattle.server.specs.Plans.{AreLimited, HasLoadersFor, plan_and_limit}
@@ -22,20 +22,20 @@ map-twice g f (x ∷ xs) = ap (λ l. g (f x) ∷ l) (map-twice g f xs)
 module _ (most : Option ℕ) where
   -- says what they ask is what the plans ask, with texts within the limit
   pub limited-asks : (plans : List PlanOf) (limited : List LimitedPlan) → AreLimited most plans limited
-      → requests (λ (l : LimitedPlan). plan_program (plan_of l.plan.now)) (λ (l : LimitedPlan). text_within l.most) limited ≡ requests plan_program (λ plan. text_within most) plans
+      → requests (λ (l : LimitedPlan). plan_program (plan_of l.plan)) (λ (l : LimitedPlan). text_within l.most) limited ≡ requests plan_program (λ plan. text_within most) plans
   limited-asks plans limited are =
       let asked : PlanOf × Option ℕ → RequestOf = λ p. request_of (plan_program p.0) (text_within p.1) in
       sym (map-twice asked plan_and_limit limited) ∙ ap (map asked) are ∙ map-twice asked (λ (plan : PlanOf). (plan, most)) plans
 
   -- says what holds of each plan
-  pub all-limited : (P : PlanOf → Type 0) (plans : List PlanOf) (limited : List LimitedPlan) → AreLimited most plans limited → All P plans → All (λ (l : LimitedPlan). P (plan_of l.plan.now)) limited
-  all-limited P [] [] are h = All-nil (λ (l : LimitedPlan). P (plan_of l.plan.now))
+  pub all-limited : (P : PlanOf → Type 0) (plans : List PlanOf) (limited : List LimitedPlan) → AreLimited most plans limited → All P plans → All (λ (l : LimitedPlan). P (plan_of l.plan)) limited
+  all-limited P [] [] are h = All-nil (λ (l : LimitedPlan). P (plan_of l.plan))
   all-limited P [] (l ∷ ls) are h = absurd (cc are)
   all-limited P (p ∷ ps) [] are h = absurd (cc are)
   all-limited P (p ∷ ps) (l ∷ ls) are h =
       let first : plan_and_limit l ≡ (p, most) = cc are in
-      let same : p ≡ plan_of l.plan.now = sym (ap (λ (q : PlanOf × Option ℕ). q.0) first) in
-      All-cons (λ (k : LimitedPlan). P (plan_of k.plan.now)) l ls (subst P same (All-head P p ps h)) (all-limited P ps ls (cc are) (All-tail P p ps h))
+      let same : p ≡ plan_of l.plan = sym (ap (λ (q : PlanOf × Option ℕ). q.0) first) in
+      All-cons (λ (k : LimitedPlan). P (plan_of k.plan)) l ls (subst P same (All-head P p ps h)) (all-limited P ps ls (cc are) (All-tail P p ps h))
 
 -- the session has the loaders of each plan
 pub enough : {S : Type 0} (session : SessionOf S) (s : ServerOf) (most : Option ℕ) (plans : List PlanOf) (limited : List LimitedPlan) → HasLoaders s session → All (λ (p : PlanOf). p.bindings ≡ s.bindings) plans

@@ -17,7 +17,7 @@ use Rattle.load_rounds.specs.Sessions.{SessionOf, StateOf, state_of, rules_of, s
 use Rattle.load_rounds.specs.SharedRounds.{together}
 use Rattle.load_rounds.specs.declared.answer.Answer.{Answer}
 use Rattle.std.specs.declared.alloc.AllocError.{AllocError}
-use Rattle.gq_resolve.specs.declared.limited_plan.LimitedPlan.{LimitedPlan}
+use Rattle.gq_resolve.specs.PreparedPlans.{LimitedPlanOf as LimitedPlan}
 use Rattle.server.specs.Plans.{limited_program, limited_requests}
 use Rattle.server.specs.Runners.{RunsPlan, RunsPlans}
 use Rattle.load_rounds.proofs.Stepping.{steps-made}

@@ -3,6 +3,7 @@ pub mod Clients
 pub mod Plans
 pub mod Runners
 pub mod Answers
+pub mod Kept
 pub mod Arrays
 pub mod Lines
 pub mod LoadsByHand

@@ -6,10 +6,10 @@ use Rattle.plan_program.specs.PlanPrograms.{plan_program}
 use Rattle.load_rounds.specs.Sessions.{SessionOf}
 use Rattle.load_rounds.specs.SharedRounds.{RequestOf, requests}
 use Rattle.gq_resolve.specs.Within.{text_within}
-use Rattle.gq_resolve.specs.declared.limited_plan.LimitedPlan.{LimitedPlan}
+use Rattle.gq_resolve.specs.PreparedPlans.{LimitedPlanOf as LimitedPlan}
 
 abbrev pub limited_program : LimitedPlan → Program
-limited_program l = plan_program (plan_of l.plan.now)
+limited_program l = plan_program (plan_of l.plan)
 
 -- gives what plans ask, each within its limit
 abbrev pub limited_requests : List LimitedPlan → List RequestOf
@@ -21,10 +21,10 @@ requests_within most plans = requests plan_program (λ plan. text_within most) p
 
 -- the session has as many loaders as the plan's bindings
 abbrev pub HasLoadersFor : {S : Type 0} → SessionOf S → LimitedPlan → Type 0
-HasLoadersFor session l = length (plan_of l.plan.now).bindings.loaders ≤ length session.loaders
+HasLoadersFor session l = length (plan_of l.plan).bindings.loaders ≤ length session.loaders
 
 abbrev pub plan_and_limit : LimitedPlan → PlanOf × Option ℕ
-plan_and_limit limited = (plan_of limited.plan.now, limited.most)
+plan_and_limit limited = (plan_of limited.plan, limited.most)
 
 -- the plans, each with this limit
 abbrev pub AreLimited : Option ℕ → List PlanOf → List LimitedPlan → Type 0

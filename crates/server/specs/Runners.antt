@@ -11,7 +11,7 @@ use Rattle.load_rounds.specs.Sessions.{SessionOf, state_of}
 use Rattle.load_rounds.specs.SharedRounds.{together, AreAnswers}
 use Rattle.load_rounds.specs.declared.answer.Answer.{Answer}
 use Rattle.gq_resolve.specs.Within.{text_within}
-use Rattle.gq_resolve.specs.declared.limited_plan.LimitedPlan.{LimitedPlan}
+use Rattle.gq_resolve.specs.PreparedPlans.{LimitedPlanOf as LimitedPlan}
 use Rattle.server.specs.Plans.{limited_program, limited_requests, HasLoadersFor}
 
 module _ {S : Type 0} (may : S → List KeyOf → AnswerOf → Type 0) where

@@ -14,11 +14,12 @@ ghost use Rattle.server.specs.Clients.{HasLoaders, client_of};
 ghost use Rattle.server.specs.Plans.{AreLimited};
 ghost use Rattle.server.specs.Runners.{RunsAll};
 
+use crate::request_cache::RequestCache;
 use gq_check::Plan;
 use gq_resolve::LimitedPlan;
 use load_queue::LocalSource;
 use load_rounds::{Answer, Session};
-use plan_requests::{DocumentCache, Request};
+use plan_requests::Request;
 use std::alloc::{AllocError, Global};
 
 // The plans in order, each with this limit.
@@ -26,13 +27,13 @@ fn limit_plans<'p>(
     alloc: Global,
     plans: &'p [Plan],
     most: Option<usize>,
-) -> Result<Vec<LimitedPlan<'p>>, AllocError>
+) -> Result<Vec<LimitedPlan<'p, 'p>>, AllocError>
     ensures { IfOk result (λ limited. AreLimited most
         (map plan_of plans.entry.now) limited.items) }
 {
     let mut limited = Vec::with_capacity(alloc, plans.len())?;
     for plan in plans {
-        limited.push(LimitedPlan { plan, most })?;
+        limited.push(LimitedPlan::new(plan, most))?;
     }
     Ok(limited)
 }
@@ -94,11 +95,11 @@ fn most_rounds(answers: &[Answer]) -> u32
 /// All plans are answered in the session, within a limit each.
 pub(crate) fn answer_requests<
     S: LocalSource,
-    G: Fn(&mut Session<S>, &[LimitedPlan<'_>]) -> Result<Vec<Answer>, AllocError>,
+    G: Fn(&mut Session<S>, &[LimitedPlan<'_, '_>]) -> Result<Vec<Answer>, AllocError>,
 >(
     alloc: Global,
     run: &G,
-    kept: &mut DocumentCache,
+    kept: &mut RequestCache,
     session: &mut Session<S>,
     values: &[Option<Request<'_>>],
     most: Option<usize>,

@@ -59,7 +59,7 @@ impl<'r, R: Threads + Wait + Sync> Workers<'r, R> {
     pub(crate) fn answer<S: Source>(
         &self,
         session: &mut Session<S>,
-        limited: &LimitedPlan<'_>,
+        limited: &LimitedPlan<'_, '_>,
     ) -> Result<Answer, AllocError>
         requires { HasLoadersFor session.old limited.now }
         ensures { RunsPlan S.may_answer session.old
@@ -76,7 +76,7 @@ impl<'r, R: Threads + Wait + Sync> Workers<'r, R> {
     pub(crate) fn answer_all<S: Source>(
         &self,
         session: &mut Session<S>,
-        plans: &[LimitedPlan<'_>],
+        plans: &[LimitedPlan<'_, '_>],
     ) -> Result<Vec<Answer>, AllocError>
         requires { All (HasLoadersFor session.old)
             plans.now }

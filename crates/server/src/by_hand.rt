@@ -9,11 +9,11 @@ ghost use Rattle.server.specs.Hands.{IsFinished, IsStepOf};
 use crate::bounded::BoundedPlan;
 use crate::client::ClientSession;
 use crate::planned::PlannedRequest;
+use crate::request_cache::RequestCache;
 use gq_resolve::RootState;
 use load_memory::Item;
 use load_queue::{FetchFault, LocalSource};
 use load_rounds::Answer;
-use plan_requests::DocumentCache;
 use request_line::LineReader;
 use rounds_by_hand::{Advance, Hand, Pending, TakeFault};
 use std::alloc::{AllocError, Global};
@@ -59,7 +59,7 @@ impl ClientAdvance {
 #[derive(Drop)]
 pub struct ByHand<'p, S> {
     alloc: Global,
-    documents: DocumentCache,
+    documents: RequestCache,
     lines: LineReader,
     max_answer: Option<usize>,
     planned: &'p PlannedRequest,

@@ -18,10 +18,11 @@ use crate::arrays::answer_requests;
 use crate::batch_runner::{BatchRunner, Workers};
 use crate::counting::line_read;
 use crate::planned::{PlannedRequest, plan_none, plan_one, plan_several};
+use crate::request_cache::RequestCache;
 use gq_resolve::LimitedPlan;
 use load_queue::{LocalSource, Source};
 use load_rounds::{Answer, Session};
-use plan_requests::{DocumentCache, Request, Server, not_a_request};
+use plan_requests::{Request, Server, not_a_request};
 use request_line::{Line, LineReader};
 use std::alloc::{AllocError, Global};
 use std::marker::Model;
@@ -30,6 +31,7 @@ use std::thread::Threads;
 
 /// Holds what a server keeps for one client: a loader for each `loader` line, one memory of what they returned, and the documents of the
 /// client's queries, so that a query that comes again is neither parsed nor checked again (at most 1,024 texts of 262,144 bytes together).
+/// Where such a request has no variables and names no operation, its plan is kept too, prepared (at most 1,024, of up to 2,048 bytes each).
 ///
 /// A request is answered over what the session knows, as with a DataLoader: what an earlier request of the client loaded isn't asked again.
 /// [`restart`](ClientSession::restart) makes it forget.
@@ -38,7 +40,7 @@ use std::thread::Threads;
 #[derive(Drop)]
 pub struct ClientSession<S> {
     pub(crate) alloc: Global,
-    pub(crate) documents: DocumentCache,
+    pub(crate) documents: RequestCache,
     pub(crate) lines: LineReader,
     pub(crate) session: Session<S>,
     pub(crate) max_answer: Option<usize>,
@@ -68,7 +70,7 @@ impl<S> ClientSession<S> {
     {
         ClientSession {
             alloc,
-            documents: DocumentCache::new(alloc, server),
+            documents: RequestCache::new(alloc, server),
             lines: LineReader::new(),
             session,
             max_answer: None,
@@ -223,8 +225,8 @@ pub(crate) enum RequestInput<'i> {
 impl<S: LocalSource> ClientSession<S> {
     // The response to what is asked, by whoever runs the batches.
     fn respond_by<
-        F: Fn(&mut Session<S>, &LimitedPlan<'_>) -> Result<Answer, AllocError>,
-        G: Fn(&mut Session<S>, &[LimitedPlan<'_>]) -> Result<Vec<Answer>, AllocError>,
+        F: Fn(&mut Session<S>, &LimitedPlan<'_, '_>) -> Result<Answer, AllocError>,
+        G: Fn(&mut Session<S>, &[LimitedPlan<'_, '_>]) -> Result<Vec<Answer>, AllocError>,
     >(&mut self, runner: &BatchRunner<F, G>, asked: RequestInput<'_>) -> Result<Answer, AllocError>
         requires one { RunsEach S.may_tell
             (F.pre runner.now.one) (F.post runner.now.one) }
@@ -274,11 +276,14 @@ impl<S: LocalSource> ClientSession<S> {
         ensures same { IsSameClient self.old self.new }
     {
         let runner = BatchRunner {
-            one: |session: &mut Session<S>, limited: &LimitedPlan<'_>| -> Result<Answer, AllocError>
+            one: |session: &mut Session<S>, limited: &LimitedPlan<'_, '_>| -> Result<
+                Answer,
+                AllocError,
+            >
                 requires { HasLoadersFor session.old limited.now }
                 ensures { RunsPlan S.may_tell session.old limited.now result session.new }
             { session.answer(limited) },
-            all: |session: &mut Session<S>, plans: &[LimitedPlan<'_>]| -> Result<
+            all: |session: &mut Session<S>, plans: &[LimitedPlan<'_, '_>]| -> Result<
                 Vec<Answer>,
                 AllocError,
             >
@@ -379,12 +384,15 @@ impl<S: Source> ClientSession<S> {
         ensures same { IsSameClient self.old self.new }
     {
         let runner = BatchRunner {
-            one: |session: &mut Session<S>, limited: &LimitedPlan<'_>| -> Result<Answer, AllocError>
+            one: |session: &mut Session<S>, limited: &LimitedPlan<'_, '_>| -> Result<
+                Answer,
+                AllocError,
+            >
                 requires sync { IsSync R.row × IsSync S.row }
                 requires loaders { HasLoadersFor session.old limited.now }
                 ensures { RunsPlan S.may_answer session.old limited.now result session.new }
             { workers.answer(session, limited) },
-            all: |session: &mut Session<S>, plans: &[LimitedPlan<'_>]| -> Result<
+            all: |session: &mut Session<S>, plans: &[LimitedPlan<'_, '_>]| -> Result<
                 Vec<Answer>,
                 AllocError,
             >

@@ -7,10 +7,11 @@ ghost use Rattle.request_line.specs.Seen.{IsReading};
 ghost use Rattle.server.specs.Clients.{HasLoaders};
 ghost use Rattle.server.specs.Counts.{CountsText, plans_read};
 
+use crate::request_cache::RequestCache;
 use gq_check::Plan;
 use gq_resolve::loads_read;
 use load_rounds::Session;
-use plan_requests::{DocumentCache, RequestPlan};
+use plan_requests::RequestPlan;
 use request_line::Line;
 use std::alloc::{AllocError, Global};
 
@@ -32,7 +33,7 @@ fn plans_read<S>(alloc: Global, session: &Session<S>, plans: &[Plan]) -> Result<
 /// Returns how many loads are read by the plans that a line asks for, over what the session knows.
 pub(crate) fn line_read<S>(
     alloc: Global,
-    kept: &DocumentCache,
+    kept: &RequestCache,
     session: &Session<S>,
     line: &Line<'_>,
 ) -> Result<u64, AllocError>

@@ -24,6 +24,7 @@ mod keys;
 mod load_by_hand;
 mod opening;
 mod planned;
+mod request_cache;
 mod serving;
 mod threads;
 

@@ -7,9 +7,9 @@ ghost use Rattle.rounds_by_hand.specs.Pending.{RefusesAnswer, TakesAnswer};
 ghost use Rattle.server.specs.Clients.{IsSameClient};
 
 use crate::client::ClientSession;
+use crate::request_cache::RequestCache;
 use load_memory::{Item, Key};
 use load_queue::{FetchFault, LocalSource};
-use plan_requests::DocumentCache;
 use request_line::LineReader;
 use rounds_by_hand::{LoadAdvance, LoadHand, Pending, TakeFault};
 use std::alloc::{AllocError, Global};
@@ -27,7 +27,7 @@ use std::marker::Model;
 #[derive(Drop)]
 pub struct LoadByHand<S> {
     alloc: Global,
-    documents: DocumentCache,
+    documents: RequestCache,
     lines: LineReader,
     max_answer: Option<usize>,
     hand: LoadHand<S>,

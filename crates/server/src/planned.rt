@@ -10,8 +10,9 @@ ghost use Rattle.server.specs.Planned.{PlansAlone};
 
 use crate::arrays::array_answer;
 use crate::bounded::{BoundedPlan, bound_plans};
+use crate::request_cache::RequestCache;
 use load_rounds::Answer;
-use plan_requests::{ArrayPlan, DocumentCache, Request, RequestPlan, Server, not_a_request};
+use plan_requests::{ArrayPlan, Request, RequestPlan, Server, not_a_request};
 use std::alloc::{AllocError, Global};
 use std::marker::Model;
 
@@ -60,7 +61,7 @@ impl Model for PlannedRequest {
 // Returns what a request asks. The document of its query is kept.
 fn plan_request(
     alloc: Global,
-    kept: &mut DocumentCache,
+    kept: &mut RequestCache,
     request: &Request<'_>,
 ) -> Result<RequestPlan, AllocError>
     ensures planned { IfOk result (PlansRequest kept.old.server (request_of request.now)) }
@@ -84,7 +85,7 @@ fn plan_alone(alloc: Global, plan: RequestPlan) -> Result<ArrayPlan, AllocError>
 /// Returns what one request asks. The document of its query is kept.
 pub(crate) fn plan_one(
     alloc: Global,
-    kept: &mut DocumentCache,
+    kept: &mut RequestCache,
     request: &Request<'_>,
 ) -> Result<ArrayPlan, AllocError>
     ensures planned { IfOk result
@@ -98,7 +99,7 @@ pub(crate) fn plan_one(
 /// Returns what the values of an array ask. The documents of their queries are kept, as far as there is room.
 pub(crate) fn plan_several(
     alloc: Global,
-    kept: &mut DocumentCache,
+    kept: &mut RequestCache,
     values: &[Option<Request<'_>>],
 ) -> Result<ArrayPlan, AllocError>
     ensures planned { IfOk result (PlansArray kept.old.server (requests_of values.now)) }

@@ -11,7 +11,8 @@ ghost use Rattle.std.specs.Prelude.{◌≡◌, ℕ, [], Option, Some, None, IsSo
 ghost use Rattle.server.specs.Hands.{ByHandOf};
 ghost use Rattle.server.specs.Planned.{PlannedOf};
 ghost use Rattle.server_owned.specs.declared.handed_in.HandedIn.{HandedIn as Handed};
-ghost use Rattle.server_owned.specs.Joined.{joined, PlannedRow, Place, CallableAt, CalledAt};
+ghost use Rattle.lent_boxes.specs.Joined.{joined, CallableAt, CalledAt};
+ghost use Rattle.server_owned.specs.Joined.{PlannedRow, Place};
 
 use crate::handed_in::HandedIn;
 use foreign_handles::Slot;
@@ -30,7 +31,7 @@ pub(crate) struct JoinedRequest {
 }
 
 impl Model for JoinedRequest {
-    ghost also_owns = { λ j. joined j.life j.planned j.of j.place j.state };
+    ghost also_owns = { λ j. joined PlannedRow Place j.life j.planned j.of j.place j.state };
 }
 
 // Safety: it owns nothing that names a thread.

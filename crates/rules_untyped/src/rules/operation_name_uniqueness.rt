@@ -24,6 +24,9 @@ pub fn operation_name_uniqueness<'d>(
         option_map broken_of broken ≡ earliest (operation_name_uniqueness (parts_in parts.now))) }
 {
     let document = parts.document;
+    if document.operations.len() < 2 {
+        return Ok(None);
+    }
     let mut names: Names = HashSet::new(alloc);
     let mut earliest = EarliestViolation::new();
     for operation in &document.operations {

@@ -1,4 +1,5 @@
-use Rattle.std.proofs.Common.{◌≡◌, ℕ, ◌∙◌, ap, sym, List}
+use Rattle.std.specs.Arc.{arc_value}
+use Rattle.std.proofs.Common.{◌≡◌, ℕ, ◌∙◌, ap, sym, subst, List, Vec, Global}
 use Rattle.gq_parser.specs.declared.tree.SelectionSet.{SelectionSet}
 use Rattle.gq_parser.specs.declared.tree.Operation.{Operation}
 use Rattle.gq_parser.specs.Tree.{Selections, set_of, map_selections}
@@ -10,6 +11,8 @@ use Rattle.plan_program.specs.FieldValues.{all_prepared}
 use Rattle.plan_program.specs.Groups.{selections_in, collect}
 use Rattle.plan_program.specs.Prepared.{all_prepared_seen}
 use Rattle.plan_program.specs.PlanPrograms.{root_prepared}
+use Rattle.plan_walk.specs.Groups.{AreMade}
+use Rattle.plan_walk.specs.declared.loading_fields.Member.{Member}
 use Rattle.gq_resolve.proofs.Advancing.{begun-rooted}
 use Rattle.gq_resolve.proofs.advance.prepare_root.Goals as goal
 
@@ -24,4 +27,7 @@ returns c =
     let ps : all_prepared_seen c.in_ok-all.all.items ≡ root_prepared plan =
     c.in_ok-all.ensures ∙ ap (all_prepared plan c.root-ty.result.now) (c.in_ok-collected.ensures ∙ ap (collect plan c.root-ty.result.now) ss)
     ∙ ap (λ (ty : List ℕ). all_prepared plan ty (collect plan ty chosen)) root in
-    begun-rooted plan _ c.new-groups.result.items c.new-groups.ensures.items (rw (← ps) c.in_ok-members.ensures)
+    let made : AreMade c.new-groups.result.items c.members_of.new.groups.items (root_prepared plan) c.in_ok-members.members.items = rw (← ps) c.in_ok-members.ensures in
+    let shared : arc_value c.in_ok-new.field-0 ≡ c.in_ok-members.members = c.in_ok-new.ensures.ok in
+    begun-rooted plan _ c.new-groups.result.items c.new-groups.ensures.items
+    (subst (λ (v : Vec Member Global). AreMade c.new-groups.result.items c.members_of.new.groups.items (root_prepared plan) v.items) (sym shared) made)

@@ -1,32 +1,30 @@
-use Rattle.std.proofs.Common.{refl, subst, string_bytes}
-use Rattle.std.proofs.lemmas.Result.{IfOk-weaker, on_err_weaker}
-use Rattle.gq_check.specs.Plans.{plan_of}
-use Rattle.request_line.specs.Seen.{request_of}
-use Rattle.plan_requests.specs.Planning.{IsPlanned, IsRefusal}
-use Rattle.plan_requests.proofs.Requests.{planned-valid}
-use Rattle.server.specs.Answers.{refused, planned, stopped}
 use Rattle.server.proofs.answering.answer_request.Goals as goal
 
 pub returns-in-Some-clause-answered : goal.returns-in-Some-clause-answered
-returns-in-Some-clause-answered g c = refused (rw c.in-Some.is at c.in_ok-text.ensures.refused) refl refl
+returns-in-Some-clause-answered g c = (rw c.in-Some.is at c.answer_again.ensures.again).answered
 
-pub returns-in-Refused-clause-answered : goal.returns-in-Refused-clause-answered
-returns-in-Refused-clause-answered g c =
-    let refusal = rw c.in-Refused.is at c.in_ok-text-2.ensures in
-    refused (subst (λ s. IsRefusal s (request_of c.args.request.now) (string_bytes c.in-Refused.text)) c.keep.ensures.server refusal) refl refl
+pub returns-in-Some-clause-stopped : goal.returns-in-Some-clause-stopped
+returns-in-Some-clause-stopped g c = (rw c.in-Some.is at c.answer_again.ensures.again).stopped
 
-pub answer_plan-requires-clause-prepared : goal.answer_plan-requires-clause-prepared
-answer_plan-requires-clause-prepared g c =
-    planned-valid _ _ _ (rw c.in-Planned.is at c.in_ok-text-2.ensures)
+pub returns-in-Some-clause-loaders : goal.returns-in-Some-clause-loaders
+returns-in-Some-clause-loaders g c = (rw c.in-Some.is at c.answer_again.ensures.again).loaders
 
-pub returns-in-Planned-clause-answered : goal.returns-in-Planned-clause-answered
-returns-in-Planned-clause-answered g c =
-    let plan = rw c.in-Planned.is at c.in_ok-text-2.ensures in
-    let own = subst (λ s. IsPlanned s (request_of c.args.request.now) (plan_of c.in-Planned.plan)) c.keep.ensures.server plan in
-    IfOk-weaker c.answer_plan.result _ _ (λ answer is. planned own is) (c.answer_plan.ensures.answered c.args.kept.now.server)
+pub answer_new-requires-clause-loaders : goal.answer_new-requires-clause-loaders
+answer_new-requires-clause-loaders g c =
+    let same = rw c.in-None.is at c.answer_again.ensures.again in
+    rw (same, c.answer_again.ensures.server) c.requires.loaders
 
-pub returns-in-Planned-clause-stopped : goal.returns-in-Planned-clause-stopped
-returns-in-Planned-clause-stopped g c =
-    let plan = rw c.in-Planned.is at c.in_ok-text-2.ensures in
-    let own = subst (λ s. IsPlanned s (request_of c.args.request.now) (plan_of c.in-Planned.plan)) c.keep.ensures.server plan in
-    on_err_weaker c.answer_plan.result (λ is. stopped own is) c.answer_plan.ensures.stopped
+pub returns-in-None-clause-answered : goal.returns-in-None-clause-answered
+returns-in-None-clause-answered g c =
+    let same = rw c.in-None.is at c.answer_again.ensures.again in
+    rw (← same, ← c.answer_again.ensures.server) c.answer_new.ensures.answered
+
+pub returns-in-None-clause-stopped : goal.returns-in-None-clause-stopped
+returns-in-None-clause-stopped g c =
+    let same = rw c.in-None.is at c.answer_again.ensures.again in
+    rw (← same, ← c.answer_again.ensures.server) c.answer_new.ensures.stopped
+
+pub returns-in-None-clause-loaders : goal.returns-in-None-clause-loaders
+returns-in-None-clause-loaders g c =
+    let same = rw c.in-None.is at c.answer_again.ensures.again in
+    rw (← same) c.answer_new.ensures.loaders

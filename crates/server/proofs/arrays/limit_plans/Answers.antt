@@ -1,6 +1,7 @@
 use Rattle.std.proofs.Common.{◌≡◌, ◌++◌, ◌∷◌, [], ◌+◌, ◌≤◌, ◌∙◌, ℕ, Option, add-one, sym, ap, subst, length, take, map, arith}
 use Rattle.std.proofs.lemmas.List.{length-map, map-append, take_all}
 use Rattle.gq_check.specs.Plans.{PlanOf, plan_of}
+use Rattle.gq_resolve.specs.PreparedPlans.{LimitedPlanOf}
 use Rattle.server.specs.Plans.{AreLimited, plan_and_limit}
 use Rattle.plan_requests.proofs.Values.{taken-more}
 use Rattle.server.proofs.arrays.limit_plans.Goals as goal
@@ -15,7 +16,8 @@ loop-plan-preserved c =
     let more : take (i + 1) (map plan_of plans) ≡ before ++ plan_of plan ∷ [] = rw add-one (taken-more plan_of plans i plan c.loop-plan-test.true c.plan-item.is) in
     let limit : PlanOf → PlanOf × Option ℕ = λ p. (p, most) in
     let pushed : map plan_and_limit c.push.new.self.items ≡ map plan_and_limit c.loop-plan.limited.items ++ (plan_of plan, most) ∷ [] =
-    ap (map plan_and_limit) c.in_ok-push.ensures.items ∙ map-append plan_and_limit c.loop-plan.limited.items _ in
+    ap (map plan_and_limit) c.in_ok-push.ensures.items ∙ map-append plan_and_limit c.loop-plan.limited.items _
+    ∙ ap (λ (l : LimitedPlanOf). map plan_and_limit c.loop-plan.limited.items ++ plan_and_limit l ∷ []) c.new.ensures in
     pushed ∙ ap (λ l. l ++ (plan_of plan, most) ∷ []) c.loop-plan.invariant ∙ sym (ap (map limit) more ∙ map-append limit before (plan_of plan ∷ []))
 
 pub returns : goal.returns

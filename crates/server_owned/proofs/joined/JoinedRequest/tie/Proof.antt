@@ -35,11 +35,11 @@ use Rattle.server.specs.contracts.by_hand.ByHand as by_hand
 use Rattle.server_owned.proofs.handed_in.HandedIn.TheLaws as handed_in_laws
 use Rattle.server.proofs.by_hand.ByHand.TheLaws as by_hand_laws
 use Rattle.server.proofs.planned.PlannedRequest.TheLaws as planned_laws
-use Rattle.server_owned.specs.Lent.{boxed, lender}
+use Rattle.lent_boxes.specs.Lent.{boxed, lender}
 use Rattle.server_owned.specs.Joined.{PlannedRow, HandRow, Place}
-use Rattle.server_owned.proofs.Empty.{empty_any}
-use Rattle.server_owned.proofs.Full.{full_of}
-use Rattle.server_owned.proofs.Loans.{lends_out}
+use Rattle.lent_boxes.proofs.Empty.{empty_any}
+use Rattle.lent_boxes.proofs.Full.{full_of}
+use Rattle.lent_boxes.proofs.Loans.{lends_out}
 use Rattle.server_owned.specs.contracts.joined.JoinedRequest as Self
 use Rattle.server_owned.specs.contracts.joined.JoinedRequest.tie as f
 use Rattle.server_owned.proofs.joined.JoinedRequest.tie.Statement.{statement}

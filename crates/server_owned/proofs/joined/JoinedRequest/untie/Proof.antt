@@ -28,10 +28,10 @@ use Rattle.foreign_handles.proofs.Boxes.{held_of}
 use Rattle.foreign_handles.proofs.Lone.{single, single_fits, pointer_in}
 use Rattle.server_owned.specs.contracts.handed_in.HandedIn as handed_in
 use Rattle.server.specs.contracts.by_hand.ByHand as by_hand
-use Rattle.server_owned.specs.Lent.{boxed, lender}
+use Rattle.lent_boxes.specs.Lent.{boxed, lender}
 use Rattle.server_owned.specs.Joined.{PlannedRow, HandRow, Place}
-use Rattle.server_owned.proofs.Empty.{empty_any}
-use Rattle.server_owned.proofs.Loans.{never_null, lender_null, takes_back}
+use Rattle.lent_boxes.proofs.Empty.{empty_any}
+use Rattle.lent_boxes.proofs.Loans.{never_null, lender_null, takes_back}
 use Rattle.server_owned.specs.contracts.joined.JoinedRequest as Self
 use Rattle.server_owned.proofs.joined.JoinedRequest.TheLaws as self_laws
 use Rattle.server_owned.specs.contracts.joined.JoinedRequest.untie as f

@@ -36,10 +36,11 @@ use denote.Triple.Clauses.{Lasts, lasts, closing}
 use denote.Triple.Spec.{Spec, triple_of}
 use denote.Triple.Table.{framed}
 use denote.Triple.Walked.{Stays, walk_of, stay_ref, Goes-ref, gave_ref, Goes-gave_ref, stay_dropped, Goes-dropped, ends_at}
-use Rattle.server_owned.specs.Lent.{boxed, lender}
-use Rattle.server_owned.proofs.Loans.{never_null, lender_null}
-use Rattle.server_owned.proofs.Pairs.{Rest, the_bor, the_mut, lends_both, back_both}
-use Rattle.server_owned.specs.Joined.{PlannedRow, Place, CallableAt}
+use Rattle.lent_boxes.specs.Lent.{boxed, lender}
+use Rattle.lent_boxes.proofs.Loans.{never_null, lender_null}
+use Rattle.lent_boxes.proofs.Pairs.{Rest, the_bor, the_mut, lends_both, back_both}
+use Rattle.lent_boxes.specs.Joined.{CallableAt}
+use Rattle.server_owned.specs.Joined.{PlannedRow, Place}
 use Rattle.server_owned.specs.contracts.joined.JoinedRequest as Self
 use Rattle.server_owned.proofs.joined.JoinedRequest.TheLaws as self_laws
 use Rattle.server.proofs.planned.PlannedRequest.TheLaws as planned_laws
@@ -138,6 +139,6 @@ with_spec 𝓤 𝓛 𝓜 𝓡 wired V O X LV LO LX g d dd met _ =
     -- [self's borrow, in two; its token; the result; the value's token; its own; nothing; the borrow's; the function's; the value's last;
     -- the pointer]
     suffices ! _ (ends_at 𝓛 E hs c y v e (h', (changed, (tt, tt))) (tt, (tt, (tt, tt)))) $
-    says_two ! (refl, record { planned = planned; place = place; left = at_last place left; value = value; changed = at_last value changed; planned_is = refl; place_is = refl; left_is = refl; value_is = refl; changed_is = refl; called = called }) $
+    says_two ! (refl, record { owner = planned; place = place; left = at_last place left; value = value; changed = at_last value changed; owner_is = refl; place_is = refl; left_is = refl; value_is = refl; changed_is = refl; called = called }) $
     move ! (10 ∷ 0 ∷ 1 ∷ []) $ group ! 3 $ nothing ! $ nothing ! $ join ! $ move ! (9 ∷ 0 ∷ []) $ join ! $ move ! (1 ∷ 0 ∷ []) $ join ! $
     move ! (7 ∷ 5 ∷ []) $ join ! $ move ! (5 ∷ 0 ∷ []) $ join ! $ move ! (4 ∷ 0 ∷ []) $ join ! $ move ! (4 ∷ 0 ∷ []) $ join ! $ move ! (2 ∷ 0 ∷ []) $ join ! $ done !)))))))))))))))))

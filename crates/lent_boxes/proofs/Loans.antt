@@ -20,7 +20,7 @@ use denote.Param.Laws.{Laws}
 use denote.Struct.Lending.{lent_at, lent_at_shr_laws, Lends-first, Lends-lies}
 use Rattle.std.specs.Global.{Global}
 use Rattle.std.specs.contracts.impls.GlobalAllocator.TheImpl.{ghosts}
-use Rattle.server_owned.specs.Lent.{boxed, lender}
+use Rattle.lent_boxes.specs.Lent.{boxed, lender}
 
 module _ {M : Type 1} {𝓤 : Ura M} (𝓛 : Logic 𝓤) (g : Global) (R : RattleType) where
   open 𝓛 use {H, A}

@@ -18,7 +18,7 @@ use Rattle.std.specs.Global.{Global}
 use Rattle.std.specs.contracts.option.Option as option
 use Rattle.std.specs.contracts.impls.GlobalAllocator.TheImpl.{ghosts}
 use Rattle.std.proofs.option.Made.{none_of}
-use Rattle.server_owned.specs.Lent.{boxed}
+use Rattle.lent_boxes.specs.Lent.{boxed}
 
 abbrev pub Slot : RattleType → RattleType
 Slot = option.the_row

@@ -24,9 +24,9 @@ use denote.Param.Laws.{Laws}
 use denote.Struct.Lending.{lent_at}
 use Rattle.std.specs.Global.{Global}
 use Rattle.std.specs.contracts.impls.GlobalAllocator.TheImpl.{ghosts}
-use Rattle.server_owned.specs.Lent.{boxed, lender}
-use Rattle.server_owned.proofs.Loans.{seen}
-use Rattle.server_owned.proofs.Tokens.{Back, both_tokens}
+use Rattle.lent_boxes.specs.Lent.{boxed, lender}
+use Rattle.lent_boxes.proofs.Loans.{seen}
+use Rattle.lent_boxes.proofs.Tokens.{Back, both_tokens}
 
 module _ {M : Type 1} {𝓤 : Ura M} (𝓛 : Logic 𝓤) (g g' : Global) (R P : RattleType) (a b o b' o' : ℕ) (x : R.Denot) where
   open 𝓛 use {H, A}

@@ -1,0 +1,4 @@
+pub mod Crossing
+pub mod PlanCrossing
+pub mod RootCrossing
+pub mod KeptCrossing
