@@ -65,7 +65,7 @@ impl<'p> LimitedPlan<'p, 'p> {
 
 impl<'r, 'p> LimitedPlan<'r, 'p> {
     /// The same, where its root was prepared.
-    pub(crate) fn prepared(
+    pub(crate) fn with_root(
         plan: &'p Plan,
         most: Option<usize>,
         root: &'r RootObject<'p>,

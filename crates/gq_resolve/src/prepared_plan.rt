@@ -71,6 +71,6 @@ impl<'p> PreparedPlan<'p> {
         ensures plan { result.plan ≡ self.now.plan }
         ensures most { result.most ≡ most }
     {
-        LimitedPlan::prepared(self.plan, most, &self.rooted)
+        LimitedPlan::with_root(self.plan, most, &self.rooted)
     }
 }
