@@ -31,7 +31,8 @@ use std::thread::Threads;
 
 /// Holds what a server keeps for one client: a loader for each `loader` line, one memory of what they returned, and the documents of the
 /// client's queries, so that a query that comes again is neither parsed nor checked again (at most 1,024 texts of 262,144 bytes together).
-/// Where such a request has no variables and names no operation, its plan is kept too, prepared (at most 1,024, of up to 2,048 bytes each).
+/// Where such a request has no variables and names no operation, the code keeps its plan too, prepared: at most 1,024, of queries of up to
+/// 2,048 bytes. No clause says which, and no answer depends on it.
 ///
 /// A request is answered over what the session knows, as with a DataLoader: what an earlier request of the client loaded isn't asked again.
 /// [`restart`](ClientSession::restart) makes it forget.
