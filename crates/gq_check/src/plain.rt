@@ -14,7 +14,7 @@ use gq_parser::{
     Argument, Directive, Document, Field, Literal, Operation, OperationKind, Selection,
     SelectionSet, Value,
 };
-use gq_schema::{ArgDef, FieldDef, Schema, accepts};
+use gq_schema::{ArgDef, FoundField, FoundType, Schema, accepts};
 use merging_members::operation_fields;
 
 // The most fields of a document that is looked at: with more, comparing the keys of a set in pairs may cost more than it spares.
@@ -209,33 +209,33 @@ fn is_served_name(name: &str) -> bool
 
 // Tells whether a field is none of the schema's own, with nothing given and nothing below.
 fn stands_alone(
-    definition: Option<&FieldDef>,
+    found: &Option<FoundField>,
     arguments: &[Argument],
     set: &Option<SelectionSet>,
 ) -> bool
-    ensures { result ≡ stands_alone (option_map definitions.field_of (option_copied
-        definition.entry)) (tree.arguments_of arguments.now) (tree.below_of set.now) }
+    ensures { result ≡ stands_alone (option_map (λ f. definitions.field_of f.definition.now)
+        found.now) (tree.arguments_of arguments.now) (tree.below_of set.now) }
 {
-    definition.is_none() && arguments.is_empty() && set.is_none()
+    found.is_none() && arguments.is_empty() && set.is_none()
 }
 
 // Tells whether a type is a scalar or an enum.
-fn is_leaf_type(schema: &Schema, ty: &str) -> bool
+fn is_leaf_type(ty: &FoundType) -> bool
     ensures { result ≡ is_leaf_type
-        (tree_of schema.now) ty.now }
+        (tree_of ty.now.schema.now) ty.now.name.now }
 {
-    match schema.kind_of(ty) {
+    match ty.kind() {
         Some(kind) => kind.is_leaf(),
         None => false,
     }
 }
 
 // Tells whether a type is an object type, an interface or a union.
-fn is_composite_type(schema: &Schema, ty: &str) -> bool
+fn is_composite_type(ty: &FoundType) -> bool
     ensures { result ≡ is_composite_type
-        (tree_of schema.now) ty.now }
+        (tree_of ty.now.schema.now) ty.now.name.now }
 {
-    match schema.kind_of(ty) {
+    match ty.kind() {
         Some(kind) => !kind.is_leaf(),
         None => false,
     }
@@ -243,15 +243,15 @@ fn is_composite_type(schema: &Schema, ty: &str) -> bool
 
 // Tells whether a set selects plain fields of a type, with response keys of their own.
 #[cycle(plain)]
-fn is_plain_set(schema: &Schema, ty: &str, set: &SelectionSet) -> bool
+fn is_plain_set(ty: &FoundType, set: &SelectionSet) -> bool
     ensures { result ≡ is_plain_set
-        (tree_of schema.now) ty.now (tree.set_of set.now) }
+        (tree_of ty.now.schema.now) ty.now.name.now (tree.set_of set.now) }
 {
     if !have_own_keys(&set.selections) {
         return false;
     }
     for selection in &set.selections {
-        if !is_plain(schema, ty, selection) {
+        if !is_plain(ty, selection) {
             return false;
         }
     }
@@ -259,12 +259,12 @@ fn is_plain_set(schema: &Schema, ty: &str, set: &SelectionSet) -> bool
 }
 
 #[cycle(plain)]
-fn is_plain(schema: &Schema, ty: &str, selection: &Selection) -> bool
+fn is_plain(ty: &FoundType, selection: &Selection) -> bool
     ensures { result ≡ is_plain
-        (tree_of schema.now) ty.now (tree.selection_of selection.now) }
+        (tree_of ty.now.schema.now) ty.now.name.now (tree.selection_of selection.now) }
 {
     match selection {
-        Selection::Field(field) => is_plain_field(schema, ty, field),
+        Selection::Field(field) => is_plain_field(ty, field),
         Selection::Spread(_) => false,
         Selection::Inline(_) => false,
     }
@@ -272,31 +272,31 @@ fn is_plain(schema: &Schema, ty: &str, selection: &Selection) -> bool
 
 // Tells whether a field is `__typename`, or one of the type, with right arguments, and a set just where its own type is composite.
 #[cycle(plain)]
-fn is_plain_field(schema: &Schema, ty: &str, field: &Field) -> bool
+fn is_plain_field(ty: &FoundType, field: &Field) -> bool
     ensures { result ≡ is_plain
-        (tree_of schema.now) ty.now (tree.field_of field.now) }
+        (tree_of ty.now.schema.now) ty.now.name.now (tree.field_of field.now) }
 {
     if !field.directives.is_empty() {
         return false;
     }
     let name = field.name.as_str();
-    let found = schema.field(ty, name);
+    let found = ty.field(name);
     if name == "__typename" {
-        return stands_alone(found, &field.arguments, &field.selection_set);
+        return stands_alone(&found, &field.arguments, &field.selection_set);
     }
     if !is_served_name(name) {
         return false;
     }
-    let Some(definition) = found else {
+    let Some(found) = found else {
         return false;
     };
-    if !are_plain_arguments(schema, &definition.arguments, &field.arguments) {
+    if !are_plain_arguments(ty.schema, &found.definition.arguments, &field.arguments) {
         return false;
     }
-    let inner = definition.of_type.innermost_name();
+    let inner = found.of_type();
     match &field.selection_set {
-        Some(set) => is_composite_type(schema, inner) && is_plain_set(schema, inner, set),
-        None => is_leaf_type(schema, inner),
+        Some(set) => is_composite_type(&inner) && is_plain_set(&inner, set),
+        None => is_leaf_type(&inner),
     }
 }
 
@@ -330,5 +330,5 @@ pub fn is_plainly_valid(schema: &Schema, document: &Document) -> bool
     if operation_fields(&document.operations) > MOST_PLAIN_FIELDS {
         return false;
     }
-    is_plain_set(schema, schema.root(), &operation.selection_set)
+    is_plain_set(&schema.root_type(), &operation.selection_set)
 }

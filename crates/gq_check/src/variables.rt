@@ -13,11 +13,15 @@ use std::alloc::{AllocError, Global};
 use std::collections::HashMap;
 use std::marker::Model;
 
+/// The number of variables from which on one is found by its name's place, and no longer by a look at each.
+const MANY_VARIABLES: usize = 8;
+
 /// Variables in their order, each found by its name. A contract sees the list.
 #[derive(Drop)]
 pub struct Variables {
     items: Vec<Variable>,
-    places: PlacesByName,
+    // none while the variables are few
+    places: Option<PlacesByName>,
 }
 
 impl Model for Variables {
@@ -30,12 +34,12 @@ impl Model for Variables {
 
     ghost coded = { Prim.hlevel (codes, input.the_row.coded) };
 
-    ghost use Rattle.gq_schema.specs.Places.{ArePlaces};
     ghost use Rattle.gq_variables.specs.Variables.{variables_of, is_variable};
+    ghost use Rattle.gq_check.specs.Places.{ArePlacesIf};
 
     ghost view = { λ v. v.items.items };
 
-    ghost invariant = { λ v. ArePlaces is_variable (variables_of v.items.items) v.places };
+    ghost invariant = { λ v. ArePlacesIf is_variable (variables_of v.items.items) v.places };
 }
 
 // The place of the first variable of each name.
@@ -49,13 +53,29 @@ fn variable_places(alloc: Global, variables: &[Variable]) -> Result<PlacesByName
     Ok(places)
 }
 
+// The value of the first variable of this name, by a look at each.
+fn value_among<'v>(variables: &'v [Variable], name: &str) -> Option<&'v Input>
+    ensures { option_map input_of (option_copied result)
+        ≡ value_in (variables_of variables.now) name.now }
+{
+    for variable in variables {
+        if variable.name.as_str() == name {
+            return Some(&variable.value);
+        }
+    }
+    None
+}
+
 impl Variables {
     /// These variables.
     pub fn of(alloc: Global, items: Vec<Variable>) -> Result<Variables, AllocError>
         ensures { IfOk result
             (λ variables. variables ≡ items.items) }
     {
-        let places = variable_places(alloc, &items)?;
+        let mut places = None;
+        if items.len() >= MANY_VARIABLES {
+            places = Some(variable_places(alloc, &items)?);
+        }
         Ok(Variables { items, places })
     }
 
@@ -64,7 +84,12 @@ impl Variables {
         ensures { option_map input_of (option_copied result)
             ≡ value_in (variables_of self.now) name.now }
     {
-        let place = *self.places.get(name)?;
-        Some(&self.items[place].value)
+        match &self.places {
+            Some(places) => {
+                let place = *places.get(name)?;
+                Some(&self.items[place].value)
+            }
+            None => value_among(&self.items, name),
+        }
     }
 }

@@ -44,30 +44,30 @@ use Rattle.gq_resolve.proofs.Putting.{puts_ask, puts_tokens, asks-puts, waits-pu
 -- ---- roots
 
 -- a root whose members were made of no groups
-pub begun-rooted : (plan : PlanOf) (r : RootObject) (old : List LoadingField) → old ≡ [] → AreMade old r.groups.items (root_prepared plan) (arc_value r.members).items → IsRooted plan r
-begun-rooted plan r old none made = record { root = made.makes plan; right = (made.grows plan).right (subst (AreRight plan) (sym none) (λ k g lt. absurd (omega (arith, lt)))) }
+pub begun-rooted : (plan : PlanOf) (r : RootObject) (old : List LoadingField) → old ≡ [] → AreMade old r.groups.items (root_prepared plan) (arc_value r.members).items → r.row ≡ [] → IsRooted plan r
+begun-rooted plan r old none made empty = record { root = made.makes plan; row = empty; right = (made.grows plan).right (subst (AreRight plan) (sym none) (λ k g lt. absurd (omega (arith, lt)))) }
 
 -- a root whose groups have grown
-pub rooted-more : (plan : PlanOf) (r : RootObject) (gs : Vec LoadingField Global) → Grows plan r.groups.items gs.items → IsRooted plan r → IsRooted plan (record { members = r.members; groups = gs })
-rooted-more plan r gs grows is = record { root = makes-more plan r.groups.items gs.items (arc_value r.members).items (root_prepared plan) grows is.root; right = grows.right is.right }
+pub rooted-more : (plan : PlanOf) (r : RootObject) (gs : Vec LoadingField Global) → Grows plan r.groups.items gs.items → IsRooted plan r → IsRooted plan (record { members = r.members; row = r.row; groups = gs })
+rooted-more plan r gs grows is = record { root = makes-more plan r.groups.items gs.items (arc_value r.members).items (root_prepared plan) grows is.root; row = is.row; right = grows.right is.right }
 
--- a copy of a root, which shares its members
-pub copied-rooted : (plan : PlanOf) (r copy : RootObject) → arc_value copy.members ≡ arc_value r.members → Grows plan r.groups.items copy.groups.items → IsRooted plan r → IsRooted plan copy
-copied-rooted plan r copy same grows is = record { root = rw same (makes-more plan r.groups.items copy.groups.items (arc_value r.members).items (root_prepared plan) grows is.root); right = grows.right is.right }
+-- a copy of a root, which shares its members and its row
+pub copied-rooted : (plan : PlanOf) (r copy : RootObject) → arc_value copy.members ≡ arc_value r.members → copy.row ≡ r.row → Grows plan r.groups.items copy.groups.items → IsRooted plan r → IsRooted plan copy
+copied-rooted plan r copy same empty grows is = record { root = rw same (makes-more plan r.groups.items copy.groups.items (arc_value r.members).items (root_prepared plan) grows is.root); row = empty ∙ is.row; right = grows.right is.right }
 
--- the walk over the root object, which has no row
-pub over-root : {S : Type 0} {goes : Putting S} {below : Below S} {most : ℕ} (plan : PlanOf) (m : MemoryOf) (r : RootObject) (row : RowOf) (ms : List Member) (a b : Progress S) → a.groups ≡ r.groups → row ≡ [] → ms ≡ (arc_value r.members).items → IsRooted plan r
-    → below (length r.groups.items) a.out → Goes goes below most plan (AreKnown (length a.groups.items) ms) (λ v. puts false (Under ObjectOf (members_seen plan.definitions v most_levels row ms)) (lookup m)) a b
-    → GoesOver goes plan m a.out (record { rooted = record { members = r.members; groups = b.groups }; out = b.out })
-over-root {goes = goes} {below = below} plan m r row ms a b start none same rooted wait p =
+-- the walk over the root object
+pub over-root : {S : Type 0} {goes : Putting S} {below : Below S} {most : ℕ} (plan : PlanOf) (m : MemoryOf) (r : RootObject) (ms : List Member) (a b : Progress S) → a.groups ≡ r.groups → ms ≡ (arc_value r.members).items → IsRooted plan r
+    → below (length r.groups.items) a.out → Goes goes below most plan (AreKnown (length a.groups.items) ms) (λ v. puts false (Under ObjectOf (members_seen plan.definitions v most_levels r.row ms)) (lookup m)) a b
+    → GoesOver goes plan m a.out (record { rooted = record { members = r.members; row = r.row; groups = b.groups }; out = b.out })
+over-root {goes = goes} {below = below} plan m r ms a b start same rooted wait p =
     let v : View = view_of plan b.groups.items in
-    let is : IsRooted plan (record { members = r.members; groups = a.groups }) = rw start rooted in
+    let is : IsRooted plan (record { members = r.members; row = r.row; groups = a.groups }) = rw start rooted in
     let root : Makes plan a.groups.items ms (root_prepared plan) = rw same is.root in
-    let fields : members_seen plan.definitions v most_levels row ms ≡ fields_of (asked_program plan.definitions (object_program plan most_levels) []) (root_prepared plan) =
-    rw none (root.members v (p.grows.covers v (covers-view plan b.groups.items)) most_levels []) in
+    let fields : members_seen plan.definitions v most_levels r.row ms ≡ fields_of (asked_program plan.definitions (object_program plan most_levels) []) (root_prepared plan) =
+    rw rooted.row (root.members v (p.grows.covers v (covers-view plan b.groups.items)) most_levels []) in
     let from : below (length a.groups.items) a.out = rw start wait in
     record {
-      rooted = rooted-more plan (record { members = r.members; groups = a.groups }) b.groups p.grows is;
+      rooted = rooted-more plan (record { members = r.members; row = r.row; groups = a.groups }) b.groups p.grows is;
       put = subst (λ (us : Programs). goes v (puts false (Under ObjectOf us) (lookup m)) a.out b.out) fields (p.puts root.known is.right from v (covers-view plan b.groups.items));
     }
 
@@ -135,6 +135,15 @@ answer-written plan m old w a b c d none empty begun entered over ended =
     left-over plan m w.rooted (answer_puts plan m) a d over'.rooted none put (λ Q more. ap (thinned []) (answer-asks plan m Q ∙ asks-puts false (plan_program plan) (lookup m) Q more))
     (ap (thinned []) (answer-asks plan m unanswered ∙ waits-puts false (plan_program plan) (lookup m))) (answer-tokens plan m v a d empty put)
 
+-- the whole plan was put, and nothing was written
+pub root-searched : (plan : PlanOf) (m : MemoryOf) (old : RootObject) (w : FinishedWalk Output) (a : Output) → a.blocked ≡ [] → a.is_plain ≡ false → (IsWithin (length old.groups.items) a → GoesOver Puts plan m a w) → Advanced plan m w
+root-searched plan m old w a none blind over =
+    let at : View = view_of plan old.groups.items in
+    let over' : GoesOver Puts plan m a w = over (subst (AreWithin at.count) (sym none) (λ k d lt. absurd (omega (arith, lt)))) in
+    left-over plan m w.rooted (puts false (plan_program plan) (lookup m)) a w.out over'.rooted none over'.put
+    (λ Q more. ap (thinned []) (asks-puts false (plan_program plan) (lookup m) Q more)) (ap (thinned []) (waits-puts false (plan_program plan) (lookup m)))
+    (λ w. let seen : false ≡ true = sym blind ∙ (over'.put.written w).0.plain in absurd (cc seen))
+
 -- ---- positions that go on
 
 -- gives what is put where positions go on
@@ -180,7 +189,7 @@ resumed-one {m = m} {all = all} {after = after} {start = start} {now = now} b as
 
 -- all of them went on, and nothing was written
 pub all-resumed : {most : ℕ} {plan : PlanOf} {m : MemoryOf} {all left : List BlockedPosition} {start now : Progress Output} (r : RootObject) → r.groups ≡ start.groups → start.out.blocked ≡ [] → start.out.is_plain ≡ false → left ≡ []
-    → AreResumed most plan m all left start now → MayGoOn plan m r all → Advanced plan m (record { rooted = record { members = r.members; groups = now.groups }; out = now.out })
+    → AreResumed most plan m all left start now → MayGoOn plan m r all → Advanced plan m (record { rooted = record { members = r.members; row = r.row; groups = now.groups }; out = now.out })
 all-resumed {plan = plan} {m = m} {all = all} {start = start} {now = now} r same none blind ended h may =
     let v : View = view_of plan now.groups.items in
     let old : View = view_of plan r.groups.items in
@@ -193,7 +202,7 @@ all-resumed {plan = plan} {m = m} {all = all} {start = start} {now = now} r same
     rw (← whole) (h.goes.puts within right (subst (AreWithin (length start.groups.items)) (sym none) (λ k d lt. absurd (omega (arith, lt)))) v (covers-view plan now.groups.items)) in
     let alike : (Q : Reader) → all_asks v all Q ≡ all_asks old all Q =
     λ Q. asks-narrow v old (length r.groups.items) all Q (λ o lt. (grows.covers v (covers-view plan now.groups.items)).tells o lt) may.within in
-    left-over plan m (record { members = r.members; groups = now.groups }) (resumed v R all) start.out now.out (rooted-more plan r now.groups grows may.rooted) none put
+    left-over plan m (record { members = r.members; row = r.row; groups = now.groups }) (resumed v R all) start.out now.out (rooted-more plan r now.groups grows may.rooted) none put
     (λ Q more. ap (thinned []) (resumed-asked (λ p. asks p Q) v R Q all (λ p. asks-puts false p R Q more) ∙ alike Q) ∙ may.ask Q more)
     (ap (thinned []) (resumed-asked (λ p. asks p R) v R unanswered all (λ p. waits-puts false p R) ∙ alike R) ∙ may.ask R (more-self R))
     (λ w. let seen : false ≡ true = sym blind ∙ (put.written w).0.plain in absurd (cc seen))

@@ -1,5 +1,6 @@
 pub mod Loaders
 pub mod Evaluating
+pub mod AddingNew
 pub mod Texts
 pub mod Thinning
 pub mod Putting

@@ -14,4 +14,5 @@ pub mod Within
 pub mod Counting
 pub mod KeyByKey
 pub mod Adding
+pub mod NewKeys
 pub mod PlanLoads

@@ -27,9 +27,10 @@ use Rattle.gq_resolve.specs.declared.answered.ExecutionResult.{ExecutionResult}
 use Rattle.gq_resolve.specs.declared.root_state.RootState.{RootState}
 use Rattle.plan_walk.specs.declared.walk.Walk.{Walk}
 
--- the members of the root, and groups that are right
+-- the members of the root, a row without columns, and groups that are right
 pub record IsRooted (plan : PlanOf) (r : RootObject) : Type 0 where
   pub root : Makes plan r.groups.items (arc_value r.members).items (root_prepared plan)
+  pub row : r.row ≡ []
   pub right : AreRight plan r.groups.items
 
 -- Over each larger memory these positions ask what the plan asks, each load once.

@@ -14,7 +14,7 @@ use crate::wanting::add_wants;
 use gq_lexer::Place;
 use load_memory::{Probe, Row};
 use load_queue::Wants;
-use plan_program::{collect, prepare_groups};
+use plan_program::{ObjectType, collect};
 use plan_walk::loading_fields::{LoadingField, Member, copy_of, members_of};
 use plan_walk::positions::{FieldPosition, Nullability, PositionKind};
 use plan_walk::sink::Sink;
@@ -26,10 +26,11 @@ use std::sync::Arc;
 /// Says how many levels of objects a plan has at most below its root.
 const MOST_LEVELS: u32 = 128;
 
-/// The positions of the root object, and the groups that were met.
+/// The positions of the root object, its row, which has no columns, and the groups that were met.
 #[derive(Drop)]
 pub struct RootObject<'p> {
     pub members: Arc<Vec<Member<'p>>>,
+    pub row: Row,
     pub groups: Vec<LoadingField<'p>>,
 }
 
@@ -53,26 +54,27 @@ pub fn prepare_root<'p>(walk: &Walk<'_, 'p>) -> Result<RootObject<'p>, AllocErro
     ensures { IfOk result
         (IsRooted (plan_of walk.now.plan.now)) }
 {
-    let ty = walk.plan.schema().root();
+    let ty = ObjectType::Found(walk.plan.schema().root_type());
     let selections = &walk.plan.operation().selection_set.selections;
-    let collected = collect(walk.alloc, walk.plan, ty, selections)?;
-    let all = prepare_groups(walk.alloc, walk.plan, ty, collected)?;
+    let collected = collect(walk.alloc, walk.plan, ty.name(), selections)?;
     let mut groups = Vec::new(walk.alloc);
-    let members = members_of(walk.alloc, &mut groups, all)?;
+    let members = members_of(walk, &mut groups, &ty, collected)?;
     Ok(RootObject {
         members: Arc::new(walk.alloc, members)?,
+        row: Row::new(walk.alloc, &[])?,
         groups,
     })
 }
 
 impl<'p> RootObject<'p> {
-    /// A copy, which shares the members.
+    /// A copy, which shares the members and the row.
     pub fn copy(&self) -> Result<RootObject<'p>, AllocError>
         ensures { IfOk result (λ copy.
             (plan : PlanOf) → IsRooted plan self.now → IsRooted plan copy) }
     {
         Ok(RootObject {
             members: Arc::try_clone(&self.members)?,
+            row: self.row.clone()?,
             groups: copy_of(&self.groups)?,
         })
     }
@@ -87,17 +89,24 @@ pub fn go_over<'p, S: Sink + Drop>(
     ensures { IsRooted (plan_on walk.now) rooted.entry → WaitsBelow S.below rooted.entry out
         → IfOk result (GoesOverTour S.goes walk.now out) }
 {
-    let RootObject { members, groups } = rooted;
+    let RootObject {
+        members,
+        row,
+        groups,
+    } = rooted;
     let mut at = Progress {
         groups,
         probe: Probe::new(),
         out,
     };
-    let row = Row::new(walk.alloc, &[])?;
     walk.object(&mut at, MOST_LEVELS, &members, &row)?;
     let groups = at.groups;
     Ok(FinishedWalk {
-        rooted: RootObject { members, groups },
+        rooted: RootObject {
+            members,
+            row,
+            groups,
+        },
         out: at.out,
     })
 }
@@ -123,6 +132,38 @@ fn write_output<'p>(
     Ok(walked)
 }
 
+// Looks for the loads of the whole plan alone, and writes nothing.
+fn search_root<'p>(
+    walk: &Walk<'_, 'p>,
+    rooted: RootObject<'p>,
+) -> Result<FinishedWalk<'p, Output>, AllocError>
+    ensures { IsRooted (plan_on walk.now) rooted.entry
+        → IfOk result (Advanced (plan_on walk.now) walk.now.memory.now) }
+{
+    let out = Output::waiting_only(walk.alloc);
+    let walked = go_over(walk, rooted, out)?;
+    Ok(walked)
+}
+
+// Goes over the whole plan. Over a memory that has no pair a root that loads can't be answered, so it writes nothing then.
+fn begin<'p>(
+    walk: &Walk<'_, 'p>,
+    most: usize,
+    rooted: RootObject<'p>,
+) -> Result<FinishedWalk<'p, Output>, AllocError>
+    ensures { IsRooted (plan_on walk.now) rooted.entry
+        → IfOk result (Advanced (plan_on walk.now) walk.now.memory.now) }
+{
+    if rooted.groups.is_empty() || !walk.memory.is_empty() {
+        return write_output(walk, most, rooted);
+    }
+    let walked = search_root(walk, rooted)?;
+    if walked.out.blocked.is_empty() {
+        return write_output(walk, most, walked.rooted);
+    }
+    Ok(walked)
+}
+
 /// The response of a plan over a memory that has all that it needs.
 pub fn build_response<'p>(
     walk: &Walk<'_, 'p>,
@@ -144,7 +185,11 @@ fn search_waiting<'p>(
     ensures { MayGoOn (plan_on walk.now) walk.now.memory.now rooted.entry waiting
         → IfOk result (Advanced (plan_on walk.now) walk.now.memory.now) }
 {
-    let RootObject { members, groups } = rooted;
+    let RootObject {
+        members,
+        row,
+        groups,
+    } = rooted;
     let mut at = Progress {
         groups,
         probe: Probe::new(),
@@ -159,7 +204,11 @@ fn search_waiting<'p>(
     }
     let groups = at.groups;
     Ok(FinishedWalk {
-        rooted: RootObject { members, groups },
+        rooted: RootObject {
+            members,
+            row,
+            groups,
+        },
         out: at.out,
     })
 }
@@ -174,10 +223,10 @@ fn advance_text<'p>(
         → IfOk result (Advanced (plan_on walk.now) walk.now.memory.now) }
 {
     let Some(Suspension { rooted, waiting }) = stopped else {
-        return write_output(walk, most, prepare_root(walk)?);
+        return begin(walk, most, prepare_root(walk)?);
     };
     let Some(waiting) = waiting else {
-        return write_output(walk, most, rooted);
+        return begin(walk, most, rooted);
     };
     let walked = search_waiting(walk, rooted, waiting)?;
     if walked.out.blocked.is_empty() {
@@ -209,6 +258,7 @@ pub fn advance<'p>(
     }
     let FinishedWalk { rooted, out } = walked;
     let waiting = add_wants(
+        walk.alloc,
         &rooted.groups,
         out.blocked,
         walk.memory.modes().len(),

@@ -4,7 +4,7 @@ ghost use Rattle.std.specs.Prelude.{◌≡◌, IfOk};
 
 use crate::advance::{RootObject, prepare_root};
 use crate::limited_plan::LimitedPlan;
-use crate::most_groups::most_groups_of;
+use crate::most_groups::{most_ahead_of, most_groups_of};
 use gq_check::Plan;
 use load_memory::Memory;
 use plan_walk::loading_fields::prepare_below;
@@ -16,7 +16,7 @@ use std::marker::Model;
 ///
 /// It is executed by [`within`](PreparedPlan::within) a limit, as often as is wanted. Each execution answers as that of a
 /// [`LimitedPlan`] that was not prepared: it begins with a copy, of a block of memory for all groups and one for each group
-/// that was prepared.
+/// below which objects of several types were prepared.
 ///
 /// A contract sees the plan.
 #[derive(Drop)]
@@ -62,7 +62,7 @@ impl<'p> PreparedPlan<'p> {
             most: most_groups_of(plan),
         };
         let mut rooted = prepare_root(&walk)?;
-        prepare_below(&walk, &mut rooted.groups)?;
+        prepare_below(&walk, &mut rooted.groups, most_ahead_of(plan))?;
         Ok(PreparedPlan { plan, rooted })
     }
 

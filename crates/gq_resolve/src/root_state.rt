@@ -27,7 +27,8 @@ use std::alloc::{AllocError, Global};
 /// The execution of a plan, which goes on where it stopped.
 ///
 /// A poll goes on at the positions that wait, looks below them for loads alone, and reads no cell but those of
-/// keys. When none waits, a walk from the root writes the answer, so each object is visited twice at most.
+/// keys; over a memory without a pair it begins so at the root. When none waits, a walk from the root writes the
+/// answer, so each object is visited twice at most.
 /// Where nothing below the positions can load, what was prepared is kept alone, and the next poll is that walk.
 #[derive(Drop)]
 pub struct RootState<'p> {

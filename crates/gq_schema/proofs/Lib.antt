@@ -3,6 +3,7 @@ pub mod TypeNameLists
 pub mod Walks
 pub mod UnionLaws
 pub mod PlaceLaws
+pub mod EntryLaws
 pub mod IntTexts
 pub mod Faults
 pub mod InputLaws

@@ -2,7 +2,7 @@
 use Rattle.std.proofs.Common.{◌≡◌, ◌∙◌, sym, ap, ℕ, suc, ◌+◌, ◌-◌, ◌<◌, ◌≤◌, Bool, true, false, cond, List, [], ◌∷◌, length, map, get_or, refl, arith, Some, None}
 use Rattle.std.specs.Prelude.{find, is_some, ◌||◌}
 use Rattle.std.specs.List.{list_any}
-use Rattle.std.proofs.lemmas.List.{length-map}
+use Rattle.std.proofs.lemmas.List.{length-map, get_or-map as get_or-mapped}
 use Rattle.std.proofs.Math.ListN.{get_or-map}
 use Rattle.gq_schema.specs.Places.{place_from}
 
@@ -75,3 +75,15 @@ is_some-place_from test n (x ∷ xs) = step (test x) (is_some-place_from test (n
   step : (b : Bool) → is_some (place_from (n + 1) test xs) ≡ list_any test xs → is_some (cond b (Some n) (place_from (n + 1) test xs)) ≡ (b || list_any test xs)
   step true h = refl
   step false h = h
+
+-- ---- elements of lists that were made of others, place by place
+
+pub seen_at : {X Y : Type 0} (f : X → Y) (xs : List X) (i : ℕ) (x : X) → x ≡ get_or xs i x → f x ≡ get_or (map f xs) i (f x)
+seen_at f xs i x is = ap f is ∙ sym (get_or-map f xs i x)
+
+pub made_of : {X Y : Type 0} (f : X → Y) (xs : List X) (ys : List Y) (i : ℕ) (x : X) (y : Y) → ys ≡ map f xs → i < length xs → x ≡ get_or xs i x → y ≡ get_or ys i y → y ≡ f x
+made_of f xs ys i x y made below x-is y-is =
+    y-is ∙ (ap (λ zs. get_or zs i y) made ∙ (get_or-mapped f xs i x y below ∙ ap f (sym x-is)))
+
+pub made_length : {X Y : Type 0} (f : X → Y) (xs : List X) (ys : List Y) → ys ≡ map f xs → length ys ≡ length xs
+made_length f xs ys made = ap length made ∙ length-map xs f

@@ -8,6 +8,7 @@ pub mod Uses
 pub mod Implements
 pub mod Earlier
 pub mod Places
+pub mod Entries
 pub mod Possible
 pub mod Indexes
 pub mod Schemas

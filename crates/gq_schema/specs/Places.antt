@@ -26,3 +26,9 @@ part_place (Object n is fs) q = place_from 0 (is_field q) fs
 part_place (Interface n fs) q = place_from 0 (is_field q) fs
 part_place (Enum n vs) q = place_from 0 (is_called q) vs
 part_place _ q = None
+
+-- where the field or value of this name stands, by the map where there is one
+abbrev pub found_place : {S : Type 0}
+    → Option (HashMap (String Global) ℕ S) → Definition → List ℕ → Option ℕ
+found_place None d q = part_place d q
+found_place (Some places) d q = get_by_text places q

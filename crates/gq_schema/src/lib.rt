@@ -3,12 +3,15 @@
 //! A [`Schema`] is seen as the list of its definitions, in the order of the text. What is read of a text keeps the rules on
 //! names, kinds, interfaces and defaults, so the layer above may rely on it: each name of a type is one of a type, each
 //! argument is a scalar, an enum or a list of one, each default is right, each interface is implemented, and there is a root.
-//! Look-ups go by hash and take no memory. [`accepts`] and [`coerce`] say what a literal is at a type.
+//! Look-ups take no memory. A type is found by hash; below a [`FoundType`], hashes serve only among many fields of a type.
+//! [`accepts`] and [`coerce`] say what a literal is at a type.
 #![tactic(auto)]
 
 mod check;
 mod coercion;
+mod entries;
 mod fault;
+mod found;
 mod index;
 mod input;
 mod kind;
@@ -23,6 +26,7 @@ mod types;
 
 pub use coercion::{accepts, coerce, list_of_one};
 pub use fault::SchemaFault;
+pub use found::{FoundField, FoundType};
 pub use index::IndexedDefinition;
 pub use input::Input;
 pub use kind::TypeKind;

@@ -3,8 +3,9 @@
 ghost use Rattle.std.specs.Prelude.{◌≡◌, string_bytes};
 ghost use Rattle.std.specs.Option.{option_map, option_copied};
 ghost use Rattle.schema_syntax.specs.Tree.{name_of, fields_of, definition_of};
-ghost use Rattle.gq_schema.specs.Types.{type_name, is_built_in, own_fields};
+ghost use Rattle.gq_schema.specs.Types.{type_name, is_built_in, kind_of, own_fields};
 
+use crate::kind::TypeKind;
 use schema_syntax::{Definition, FieldDefinition, Name};
 
 /// Tells whether it is one of the scalars that each schema has (section 3.5).
@@ -25,6 +26,20 @@ pub fn type_name(definition: &Definition) -> Option<&Name>
         Definition::Interface(interface) => Some(&interface.name),
         Definition::Union(union) => Some(&union.name),
         Definition::Enum(values) => Some(&values.name),
+    }
+}
+
+/// The kind of the type that is defined.
+pub fn kind_of(definition: &Definition) -> Option<TypeKind>
+    ensures { result ≡ kind_of
+        (definition_of definition.now) }
+{
+    match definition {
+        Definition::Schema(_) => None,
+        Definition::Object(_) => Some(TypeKind::Object),
+        Definition::Interface(_) => Some(TypeKind::Interface),
+        Definition::Union(_) => Some(TypeKind::Union),
+        Definition::Enum(_) => Some(TypeKind::Enum),
     }
 }
 

@@ -1,19 +1,22 @@
 //! Schemas, and what they say of names.
 
-ghost use Rattle.std.specs.Prelude.{◌≡◌, IfOk, map, is_some, string_bytes};
+ghost use Rattle.std.specs.Prelude.{◌≡◌, IfOk, IfSome, map, is_some, unwrap_or, string_bytes};
+ghost use Rattle.gq_schema.specs.Entries.{entry_in};
 ghost use Rattle.gq_schema.specs.Indexes.{definition_in};
 ghost use Rattle.std.specs.Option.{option_map, option_copied};
 ghost use Rattle.schema_syntax.specs.Tree.{field_of, fields_of, definition_of};
 ghost use Rattle.gq_parser.specs.Tree.{type_of};
-ghost use Rattle.gq_schema.specs.Types.{tree_of, declared_root, root_in, type_in, kind_of, kind_in, fields_in, field_in, has_value, can_be, possible_in, is_covariant};
+ghost use Rattle.gq_schema.specs.Types.{tree_of, declared_root, query, root_in, type_in, kind_in, fields_in, field_in, has_value, can_be, possible_in, is_covariant};
 
+use crate::entries::{TypeEntry, entry_of, field_entries};
+use crate::found::{FoundField, FoundType};
 use crate::index::{IndexedDefinition, NameIndices, index};
 use crate::kind::TypeKind;
-use crate::names::{is_built_in, own_fields};
+use crate::names::own_fields;
 use crate::possible::{Possible, possible_in};
-use crate::types::{declared_root, type_places};
+use crate::types::{declared_root, definition, kind, type_places};
 use gq_parser::TypeRef;
-use schema_syntax::{Definition, FieldDefinition as FieldDef, SchemaDocument};
+use schema_syntax::{FieldDefinition as FieldDef, SchemaDocument};
 use std::alloc::{AllocError, Global};
 use std::marker::Model;
 
@@ -26,6 +29,9 @@ pub struct Schema {
     root: Option<String>,
     types: NameIndices,
     possible: Possible,
+    // what the root is, and what the types of each definition's fields are
+    root_entry: TypeEntry,
+    field_entries: Vec<Vec<TypeEntry>>,
 }
 
 impl Model for Schema {
@@ -44,7 +50,19 @@ impl Model for Schema {
 
     ghost view = { λ s. map definition_in s.definitions.items };
 
-    ghost invariant = { λ s. IsIndexed s.definitions.items s.root s.types s.possible };
+    ghost invariant = { λ s. IsIndexed s.definitions.items s.root s.types s.possible
+        s.root_entry s.field_entries.items };
+}
+
+// The name of the root, where `schema` names this one.
+fn root_name(root: &Option<String>) -> &str
+    ensures { result.now ≡ unwrap_or
+        (option_map string_bytes root.now) query }
+{
+    match root {
+        Some(root) => root.as_str(),
+        None => "Query",
+    }
 }
 
 impl Schema {
@@ -57,11 +75,15 @@ impl Schema {
         let root = declared_root(&definitions)?;
         let types = type_places(alloc, &definitions)?;
         let possible = possible_in(alloc, &definitions)?;
+        let root_entry = entry_of(&definitions, &types, root_name(&root));
+        let field_entries = field_entries(alloc, &definitions, &types)?;
         Ok(Schema {
             definitions,
             root,
             types,
             possible,
+            root_entry,
+            field_entries,
         })
     }
 
@@ -84,10 +106,56 @@ impl Schema {
     pub fn root(&self) -> &str
         ensures { result.now ≡ root_in (tree_of self.now) }
     {
-        match &self.root {
-            Some(root) => root.as_str(),
-            None => "Query",
+        root_name(&self.root)
+    }
+
+    /// The type that queries begin at.
+    pub fn root_type(&self) -> FoundType<'_>
+        ensures schema { result.schema.now ≡ self.now }
+        ensures name { result.name.now
+            ≡ root_in (tree_of self.now) }
+    {
+        FoundType {
+            schema: self,
+            name: self.root(),
+            entry: self.root_entry,
         }
+    }
+
+    /// The type of this name. There may be none.
+    pub fn find_type<'a>(&'a self, name: &'a str) -> FoundType<'a>
+        ensures schema { result.schema.now ≡ self.now }
+        ensures name { result.name.now ≡ name.now }
+    {
+        FoundType {
+            schema: self,
+            name,
+            entry: entry_of(&self.definitions, &self.types, name),
+        }
+    }
+
+    /// The field of a type that was found.
+    pub(crate) fn field_below(
+        &self,
+        ty: &str,
+        entry: TypeEntry,
+        name: &str,
+    ) -> Option<FoundField<'_>>
+        requires { entry ≡ entry_in (tree_of self.now) ty.now }
+        ensures schema { IfSome result (λ f. f.schema.now ≡ self.now) }
+        ensures definition { option_map (λ f. field_of f.definition.now) result
+            ≡ field_in (tree_of self.now) ty.now name.now }
+    {
+        let number = entry.place?;
+        let indexed = &self.definitions[number];
+        let fields = own_fields(&indexed.definition);
+        let place = indexed.field_place(name)?;
+        let entries = &self.field_entries[number];
+        Some(FoundField {
+            schema: self,
+            definition: &fields[place],
+            entry: entries[place],
+        })
     }
 
     // The definition of a type.
@@ -95,8 +163,7 @@ impl Schema {
         ensures { option_map (λ indexed. definition_of indexed.definition) (option_copied result)
             ≡ type_in (tree_of self.now) name.now }
     {
-        let place = *self.types.get(name)?;
-        Some(&self.definitions[place])
+        definition(&self.definitions, &self.types, name)
     }
 
     /// Tells whether the text defines a type of this name.
@@ -112,10 +179,7 @@ impl Schema {
         ensures { result ≡ kind_in
             (tree_of self.now) name.now }
     {
-        if is_built_in(name) {
-            return Some(TypeKind::Scalar);
-        }
-        kind_of(&self.definition(name)?.definition)
+        kind(&self.definitions, &self.types, name)
     }
 
     /// The fields of an object type or of an interface, in order; none where there is no such type.
@@ -205,18 +269,5 @@ impl Schema {
             ) => (*non_null || !*wanted_non_null) && self.is_covariant(item, wanted_item),
             _ => false,
         }
-    }
-}
-
-fn kind_of(definition: &Definition) -> Option<TypeKind>
-    ensures { result ≡ kind_of
-        (definition_of definition.now) }
-{
-    match definition {
-        Definition::Schema(_) => None,
-        Definition::Object(_) => Some(TypeKind::Object),
-        Definition::Interface(_) => Some(TypeKind::Interface),
-        Definition::Union(_) => Some(TypeKind::Union),
-        Definition::Enum(_) => Some(TypeKind::Enum),
     }
 }

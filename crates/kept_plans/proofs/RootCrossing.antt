@@ -7,6 +7,7 @@ use denote.Param.SendFields.{declared_send, declared_sync}
 use Rattle.std.proofs.Crossing as heap
 use Rattle.short_text.proofs.text.Text.TheSendSync as text
 use Rattle.load_memory.proofs.key.Key.TheSendSync as key
+use Rattle.load_memory.proofs.row.Row.TheSendSync as row
 use Rattle.gq_parser.proofs.tree.Selection.TheLaws.TheKnot as selection
 use Rattle.gq_parser.proofs.tree.TypeRef.TheLaws.TheKnot as type_ref
 use Rattle.gq_parser.proofs.tree.Value.TheLaws.TheKnot as value
@@ -16,6 +17,7 @@ use Rattle.plan_program.proofs.prepared.KeyFrom.TheSendSync as key_from
 use Rattle.plan_program.proofs.prepared.LeafValue.TheSendSync as leaf
 use Rattle.plan_program.specs.contracts.prepared.Children as children
 use Rattle.plan_walk.proofs.loading_fields.RowUse.TheSendSync as then
+use Rattle.plan_walk.specs.contracts.leaf_type.LeafType as leaf_type
 use Rattle.plan_walk.specs.contracts.loading_fields.FieldResolver as asks
 use Rattle.plan_walk.specs.contracts.loading_fields.Member as member
 use Rattle.plan_walk.specs.contracts.loading_fields.TypePositions as shape
@@ -35,11 +37,17 @@ module _ (κ : NamedLft) where
   children_sync : IsSync (children.the_row κ)
   children_sync = search (heap.crosses, sendable, field_sync) depth 20
 
+  leaf_type_send : IsSend (leaf_type.the_row κ)
+  leaf_type_send = search (heap.crosses, sendable, type_sync) depth 20
+
+  leaf_type_sync : IsSync (leaf_type.the_row κ)
+  leaf_type_sync = search (heap.crosses, sendable, type_sync) depth 20
+
   asks_send : IsSend (asks.the_row κ)
-  asks_send = search (heap.crosses, sendable, type_sync, leaf.the_field_send, key_from.the_field_send, key.the_send) depth 20
+  asks_send = search (heap.crosses, sendable, leaf_type_send, leaf.the_field_send, key_from.the_field_send, key.the_send) depth 20
 
   asks_sync : IsSync (asks.the_row κ)
-  asks_sync = search (heap.crosses, sendable, type_sync, leaf.the_field_sync, key_from.the_field_sync, key.the_sync) depth 20
+  asks_sync = search (heap.crosses, sendable, leaf_type_sync, leaf.the_field_sync, key_from.the_field_sync, key.the_sync) depth 20
 
   member_send : IsSend (member.the_row κ)
   member_send = declared_send (member.the_type κ) (search sendable depth 20, (asks_send, tt))
@@ -54,4 +62,4 @@ module _ (κ : NamedLft) where
   group_send = search (heap.crosses, sendable, then.the_field_send, children_send, children_sync, shape_send) depth 20
 
   pub rooted_send : IsSend (rooted.the_row κ)
-  rooted_send = search (heap.crosses, sendable, member_send, member_sync, group_send) depth 20
+  rooted_send = search (heap.crosses, sendable, row.the_send, member_send, member_sync, group_send) depth 20

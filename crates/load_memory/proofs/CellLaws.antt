@@ -1,9 +1,11 @@
 -- Cutting one text into cells.
-use Rattle.std.proofs.Common.{◌≡◌, ◌≤◌, ◌<◌, ◌-◌, ℕ, zero, suc, get_or, List, [], ◌∷◌, ◌++◌, take, drop, length, refl, sym, ap, arith, length-append, length-drop}
-use Rattle.std.proofs.lemmas.List.{drop-append-le, take-append-le, drop_all, take_all, drop_at}
+use Rattle.std.proofs.Common.{◌≡◌, ◌≤◌, ◌<◌, ◌-◌, ◌+◌, ℕ, zero, suc, get_or, List, [], ◌∷◌, ◌++◌, take, drop, length, refl, sym, ap, arith, length-append, length-drop, false, inl, inr}
+use Rattle.std.proofs.lemmas.List.{drop-append-le, take-append-le, drop_all, take_all, drop_at, length-take-le}
 use Rattle.std.proofs.lemmas.Str.{IsUtf8-append, IsUtf8-nil}
 use Rattle.std.proofs.lemmas.Str.{IsCharBoundary-from_drop}
-use Rattle.std.specs.Prelude.{IsUtf8, slice_range}
+use Rattle.std.proofs.lemmas.Bool.{cases_eq, false_from_ne_true}
+use Rattle.std.proofs.lemmas.Slice.Eq.{bytes_eq-Decides}
+use Rattle.std.specs.Prelude.{IsUtf8, slice_range, bytes_eq}
 use Rattle.std.specs.Str.{IsCharBoundary}
 use Rattle.load_memory.specs.Cells.{cut, IsCut, start_at}
 
@@ -76,3 +78,28 @@ unfolding start_at
 start_at-next start [] i d lt = absurd (omega arith)
 start_at-next start (end ∷ ends) zero d lt = refl
 start_at-next start (end ∷ ends) (suc i) d lt = start_at-next end ends i d (omega arith)
+
+-- the cell that starts at a place which is where the text with an index starts
+pub cell-from : (text ends : List ℕ) (start i : ℕ) → IsCut text 0 ends → i < length ends → start ≡ start_at 0 ends i
+    → IsCellAt text start (get_or ends i 0) (get_or (cut text 0 ends) i [])
+cell-from text ends start i cuts lt e = rw e (cell-at text 0 ends i cuts (λ none. absurd (omega (arith, none))) lt)
+
+-- a cell is as long as its ends are apart
+pub length-cell : (text : List ℕ) (from to : ℕ) (cell : List ℕ) → IsCellAt text from to cell → length cell ≡ to - from
+length-cell text from to cell at =
+    let within = at.to_boundary.0 in
+    let ordered = at.ordered in
+    let whole = length-drop from text in
+    rw (← at.value) (length-take-le (to - from) (drop from text) (omega arith))
+
+-- texts of other lengths are others
+pub other-length : (cell text : List ℕ) → (length cell ≡ length text → ⊥) → bytes_eq cell text ≡ false
+other-length cell text differ = false_from_ne_true (bytes_eq cell text) (λ e. differ (ap length ((bytes_eq-Decides cell text).0 e)))
+
+-- none of the texts up to one is this text
+pub none-next : (cells : List (List ℕ)) (text : List ℕ) (i : ℕ) → ((k : ℕ) → k < i → bytes_eq (get_or cells k []) text ≡ false) → bytes_eq (get_or cells i []) text ≡ false
+    → (k : ℕ) → k < i + 1 → bytes_eq (get_or cells k []) text ≡ false
+none-next cells text i before here k le = elim (cases_eq k i) [
+  | inl e ↦ rw e here
+  | inr ne ↦ before k (omega arith)
+]

@@ -1,5 +1,5 @@
 //! The memory: a finite map from a loader's number and a cache key to an outcome.
-ghost use Rattle.std.specs.Prelude.{IsTrue, ◌↔◌, ◌≡◌, ◌==◌, ◌<◌, [], All, map, length, Some, IfOk, OnOk, OnErr, is_some, is_none, option_map, option_copied, slice_get};
+ghost use Rattle.std.specs.Prelude.{IsTrue, ◌↔◌, ◌≡◌, ◌==◌, ◌<◌, [], ◌∷◌, All, map, length, Some, IfOk, OnOk, OnErr, is_some, is_none, option_map, option_copied, slice_get};
 ghost use Rattle.load_memory.specs.Keys.{borrowed_of, cache_of, folded, mode_at};
 ghost use Rattle.load_memory.specs.Outcomes.{known, outcome_of, item_of};
 ghost use Rattle.load_memory.specs.Pairs.{pair_of, look, primed, IsSameMap, AreApart, IsWithout, is_key, IsUnfailed, IsUnfailedAt, IsWith};
@@ -8,14 +8,15 @@ ghost use Rattle.load_memory.specs.Replies.{reply_of, pairs_of};
 ghost use Rattle.load_memory.specs.Shelves.{IsOn, shown};
 
 use crate::key::{CacheKey, KeyMode, KeyRef};
-use crate::loader_memory::{
-    LoaderMemory, StagedPair, at_place, drop_failed_of, find, put_absent, take_out,
-};
+use crate::loader_memory::{LoaderMemory, StagedPair, drop_failed_of, find, put_absent, take_out};
 use crate::outcome::{Item, Outcome};
 use crate::probe::Probe;
 use crate::reply::Reply;
 use crate::shelf::{Receipt, Shelf};
-use crate::store::{clear_loaders, counts_of, has_failed, make_room, put_all, stage, stage_owned};
+use crate::store::{
+    clear_loaders, counts_of, has_failed, make_room, only_pair, put_all, put_one, stage,
+    stage_owned,
+};
 use indexmap::IndexMap;
 use std::alloc::{AllocError, Global};
 use std::marker::Model;
@@ -89,8 +90,8 @@ impl Memory {
         self.parts[loader].get(key)
     }
 
-    /// Returns what is known of a loader's key, as [`get`](Memory::get) tells it of the key's cache key. A key that follows the one
-    /// that the probe found before, in the order in which they were stored, is found without its hash.
+    /// Returns what is known of a loader's key, as [`get`](Memory::get) tells it of the key's cache key. A key that stands where the
+    /// probe looks first is found without its hash.
     ///
     /// # Errors
     ///
@@ -111,15 +112,13 @@ impl Memory {
         if part.is_empty() {
             return Ok(None);
         }
-        let place = probe.place(loader);
-        if let Some(outcome) = at_place(part, place, mode, key) {
-            probe.note_found(loader, place);
+        if let Some(outcome) = probe.find(loader, part, mode, key) {
             return Ok(Some(outcome));
         }
         probe.key.set(alloc, key, mode)?;
         match find(part, &probe.key) {
             Some((place, outcome)) => {
-                probe.note_found(loader, place);
+                probe.note_hashed(alloc, loader, part, mode, place)?;
                 Ok(Some(outcome))
             }
             None => Ok(None),
@@ -269,6 +268,30 @@ impl Memory {
         self.store(pairs)
     }
 
+    /// As [`keep_owned`](Memory::keep_owned) of one reply. A reply of one key takes no memory beside its pair's.
+    ///
+    /// # Errors
+    ///
+    /// Those of [`keep`](Memory::keep). The reply is gone even then.
+    pub fn keep_reply(&mut self, reply: Reply) -> Result<(), AllocError>
+        requires { reply.loader < length self.old.modes }
+        ensures pairs { OnOk result (IsWith self.old.pairs
+            (pairs_of self.old.modes (reply_of reply ∷ [])) self.new.pairs) }
+        ensures modes { self.new.modes ≡ self.old.modes }
+        ensures kept { OnErr result
+            (IsSameMap self.new.pairs self.old.pairs) }
+    {
+        let alloc = *self.modes.allocator();
+        let mode = self.mode(reply.loader);
+        if reply.keys.len() == 1 && reply.outcomes.len() == 1 {
+            let pair = only_pair(alloc, mode, reply)?;
+            return self.store_one(pair);
+        }
+        let mut pairs = Vec::new(alloc);
+        stage_owned(&mut pairs, mode, reply)?;
+        self.store(pairs)
+    }
+
     /// Adds the pairs of the replies that receipts of this shelf show, as [`keep`](Memory::keep) does.
     ///
     /// # Errors
@@ -290,6 +313,24 @@ impl Memory {
             stage(&mut pairs, self.mode(reply.loader), reply)?;
         }
         self.store(pairs)
+    }
+
+    fn store_one(&mut self, pair: StagedPair) -> Result<(), AllocError>
+        requires { pair.loader < length self.old.modes }
+        ensures pairs { OnOk result
+            (IsWith self.old.pairs (staged_of pair ∷ []) self.new.pairs) }
+        ensures modes { self.new.modes ≡ self.old.modes }
+        ensures kept { OnErr result
+            (IsSameMap self.new.pairs self.old.pairs) }
+    {
+        if self.count.checked_add(1).is_none() {
+            return Err(AllocError);
+        }
+        let failed = pair.outcome.has_failed();
+        let added = put_one(&mut self.parts, pair)?;
+        self.failed |= failed;
+        self.count += added;
+        Ok(())
     }
 
     fn store(&mut self, pairs: Vec<StagedPair>) -> Result<(), AllocError>

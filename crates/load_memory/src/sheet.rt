@@ -2,7 +2,7 @@
 //!
 //! A [`SheetBuilder`] takes the names of the columns and then the cells row by row. The [`Sheet`]
 //! that it becomes is shared by the rows that are taken from it.
-ghost use Rattle.std.specs.Prelude.{◌≡◌, ◌<◌, ◌-◌, ◌+◌, ◌++◌, ◌∷◌, ◌^◌, [], OnOk, OnErr, get_or, ◌==◌, length, position, bytes_eq, ℕ};
+ghost use Rattle.std.specs.Prelude.{◌≡◌, ◌<◌, ◌-◌, ◌+◌, ◌++◌, ◌∷◌, ◌^◌, ◌≤◌, [], take, OnOk, OnErr, get_or, ◌==◌, length, position, bytes_eq, ℕ};
 ghost use Rattle.load_memory.specs.Cells.{start_at};
 ghost use Rattle.load_memory.specs.Rows.{IsRectangular, draft_with_names, draft_with_row};
 
@@ -66,6 +66,23 @@ impl Cells {
         let start = start_of(&self.ends, i);
         let end = self.ends.get(i);
         &self.text.as_str()[start..end]
+    }
+
+    // The first of so many texts that is equal to this one, counted from 0. Most others are told by their lengths.
+    fn position(&self, count: usize, text: &str) -> Option<usize>
+        requires { count ≤ length self.now }
+        ensures { result ≡ position
+            (λ t. bytes_eq t text.now) (take count self.now) }
+    {
+        let mut start = 0;
+        for i in 0..count {
+            let end = self.ends.get(i);
+            if end - start == text.len() && &self.text.as_str()[start..end] == text {
+                return Some(i);
+            }
+            start = end;
+        }
+        None
     }
 
     fn push(&mut self, text: &str) -> Result<(), AllocError>
@@ -235,12 +252,7 @@ impl Sheet {
         ensures { result ≡ position
             (λ n. bytes_eq n name.now) self.now.names }
     {
-        for column in 0..self.width {
-            if self.name(column) == name {
-                return Some(column);
-            }
-        }
-        None
+        self.cells.position(self.width, name)
     }
 
     /// A field, by its row and its column, each counted from 0.

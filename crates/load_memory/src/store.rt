@@ -2,8 +2,11 @@
 //!
 //! The pairs of a round are gathered and room is made in each loader's part, so that storing can't fail. When
 //! memory ran out, pairs may lie in another order, and the map is as it was.
-ghost use Rattle.std.specs.Prelude.{◌≡◌, ◌<◌, ◌≤◌, ◌+◌, false, ℕ, [], All, map, length, IfOk, OnOk, slice_index};
+ghost use Rattle.std.specs.Prelude.{◌≡◌, ◌<◌, ◌≤◌, ◌+◌, false, ℕ, [], ◌∷◌, All, map, length, IfOk, OnOk, OnErr, slice_index};
+ghost use Rattle.load_memory.specs.Keys.{key_of};
+ghost use Rattle.load_memory.specs.Outcomes.{outcome_of};
 ghost use Rattle.load_memory.specs.Pairs.{IsSameMap, IsWith};
+ghost use Rattle.load_memory.specs.Replies.{reply_pairs};
 ghost use Rattle.load_memory.specs.LoaderMemories.{HaveOwnKeys, HaveRoom, HoldSame, StorePairs, room_at, count_at, pairs_from, staged_of, AreUnfailed, AddsReply};
 
 use crate::key::{KeyMode, cache_key};
@@ -63,6 +66,34 @@ pub(crate) fn stage_owned(
         })?;
     }
     Ok(())
+}
+
+/// The pair of a reply of one key, which is handed over. It copies no outcome.
+pub(crate) fn only_pair(
+    alloc: Global,
+    mode: KeyMode,
+    reply: Reply,
+) -> Result<StagedPair, AllocError>
+    requires key { length reply.keys ≡ 1 }
+    requires outcome { length reply.outcomes.items ≡ 1 }
+    ensures { IfOk result (λ pair. staged_of pair ∷ [] ≡ reply_pairs mode reply.loader
+        (map key_of reply.keys) (map outcome_of reply.outcomes.items)) }
+{
+    let Reply {
+        loader,
+        keys,
+        outcomes,
+    } = reply;
+    let mut outcomes = outcomes;
+    let Some(outcome) = outcomes.pop() else {
+        unreachable!();
+    };
+    let key = cache_key(alloc, &keys.as_slice()[0], mode)?;
+    Ok(StagedPair {
+        loader,
+        key,
+        outcome,
+    })
 }
 
 /// Tells whether some of the pairs are of a batch that failed as a whole.
@@ -154,4 +185,31 @@ pub(crate) fn put_all(parts: &mut Vec<LoaderMemory>, pairs: Vec<StagedPair>) -> 
         }
     }
     added
+}
+
+/// Stores a pair if its key is absent, and gives how many it stored. When out of memory, the parts keep
+/// the same pairs.
+pub(crate) fn put_one(parts: &mut Vec<LoaderMemory>, pair: StagedPair) -> Result<usize, AllocError>
+    requires loader { pair.loader < length parts.old.items }
+    requires own_keys { HaveOwnKeys parts.old.items }
+    ensures lined_up { length parts.new.items
+        ≡ length parts.old.items }
+    ensures own_keys { HaveOwnKeys parts.new.items }
+    ensures stored { IfOk result (λ added. StorePairs (pair ∷ []) added
+        parts.old.items parts.new.items) }
+    ensures kept { OnErr result
+        (HoldSame parts.old.items parts.new.items) }
+{
+    let StagedPair {
+        loader,
+        key,
+        outcome,
+    } = pair;
+    let part = &mut parts[loader];
+    part.reserve(1)?;
+    if put(part, key, outcome) {
+        Ok(1)
+    } else {
+        Ok(0)
+    }
 }

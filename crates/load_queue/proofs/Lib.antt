@@ -1,4 +1,5 @@
 pub mod MarkLaws
 pub mod PieceLaws
 pub mod ReplyLaws
+pub mod SeenLaws
 pub mod WantLaws

@@ -1,29 +1,11 @@
--- A set of cache keys beside the list of keys, in the same order.
+-- What is wanted of loaders, by the loader's number.
 use Rattle.std.proofs.Common.{◌≡◌, ℕ, zero, suc, ◌<◌, Bool, true, false, List, [], ◌∷◌, ◌++◌, map, length, get_or, refl, ap, ◌∙◌, sym, arith}
 use Rattle.std.proofs.Common.{◌≤◌}
 use Rattle.std.proofs.lemmas.List.{length-map}
 use Rattle.std.specs.Prelude.{slice_set}
-use Rattle.std.specs.List.{list_any}
-use Rattle.load_memory.specs.Keys.{KeyOf, key_of, cache_of, folded, same_key}
-use Rattle.load_memory.specs.declared.key.CacheKey.{CacheKey}
-use Rattle.load_memory.specs.declared.key.Key.{Key}
+use Rattle.load_memory.specs.Keys.{KeyOf}
 use Rattle.load_memory.specs.declared.key.KeyMode.{KeyMode}
-use Rattle.load_memory.specs.contracts.key.CacheKeyPartialEq.TheImpl as cache_eq
-use Rattle.load_memory.proofs.LoaderMemoryLaws.{cache-eq}
-use Rattle.load_queue.specs.Wanted.{WantedOf, nothing_wanted, wanted_in, is_wanted, with_key, keys_wanted, is_key_wanted, with_wanted, taken_from}
-
-any-map : {A B : Type 0} (f : A → Bool) (g : B → Bool) (h : A → B) → ((x : A) → f x ≡ g (h x)) → (xs : List A) → list_any f xs ≡ list_any g (map h xs)
-any-map f g h same [] = refl
-any-map f g h same (x ∷ xs) = rw (same x, any-map f g h same xs) refl
-
--- the set has a cache key where a key with an equal cache key is in the list
-pub seen-wanted : (mode : KeyMode) (seen : List CacheKey) (keys : List Key) (cached : CacheKey) (key : Key) → map cache_of seen ≡ map (folded mode) (map key_of keys) → cache_of cached ≡ folded mode (key_of key)
-    → list_any ((cache_eq.eq-value).it cached) seen ≡ is_wanted (record { mode = mode; keys = map key_of keys }) (key_of key)
-seen-wanted mode seen keys cached key lined is =
-    let test : KeyOf → Bool = same_key (folded mode (key_of key)) in
-    any-map ((cache_eq.eq-value).it cached) test cache_of (λ x. cache-eq cached x ∙ ap (λ k. same_key k (cache_of x)) is) seen
-    ∙ ap (list_any test) lined
-    ∙ sym (any-map (λ (k : KeyOf). test (folded mode k)) test (folded mode) (λ x. refl) (map key_of keys))
+use Rattle.load_queue.specs.Wanted.{WantedOf, nothing_wanted, wanted_in, is_wanted, with_key, mode_wanted, keys_wanted, is_key_wanted, with_wanted, taken_from}
 
 pub with-new : (w : WantedOf) (key : KeyOf) → is_wanted w key ≡ false → with_key w key ≡ record { mode = w.mode; keys = w.keys ++ key ∷ [] }
 with-new w key e = rw e refl
@@ -32,6 +14,11 @@ pub with-old : (w : WantedOf) (key : KeyOf) → is_wanted w key ≡ true → wit
 with-old w key e = rw e refl
 
 -- one loader's part
+pub mode-at : (ws : List WantedOf) (i : ℕ) (w : WantedOf) → i < length ws → w ≡ get_or ws i w → mode_wanted ws i ≡ w.mode
+mode-at [] i w lt e = absurd (omega arith)
+mode-at (x ∷ ws) zero w lt e = ap (λ (v : WantedOf). v.mode) (sym e)
+mode-at (x ∷ ws) (suc i) w lt e = mode-at ws i w (omega arith) e
+
 pub keys-at : (ws : List WantedOf) (i : ℕ) (w : WantedOf) → i < length ws → w ≡ get_or ws i w → keys_wanted ws i ≡ w.keys
 keys-at [] i w lt e = absurd (omega arith)
 keys-at (x ∷ ws) zero w lt e = ap (λ (v : WantedOf). v.keys) (sym e)
@@ -86,7 +73,18 @@ none-taken [] i = refl
 none-taken (m ∷ modes) zero = refl
 none-taken (m ∷ modes) (suc i) = ap (λ vs. nothing_wanted m ∷ vs) (none-taken modes i)
 
+pub none-mode : (modes : List KeyMode) (i : ℕ) (m : KeyMode) → i < length modes → m ≡ get_or modes i m → mode_wanted (map nothing_wanted modes) i ≡ m
+none-mode [] i m lt e = absurd (omega arith)
+none-mode (x ∷ modes) zero m lt e = sym e
+none-mode (x ∷ modes) (suc i) m lt e = none-mode modes i m (omega arith) e
+
 -- past the lists nothing is wanted
+pub past-mode : (ws : List WantedOf) (modes : List KeyMode) (i : ℕ) (m : KeyMode) → length ws ≤ i → i < length modes → m ≡ get_or modes i m → mode_wanted (wanted_in ws modes) i ≡ m
+past-mode [] modes i m le lt e = none-mode modes i m lt e
+past-mode (w ∷ ws) [] i m le lt e = absurd (omega arith)
+past-mode (w ∷ ws) (x ∷ modes) zero m le lt e = absurd (omega arith)
+past-mode (w ∷ ws) (x ∷ modes) (suc i) m le lt e = past-mode ws modes i m (omega arith) (omega arith) e
+
 pub past-keys : (ws : List WantedOf) (modes : List KeyMode) (i : ℕ) → length ws ≤ i → keys_wanted (wanted_in ws modes) i ≡ []
 past-keys [] modes i le = none-keys modes i
 past-keys (w ∷ ws) [] i le = refl
@@ -100,6 +98,12 @@ past-taken (w ∷ ws) (m ∷ modes) zero le = absurd (omega arith)
 past-taken (w ∷ ws) (m ∷ modes) (suc i) le = ap (λ vs. w ∷ vs) (past-taken ws modes i (omega arith))
 
 -- a loader with a list
+pub mode-in : (ws : List WantedOf) (modes : List KeyMode) (i : ℕ) → i < length ws → i < length modes → mode_wanted (wanted_in ws modes) i ≡ mode_wanted ws i
+mode-in [] modes i lt inside = absurd (omega arith)
+mode-in (w ∷ ws) [] i lt inside = absurd (omega arith)
+mode-in (w ∷ ws) (m ∷ modes) zero lt inside = refl
+mode-in (w ∷ ws) (m ∷ modes) (suc i) lt inside = mode-in ws modes i (omega arith) (omega arith)
+
 pub keys-in : (ws : List WantedOf) (modes : List KeyMode) (i : ℕ) → i < length ws → i < length modes → keys_wanted (wanted_in ws modes) i ≡ keys_wanted ws i
 keys-in [] modes i lt inside = absurd (omega arith)
 keys-in (w ∷ ws) [] i lt inside = absurd (omega arith)

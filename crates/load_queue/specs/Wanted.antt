@@ -1,8 +1,10 @@
 -- The keys that are wanted of each loader: in order, of equal cache keys only the first.
-use Rattle.std.specs.Prelude.{◌≡◌, ◌⊎◌, map, length, ℕ, zero, suc, Bool, false, List, [], ◌∷◌, ◌++◌, if◌then◌else◌}
+use Rattle.std.specs.Prelude.{◌≡◌, ◌≤◌, map, length, take, ℕ, zero, suc, Bool, false, List, [], ◌∷◌, ◌++◌, if◌then◌else◌}
 use Rattle.std.specs.List.{list_any}
-use Rattle.load_memory.specs.Keys.{KeyOf, folded, same_key}
+use Rattle.load_memory.specs.Keys.{KeyOf, cache_of, folded, same_key}
 use Rattle.load_memory.specs.declared.key.KeyMode.{KeyMode}
+use Rattle.load_memory.specs.declared.key.KeyMode.TheVariants.{Exact}
+use Rattle.load_queue.specs.declared.wants.SeenKeys.{SeenKeys}
 
 -- says what is wanted of one loader, whose keys are compared by its mode
 pub record WantedOf : Type 0 where
@@ -12,9 +14,11 @@ pub record WantedOf : Type 0 where
 abbrev pub nothing_wanted : KeyMode → WantedOf
 nothing_wanted mode = record { mode = mode; keys = [] }
 
--- the cache keys that were seen are those of the keys, or none was seen and there is one key
-abbrev pub HaveSeen : KeyMode → List KeyOf → List KeyOf → Type 0
-HaveSeen mode seen keys = (seen ≡ map (folded mode) keys) ⊎ ((seen ≡ []) × (length keys ≡ 1))
+-- of the first keys, as many as were counted, the cache keys were seen, and no others
+pub record HaveSeen (mode : KeyMode) (seen : SeenKeys) (keys : List KeyOf) : Type 0 where
+  pub within : seen.count ≤ length keys
+  pub same : (key : KeyOf) → list_any (same_key key) (map cache_of seen.cache_keys.keys)
+      ≡ list_any (same_key key) (map (folded mode) (take seen.count keys))
 
 -- tells whether a key with an equal cache key is wanted
 abbrev pub is_wanted : WantedOf → KeyOf → Bool
@@ -28,6 +32,12 @@ abbrev pub wanted_in : List WantedOf → List KeyMode → List WantedOf
 wanted_in [] modes = map nothing_wanted modes
 wanted_in (w ∷ ws) [] = []
 wanted_in (w ∷ ws) (m ∷ modes) = w ∷ wanted_in ws modes
+
+-- gives how the loader of a number compares its keys
+abbrev pub mode_wanted : List WantedOf → ℕ → KeyMode
+mode_wanted [] loader = Exact
+mode_wanted (w ∷ ws) zero = w.mode
+mode_wanted (w ∷ ws) (suc loader) = mode_wanted ws loader
 
 -- gives the same of all loaders, by the loader's number
 abbrev pub keys_wanted : List WantedOf → ℕ → List KeyOf

@@ -1,5 +1,5 @@
 //! The pieces of a loader's keys, as orders and as entries of its log.
-ghost use Rattle.std.specs.Prelude.{◌≡◌, ◌<◌, ℕ, Some, IfOk, map, length};
+ghost use Rattle.std.specs.Prelude.{◌≡◌, ◌<◌, ◌++◌, ℕ, Some, IfOk, OnOk, OnErr, map, length, take};
 ghost use Rattle.load_memory.specs.Keys.{key_of};
 ghost use Rattle.load_queue.specs.Batches.{pieces, batches};
 ghost use Rattle.load_queue.specs.Orders.{order_of};
@@ -47,24 +47,37 @@ pub(crate) fn cut_orders(
     Ok(orders)
 }
 
-/// An entry of the log for each order, whose keys it shares.
-pub(crate) fn log_entries(
-    alloc: Global,
-    round: u32,
-    orders: &[Order],
-) -> Result<Vec<LogEntry>, AllocError>
-    ensures { IfOk result (λ entries. map asked_of entries.items
-        ≡ map (entered round) (map (λ o. o.keys) orders.now)) }
+/// Enters each order in a log as asked in this round. The entries share the orders' keys. When out of memory, the log is
+/// as it was.
+pub(crate) fn enter(log: &mut Vec<LogEntry>, round: u32, orders: &[Order]) -> Result<(), AllocError>
+    ensures entered { OnOk result (map asked_of log.new.items ≡ map asked_of log.old.items
+        ++ map (entered round) (map (λ o. o.keys) orders.now)) }
+    ensures kept { OnErr result (log.new.items ≡ log.old.items) }
 {
-    let mut entries = Vec::with_capacity(alloc, orders.len())?;
+    let earlier = log.len();
+    let added = add_entries(log, round, orders);
+    if added.is_err() {
+        log.truncate(earlier);
+    }
+    added
+}
+
+// Adds an entry for each order. When out of memory, it has added some of them.
+fn add_entries(log: &mut Vec<LogEntry>, round: u32, orders: &[Order]) -> Result<(), AllocError>
+    ensures entered { OnOk result (map asked_of log.new.items ≡ map asked_of log.old.items
+        ++ map (entered round) (map (λ o. o.keys) orders.now)) }
+    ensures earlier { take (length log.old.items) log.new.items
+        ≡ log.old.items }
+{
+    log.reserve(orders.len())?;
     for order in orders {
-        entries.push(LogEntry {
+        log.push(LogEntry {
             round,
             keys: order.shared_keys()?,
             stored: false,
         })?;
     }
-    Ok(entries)
+    Ok(())
 }
 
 /// Returns the same keys once more.

@@ -6,7 +6,7 @@ ghost use Rattle.load_queue.specs.Loaders.{AskedOf, IsOnRecord, marked};
 ghost use Rattle.load_queue.specs.Logs.{asked_of};
 ghost use Rattle.load_queue.specs.Orders.{orders_of};
 
-use crate::cut::{copy_of, cut_orders, log_entries, piece_length};
+use crate::cut::{copy_of, cut_orders, enter, piece_length};
 use crate::order::Order;
 use load_memory::{Key, KeyMode, Keys};
 use std::alloc::{AllocError, Global};
@@ -182,13 +182,12 @@ impl<S> Loader<S> {
         let alloc = *self.log.allocator();
         let most = piece_length(self.limit, &keys);
         let orders = cut_orders(alloc, loader, keys, most)?;
-        let mut entries = log_entries(alloc, round, &orders)?;
         let count = self
             .orders
-            .checked_add(entries.len() as u64)
+            .checked_add(orders.len() as u64)
             .ok_or(AllocError)?;
         let earlier = self.log.len();
-        self.log.append(&mut entries)?;
+        enter(&mut self.log, round, &orders)?;
         self.orders = count;
         if self.latest < round {
             self.latest = round;

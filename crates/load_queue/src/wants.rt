@@ -1,7 +1,7 @@
 //! The keys that are wanted of each loader, in order, of equal cache keys only the first.
-ghost use Rattle.std.specs.Prelude.{◌≡◌, ◌<◌, [], IfOk, OnOk, OnErr, length, map, not};
-ghost use Rattle.load_memory.specs.Keys.{key_of, cache_of, folded};
-ghost use Rattle.load_queue.specs.Wanted.{nothing_wanted, wanted_in, HaveSeen, is_wanted, with_key, keys_wanted, is_key_wanted, with_wanted, taken_from};
+ghost use Rattle.std.specs.Prelude.{◌≡◌, ◌<◌, [], IfOk, OnOk, OnErr, length, map, not, false};
+ghost use Rattle.load_memory.specs.Keys.{key_of};
+ghost use Rattle.load_queue.specs.Wanted.{nothing_wanted, wanted_in, HaveSeen, is_wanted, with_key, mode_wanted, keys_wanted, is_key_wanted, with_wanted, taken_from};
 
 use indexmap::IndexSet;
 use load_memory::{CacheKey, Key, KeyMode, Memory, cache_key};
@@ -9,44 +9,49 @@ use std::alloc::{AllocError, Global};
 use std::marker::Model;
 use std::mem;
 
+/// Holds the cache keys of the first keys that are wanted of a loader, and how many keys these are.
+#[derive(Drop)]
+struct SeenKeys {
+    cache_keys: IndexSet<CacheKey>,
+    count: usize,
+}
+
 /// Holds what is wanted of one loader.
 #[derive(Drop)]
 struct WantedKeys {
     mode: KeyMode,
     keys: Vec<Key>,
-    // the keys' cache keys, in the same order; none of a first key that is the only one so far
-    seen: IndexSet<CacheKey>,
+    // Keys that were known to be new aren't seen before it has to be told whether another one is.
+    seen: SeenKeys,
 }
 
 impl Model for WantedKeys {
     ghost use Rattle.std.specs.Prelude.{map};
-    ghost use Rattle.load_memory.specs.Keys.{key_of, cache_of};
+    ghost use Rattle.load_memory.specs.Keys.{key_of};
     ghost use Rattle.load_queue.specs.Wanted.{WantedOf, HaveSeen};
 
     ghost Value = { WantedOf };
 
     ghost view = { λ w. record { mode = w.mode; keys = map key_of w.keys.items } };
 
-    ghost invariant = { λ w. HaveSeen w.mode (map cache_of w.seen.keys) (map key_of w.keys.items) };
+    ghost invariant = { λ w. HaveSeen w.mode w.seen (map key_of w.keys.items) };
 }
 
-// Sees the first key, if it is the only one and wasn't seen.
-fn see_first(
+// Sees the keys that weren't seen.
+fn see_rest(
     alloc: Global,
     mode: KeyMode,
     keys: &[Key],
-    seen: &mut IndexSet<CacheKey>,
+    seen: &mut SeenKeys,
 ) -> Result<(), AllocError>
-    requires some { 0 < length keys.now }
-    requires seen { HaveSeen mode
-        (map cache_of seen.old.keys) (map key_of keys.now) }
-    ensures all { OnOk result
-        (map cache_of seen.new.keys ≡ map (folded mode) (map key_of keys.now)) }
-    ensures kept { OnErr result (HaveSeen mode (map cache_of seen.new.keys) (map key_of keys.now)) }
+    requires { HaveSeen mode seen.old (map key_of keys.now) }
+    ensures all { OnOk result (seen.new.count ≡ length keys.now) }
+    ensures seen { HaveSeen mode seen.new (map key_of keys.now) }
 {
-    if seen.is_empty() {
-        let first = cache_key(alloc, &keys[0], mode)?;
-        seen.insert(first)?;
+    for number in seen.count..keys.len() {
+        let cached = cache_key(alloc, &keys[number], mode)?;
+        seen.cache_keys.insert(cached)?;
+        seen.count = number + 1;
     }
     Ok(())
 }
@@ -58,8 +63,17 @@ impl WantedKeys {
         WantedKeys {
             mode,
             keys: Vec::new(alloc),
-            seen: IndexSet::new(alloc),
+            seen: SeenKeys {
+                cache_keys: IndexSet::new(alloc),
+                count: 0,
+            },
         }
+    }
+
+    fn mode(&self) -> KeyMode
+        ensures { result ≡ self.now.mode }
+    {
+        self.mode
     }
 
     fn keys(&self) -> &[Key]
@@ -93,22 +107,35 @@ impl WantedKeys {
             return Ok(true);
         }
         let alloc = *self.keys.allocator();
-        see_first(alloc, self.mode, &self.keys, &mut self.seen)?;
+        see_rest(alloc, self.mode, &self.keys, &mut self.seen)?;
         let cached = cache_key(alloc, &key, self.mode)?;
         self.keys.reserve(1)?;
-        let added = self.seen.insert(cached)?;
+        let added = self.seen.cache_keys.insert(cached)?;
         if !added {
             return Ok(false);
         }
         self.keys.push(key)?;
+        self.seen.count = self.keys.len();
         Ok(true)
+    }
+
+    // Adds a key of which no equal cache key is wanted.
+    fn add_new(&mut self, key: Key) -> Result<(), AllocError>
+        requires { is_wanted self.old (key_of key)
+            ≡ false }
+        ensures after { OnOk result
+            (self.new ≡ with_key self.old (key_of key)) }
+        ensures kept { OnErr result (self.new ≡ self.old) }
+    {
+        self.keys.push(key)?;
+        Ok(())
     }
 }
 
 /// The keys that are wanted of each loader. A contract sees for each loader its mode and its keys.
 ///
-/// The keys stand in a list, since callers read them as a slice, and their cache keys in an ordered set beside
-/// it. Room is made before a key is looked up, so to add a key that is there may be out of memory too. Only the
+/// The keys stand in a list, since callers read them as a slice, and the cache keys of the first ones in a set
+/// beside it. Room is made before a key is looked up, so to add a key that is there may be out of memory too. Only the
 /// loaders up to the last one that something asks have a list.
 #[derive(Drop)]
 pub struct Wants {
@@ -177,6 +204,17 @@ impl Wants {
         self.modes.extend_from_slice(memory.modes())
     }
 
+    /// Returns how a loader compares its keys.
+    pub fn mode(&self, loader: usize) -> KeyMode
+        requires { loader < length self.now }
+        ensures { result ≡ mode_wanted self.now loader }
+    {
+        if loader < self.lists.len() {
+            return self.lists[loader].mode();
+        }
+        self.modes[loader]
+    }
+
     /// The keys that are wanted of a loader, in the order in which they were added.
     pub fn keys(&self, loader: usize) -> &[Key]
         requires { loader < length self.now }
@@ -221,5 +259,25 @@ impl Wants {
     {
         reach(&self.modes, &mut self.lists, loader)?;
         self.lists[loader].add(key)
+    }
+
+    /// Adds a key as [add](Wants::add) does, where no equal cache key is wanted of the loader. It isn't hashed before another
+    /// one is added by `add`.
+    ///
+    /// # Errors
+    ///
+    /// When out of memory, the wants are equal to what they were (`kept`).
+    pub fn add_new(&mut self, loader: usize, key: Key) -> Result<(), AllocError>
+        requires inside { loader < length self.old }
+        requires new { is_key_wanted self.old loader
+            (key_of key) ≡ false }
+        ensures after { OnOk result (self.new
+            ≡ with_wanted self.old loader (key_of key)) }
+        ensures loaders { length self.new
+            ≡ length self.old }
+        ensures kept { OnErr result (self.new ≡ self.old) }
+    {
+        reach(&self.modes, &mut self.lists, loader)?;
+        self.lists[loader].add_new(key)
     }
 }

@@ -2,15 +2,16 @@
 //!
 //! A round counts as soon as it has an order. A lost round keeps its number, and the batches that it entered
 //! are those of the first loaders.
-ghost use Rattle.std.specs.Prelude.{◌≡◌, ◌<◌, ◌+◌, ℕ, All, map, length, IfOk, OnOk, OnErr};
+ghost use Rattle.std.specs.Prelude.{◌≡◌, ◌<◌, ◌+◌, ◌++◌, ℕ, All, map, length, IfOk, OnOk, OnErr};
+ghost use Rattle.load_memory.specs.Pairs.{IsSameMap};
 ghost use Rattle.load_memory.specs.Replies.{reply_of};
 ghost use Rattle.load_queue.specs.Loaders.{stored_in};
 ghost use Rattle.load_queue.specs.Wanted.{keys_wanted};
 ghost use Rattle.load_queue.specs.Orders.{OrderOf};
 ghost use Rattle.execution.specs.Rounds.{rule_of, may_at, AreReplies};
-ghost use Rattle.load_rounds.specs.Rounds.{orders_by, first_keys, Enters};
+ghost use Rattle.load_rounds.specs.Rounds.{orders_by, first_keys, Enters, KeepsReplies};
 
-use load_memory::Reply;
+use load_memory::{Memory, Reply};
 use load_queue::{Loader, LocalSource, Order, Wants};
 use std::alloc::{AllocError, Global};
 
@@ -40,13 +41,27 @@ pub(crate) fn cut_all<S>(
             continue;
         }
         let keys = wants.take_keys(loader);
-        let mut more = loaders[loader].cut_owned(loader, round, keys)?;
+        let more = loaders[loader].cut_owned(loader, round, keys)?;
         if !more.is_empty() {
             *rounds = round;
         }
-        orders.append(&mut more)?;
+        orders = appended(orders, more)?;
     }
     Ok(orders)
+}
+
+// Orders with more after them. The first list needs no room but its own.
+fn appended(orders: Vec<Order>, more: Vec<Order>) -> Result<Vec<Order>, AllocError>
+    ensures { IfOk result (λ all. all.items
+        ≡ orders.items ++ more.items) }
+{
+    if orders.is_empty() {
+        return Ok(more);
+    }
+    let mut all = orders;
+    let mut more = more;
+    all.append(&mut more)?;
+    Ok(all)
 }
 
 /// Runs orders one after another.
@@ -65,6 +80,36 @@ pub(crate) fn run_all<S: LocalSource>(
         replies.push(order.run(alloc, loaders)?)?;
     }
     Ok(replies)
+}
+
+/// Runs orders one after another, and adds what came of them to a memory. What comes of one order alone takes no list. When
+/// out of memory, nothing is added.
+pub(crate) fn run_and_keep<S: LocalSource>(
+    alloc: Global,
+    loaders: &[Loader<S>],
+    orders: Vec<Order>,
+    memory: &mut Memory,
+) -> Result<(), AllocError>
+    requires loaders { All (λ (o : OrderOf).
+        o.loader < length loaders.now) orders.items }
+    requires modes { length loaders.now
+        ≡ length memory.old.modes }
+    ensures kept { OnOk result (KeepsReplies (may_at S.may_tell loaders.now)
+        orders.items memory.old memory.new) }
+    ensures modes { memory.new.modes ≡ memory.old.modes }
+    ensures lost { OnErr result
+        (IsSameMap memory.new.pairs memory.old.pairs) }
+{
+    if orders.len() == 1 {
+        let mut orders = orders;
+        let Some(order) = orders.pop() else {
+            unreachable!();
+        };
+        let reply = order.run(alloc, loaders)?;
+        return memory.keep_reply(reply);
+    }
+    let replies = run_all(alloc, orders, loaders)?;
+    memory.keep_owned(replies)
 }
 
 /// Marks the entries of a round as stored.

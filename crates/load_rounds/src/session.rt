@@ -16,7 +16,7 @@ ghost use Rattle.load_rounds.specs.Rounds.{AreWanted};
 use crate::fault::SessionFault;
 use crate::load::NextLoad;
 use crate::restart::{forget_all, restart_all};
-use crate::round::{cut_all, mark_all, run_all};
+use crate::round::{cut_all, mark_all, run_all, run_and_keep};
 use load_memory::{Item, Key, Memory, Outcome, Receipt, Reply, Shelf, cache_key};
 use load_queue::{Loader, LocalSource, LogEntry, Order, Wants};
 use std::alloc::{AllocError, Global};
@@ -361,8 +361,8 @@ impl<S: LocalSource> Session<S> {
         let mut wants = wants;
         let orders = cut_all(&mut self.loaders, &mut self.rounds, round, &mut wants)?;
         self.spare = wants;
-        let replies = run_all(*self.loaders.allocator(), orders, &self.loaders)?;
-        self.memory.keep_owned(replies)?;
+        let alloc = *self.loaders.allocator();
+        run_and_keep(alloc, &self.loaders, orders, &mut self.memory)?;
         mark_all(&mut self.loaders, round);
         Ok(())
     }

@@ -2,7 +2,9 @@ pub mod Chosen
 pub mod Groups
 pub mod Arguments
 pub mod Texts
+pub mod Fields
 pub mod Seen
+pub mod ObjectTypes
 pub mod Finding
 pub mod Collecting
 pub mod Steps

@@ -22,7 +22,7 @@ use Rattle.plan_program.specs.declared.prepared.PreparedField.{PreparedField}
 use Rattle.gq_check.specs.Plans.{PlanOf}
 use Rattle.plan_program.specs.Arguments.{ValueOf, coerced_arguments}
 use Rattle.plan_program.specs.Groups.{FieldOf}
-use Rattle.plan_program.specs.Seen.{fields_seen}
+use Rattle.plan_program.specs.Fields.{fields_seen}
 use Rattle.plan_program.specs.FieldValues.{PartFrom, fixed_part, column_part, KeyFrom, fixed, of_column, of_pair, ChildrenOf, ValueFrom, with_key, known, cell, first_row, all_rows, each_row, joined_rows, PreparedOf, position_of, bound_asked, with_arguments, children_of}
 
 abbrev pub leaf_value_seen : rust-leaf_value.LeafValue → LeafValue
@@ -46,7 +46,7 @@ children_seen b = record {
   type_name = b.type_name.now;
   item_non_null = b.item_non_null;
   place = b.place;
-  fields = fields_seen b.fields.items;
+  fields = fields_seen b.fields;
 }
 
 abbrev pub keys_seen : List (Option Key) → List (Option KeyOf)

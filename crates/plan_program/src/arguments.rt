@@ -19,13 +19,14 @@ use crate::group::Group;
 use gq_check::Plan;
 use gq_parser::{Argument, Literal, TypeRef, Value};
 use gq_schema::{ArgDef, Input, coerce, list_of_one};
+use short_list::ShortList;
 use std::alloc::{AllocError, AllocFailed, Global};
 use thiserror::Error;
 
-/// The arguments of a field that have a value, by name, in the order of their definitions.
-#[derive(Debug, Drop)]
-pub struct Args {
-    pub pairs: Vec<(String, Input)>,
+/// The arguments of a field that have a value, by name, in the order of their definitions, whose names they borrow.
+#[derive(Drop)]
+pub struct Args<'p> {
+    pub pairs: ShortList<(&'p str, Input)>,
 }
 
 /// Reason why a field has no arguments.
@@ -303,26 +304,26 @@ fn argument_value(
 }
 
 /// The coerced arguments of a field, by what is given to it and by the arguments of its definition.
-pub(crate) fn coerced_arguments(
+pub(crate) fn coerced_arguments<'p>(
     alloc: Global,
     plan: &Plan,
     given: &[Argument],
-    arguments: &[ArgDef],
-) -> Result<Args, ArgFault>
+    arguments: &'p [ArgDef],
+) -> Result<Args<'p>, ArgFault>
     ensures ok { IfOk result (λ a. coerced_arguments (plan_of plan.now)
         (arguments_seen given.now) (arguments_defined arguments.now) ≡ all_values (values_of a)) }
     ensures fault { IfErr result (λ fault. Refuses fault (coerced_arguments
         (plan_of plan.now) (arguments_seen given.now) (arguments_defined arguments.now))) }
 {
     let mut args = Args {
-        pairs: Vec::new(alloc),
+        pairs: ShortList::new(),
     };
     for argument in arguments {
         match argument_value(alloc, plan, argument, given)? {
             CoercedArgument::Absent => {}
             CoercedArgument::Present(input) => {
-                let name = argument.name.text.clone()?;
-                args.pairs.push((name, input))?;
+                args.pairs
+                    .push(alloc, (argument.name.text.as_str(), input))?;
             }
             CoercedArgument::Refused => {
                 return Err(ArgFault::NullArgument(argument.name.text.clone()?));
@@ -339,21 +340,21 @@ pub(crate) fn coerced_arguments(
 ///
 /// `NullArgument` with the first argument, in order of definition, that has no value, or null, at a non-null type.
 /// `NoMemory` only when out of memory.
-pub fn arguments_of(
+pub fn arguments_of<'p>(
     alloc: Global,
-    plan: &Plan,
+    plan: &'p Plan,
     ty: &str,
     group: &Group<'_>,
-) -> Result<Args, ArgFault>
+) -> Result<Args<'p>, ArgFault>
     ensures ok { IfOk result (λ args.
         arguments_of (plan_of plan.now) ty.now (group_of group.now) ≡ all_values (values_of args)) }
     ensures fault { IfErr result (λ fault.
         Refuses fault (arguments_of (plan_of plan.now) ty.now (group_of group.now))) }
 {
     let none = Args {
-        pairs: Vec::new(alloc),
+        pairs: ShortList::new(),
     };
-    let Some(field) = group.fields.first() else {
+    let Some(field) = group.fields.as_slice().first() else {
         return Ok(none);
     };
     let Some(definition) = plan.schema().field(ty, field.name.as_str()) else {

@@ -7,6 +7,7 @@ use crate::finding::{note_key, place_of};
 use crate::group::Group;
 use gq_parser::Field;
 use indexmap::IndexSet;
+use short_list::ShortList;
 use std::alloc::{AllocError, Global};
 
 /// Groups, each found by its key, and the fragments that were entered.
@@ -23,7 +24,8 @@ pub struct CollectedFields<'p> {
 impl<'p> CollectedFields<'p> {
     ghost use Rattle.std.specs.Prelude.{◌≡◌, not, OnOk, IfOk};
     ghost use Rattle.plan_program.specs.Groups.{with_chosen, with_entered_if, nothing_collected, has_entered};
-    ghost use Rattle.plan_program.specs.Seen.{field_seen, groups_of};
+    ghost use Rattle.plan_program.specs.Fields.{field_seen};
+    ghost use Rattle.plan_program.specs.Seen.{groups_of};
     ghost use Rattle.plan_program.specs.Collecting.{collected_of};
 
     pub fn new(alloc: Global) -> CollectedFields<'p>
@@ -50,11 +52,10 @@ impl<'p> CollectedFields<'p> {
         let key = key_of(field);
         match place_of(&self.groups, &self.table, key) {
             Some(place) => {
-                self.groups[place].fields.push(field)?;
+                self.groups[place].fields.push(alloc, field)?;
             }
             None => {
-                let mut fields = Vec::with_capacity(alloc, 1)?;
-                fields.push(field)?;
+                let fields = ShortList::one(field);
                 self.groups.reserve(1)?;
                 note_key(&self.groups, &mut self.table, key)?;
                 self.groups.push(Group { key, fields })?;

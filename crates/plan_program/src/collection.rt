@@ -5,7 +5,8 @@ ghost use Rattle.gq_parser.specs.Tree.{map_selections, selection_of};
 ghost use Rattle.gq_check.specs.Plans.{plan_of};
 ghost use Rattle.plan_program.specs.Groups as groups;
 ghost use Rattle.plan_program.specs.Groups.{collect_one, collect_from, entering, collect, collect_subfields, nothing_collected};
-ghost use Rattle.plan_program.specs.Seen.{groups_of, selected_by, fields_seen};
+ghost use Rattle.plan_program.specs.Fields.{selected_by, fields_seen};
+ghost use Rattle.plan_program.specs.Seen.{groups_of};
 ghost use Rattle.plan_program.specs.Collecting.{collected_of, collect_rest_if, Collects, CollectsFirst};
 ghost use Rattle.plan_program.specs.Steps.{steps_inside, steps_one, steps_if, TakesStep};
 

@@ -2,7 +2,7 @@
 //! bindings (sections 6.3 and 6.4.1 of the GraphQL specification of October 2021).
 //!
 //! `specs/PlanPrograms.antt` gives each plan its program in the words of `execution`. The layer above executes it, and may
-//! rely on this: [`collect`], [`arguments_of`] and [`prepare_groups`] give exactly the parts of that definition.
+//! rely on this: [`collect`], [`arguments_of`] and [`prepare_group`] give exactly the parts of that definition.
 #![tactic(auto)]
 
 mod arguments;
@@ -12,6 +12,7 @@ mod collection;
 mod fields;
 mod finding;
 mod group;
+mod object_type;
 mod preparation;
 mod prepared;
 mod texts;
@@ -19,6 +20,7 @@ mod texts;
 pub use arguments::{ArgFault, Args, arguments_of};
 pub use collection::{collect, collect_subfields};
 pub use group::Group;
-pub use preparation::prepare_groups;
+pub use object_type::ObjectType;
+pub use preparation::prepare_group;
 pub use prepared::{Children, KeyFrom, KeyPartFrom, LeafValue, PreparedField, ValueFrom};
 pub use texts::{bad_value_message, no_column_message, no_type_message, not_type_message};

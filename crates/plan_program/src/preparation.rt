@@ -1,6 +1,6 @@
 //! Preparation of groups: all that is the same for each row.
 
-ghost use Rattle.std.specs.Prelude.{◌≡◌, IfOk, Some, false, map};
+ghost use Rattle.std.specs.Prelude.{◌≡◌, IfOk, Some, false, map, bytes_eq, codes};
 ghost use Rattle.std.specs.Option.{option_map, option_copied};
 ghost use Rattle.gq_parser.specs.Tree.{type_of};
 ghost use Rattle.gq_parser.specs.Types.{is_non_null};
@@ -9,13 +9,17 @@ ghost use Rattle.gq_schema.specs.Inputs.{input_of, inputs_of};
 ghost use Rattle.gq_bindings.specs.Seen.{part_of, key_of as source_of, step_of, binding_of};
 ghost use Rattle.load_memory.specs.Keys.{key_of};
 ghost use Rattle.gq_check.specs.Plans.{plan_of};
-ghost use Rattle.plan_program.specs.FieldValues.{item_type, text_of_input, key_of_input, input_named, key_if, part_from, key_from, keys_of, have_loaders, IsLoadedBy, first_row, all_rows, each_asked, joined_rows, children_of, position_of, known, prepared, all_prepared};
+ghost use Rattle.plan_program.specs.FieldValues.{item_type, text_of_input, key_of_input, input_named, key_if, part_from, key_from, keys_of, have_loaders, IsLoadedBy, first_row, all_rows, each_asked, joined_rows, children_of, position_of, known, prepared};
 ghost use Rattle.execution.specs.Program.{Null};
-ghost use Rattle.plan_program.specs.Seen.{field_seen, fields_seen, group_of, groups_of, values_of};
-ghost use Rattle.plan_program.specs.Prepared.{bound_by, by_key, part_from_seen, key_from_seen, keys_seen, children_seen, value_from_seen, defined_by, prepared_seen, all_prepared_seen};
+ghost use Rattle.plan_program.specs.Fields.{field_seen, fields_seen};
+ghost use Rattle.plan_program.specs.Seen.{group_of, values_of};
+ghost use Rattle.plan_program.specs.ObjectTypes.{name_in, IsOf};
+ghost use Rattle.plan_program.specs.Prepared.{bound_by, by_key, part_from_seen, key_from_seen, keys_seen, children_seen, value_from_seen, defined_by, prepared_seen};
 
 use crate::arguments::{ArgFault, Args, coerced_arguments};
+use crate::fields::place_of;
 use crate::group::Group;
+use crate::object_type::{ObjectType, definition_of};
 use crate::prepared::{Children, KeyFrom, KeyPartFrom, LeafValue, PreparedField, ValueFrom};
 use crate::texts::null_argument_message;
 use gq_bindings::{Binding, KeyOrigin, KeyPart, ViaLoader};
@@ -24,6 +28,7 @@ use gq_lexer::Place;
 use gq_parser::{Field, TypeRef};
 use gq_schema::{FieldDef, Input};
 use load_memory::{Key, Text};
+use short_list::ShortList;
 use std::alloc::{AllocError, Global};
 use std::sync::Arc;
 
@@ -53,12 +58,12 @@ fn key_of_input(alloc: Global, input: &Input) -> Result<Option<Key>, AllocError>
 }
 
 // The value of the argument of this name.
-fn input_named<'a>(args: &'a Args, name: &str) -> Option<&'a Input>
+fn input_named<'a>(args: &'a Args<'_>, name: &str) -> Option<&'a Input>
     ensures { option_map input_of (option_copied result)
         ≡ input_named name.now (values_of args.now) }
 {
-    for (own_name, input) in &args.pairs {
-        if own_name.as_str() == name {
+    for (own_name, input) in args.pairs.as_slice() {
+        if *own_name == name {
             return Some(input);
         }
     }
@@ -67,7 +72,7 @@ fn input_named<'a>(args: &'a Args, name: &str) -> Option<&'a Input>
 
 fn key_of_argument<'p>(
     alloc: Global,
-    args: &Args,
+    args: &Args<'_>,
     name: &str,
 ) -> Result<Option<KeyFrom<'p>>, AllocError>
     ensures { IfOk result (λ key.
@@ -85,7 +90,7 @@ fn key_of_argument<'p>(
 // Returns where a part of a key of two parts comes from.
 fn part_from<'p>(
     alloc: Global,
-    args: &Args,
+    args: &Args<'_>,
     source: &'p KeyPart,
 ) -> Result<KeyPartFrom<'p>, AllocError>
     ensures { IfOk result (λ part.
@@ -103,7 +108,7 @@ fn part_from<'p>(
 // Returns where a key comes from; nothing where it is null.
 fn key_from<'p>(
     alloc: Global,
-    args: &Args,
+    args: &Args<'_>,
     source: &'p KeyOrigin,
 ) -> Result<Option<KeyFrom<'p>>, AllocError>
     ensures { IfOk result (λ key.
@@ -233,7 +238,7 @@ fn have_loaders(steps: &[ViaLoader], loaders: usize) -> bool
 fn key_of_load<'p>(
     alloc: Global,
     plan: &Plan,
-    args: &Args,
+    args: &Args<'_>,
     loader: usize,
     source: &'p KeyOrigin,
 ) -> Result<Option<KeyFrom<'p>>, AllocError>
@@ -253,7 +258,7 @@ fn prepare_bound<'p>(
     plan: &Plan,
     ty: &'p TypeRef,
     children: Children<'p>,
-    args: &Args,
+    args: &Args<'_>,
     binding: &'p Binding,
 ) -> Result<ValueFrom<'p>, AllocError>
     ensures { IfOk result (λ a. value_from_seen a ≡ bound_by (plan_of plan.now)
@@ -300,9 +305,9 @@ fn is_item_non_null(ty: &TypeRef) -> bool
     }
 }
 
-fn children_of<'p>(ty: &'p TypeRef, place: Place, fields: Vec<&'p Field>) -> Children<'p>
+fn children_of<'p>(ty: &'p TypeRef, place: Place, fields: ShortList<&'p Field>) -> Children<'p>
     ensures { children_seen result
-        ≡ children_of (type_of ty.now) place (fields_seen fields.entry.items) }
+        ≡ children_of (type_of ty.now) place (fields_seen fields.entry) }
 {
     Children {
         type_name: ty.innermost_name(),
@@ -319,10 +324,10 @@ fn prepare_defined<'p>(
     ty: &str,
     definition: &'p FieldDef,
     first: &'p Field,
-    fields: Vec<&'p Field>,
+    fields: ShortList<&'p Field>,
 ) -> Result<ValueFrom<'p>, AllocError>
     ensures { IfOk result (λ a. value_from_seen a ≡ defined_by (plan_of plan.now) ty.now
-        (field_seen first.now) (fields_seen fields.entry.items) (field_of definition.now)) }
+        (field_seen first.now) (fields_seen fields.entry) (field_of definition.now)) }
 {
     let args = match coerced_arguments(alloc, plan, &first.arguments, &definition.arguments) {
         Ok(args) => args,
@@ -352,58 +357,51 @@ fn null_at<'p>(key: &'p str, place: Place) -> PreparedField<'p>
     }
 }
 
-fn prepare_one<'p>(
-    alloc: Global,
-    plan: &'p Plan,
-    ty: &str,
-    group: Group<'p>,
-) -> Result<PreparedField<'p>, AllocError>
-    ensures { IfOk result (λ done.
-        prepared_seen done ≡ prepared (plan_of plan.now) ty.now (group_of group.entry)) }
+// Tells whether a field is the name of its object's type (section 4.4).
+fn is_type_name(field: &Field) -> bool
+    ensures { result ≡ bytes_eq (field_seen field.now).name (codes "__typename") }
 {
-    let key = group.key;
-    let Some(first) = group.fields.first() else {
-        return Ok(null_at(key, Place { line: 1, column: 1 }));
-    };
-    let first: &'p Field = *first;
-    if first.name.as_str() == "__typename" {
-        let name = String::from_str(alloc, ty)?;
-        return Ok(PreparedField {
-            key,
-            place: first.place,
-            non_null: true,
-            asked: ValueFrom::Known(LeafValue::Text(name)),
-        });
-    }
-    let Some(definition) = plan.schema().field(ty, first.name.as_str()) else {
-        return Ok(null_at(key, first.place));
-    };
-    let asked = prepare_defined(alloc, plan, ty, definition, first, group.fields)?;
-    Ok(PreparedField {
-        key,
-        place: first.place,
-        non_null: definition.of_type.is_non_null(),
-        asked,
-    })
+    field.name.as_str() == "__typename"
 }
 
-/// Returns what each of the groups of an object type asks for.
+/// Returns what a group of an object type asks for.
 ///
 /// # Errors
 ///
 /// Only when out of memory.
-pub fn prepare_groups<'p>(
+pub fn prepare_group<'p>(
     alloc: Global,
     plan: &'p Plan,
-    ty: &str,
-    groups: Vec<Group<'p>>,
-) -> Result<Vec<PreparedField<'p>>, AllocError>
-    ensures { IfOk result (λ all. all_prepared_seen all.items
-        ≡ all_prepared (plan_of plan.now) ty.now (groups_of groups.entry.items)) }
+    ty: &ObjectType<'p, '_>,
+    group: Group<'p>,
+) -> Result<PreparedField<'p>, AllocError>
+    requires { IsOf (plan_of plan.now) ty.now }
+    ensures { IfOk result (λ done. prepared_seen done
+        ≡ prepared (plan_of plan.now) (name_in ty.now) (group_of group.entry)) }
 {
-    let mut all = Vec::with_capacity(alloc, groups.len())?;
-    for group in groups {
-        all.push(prepare_one(alloc, plan, ty, group)?)?;
+    let key = group.key;
+    let Some(first) = group.fields.as_slice().first() else {
+        return Ok(null_at(key, Place { line: 1, column: 1 }));
+    };
+    let first: &'p Field = *first;
+    let place = place_of(first);
+    if is_type_name(first) {
+        let name = String::from_str(alloc, ty.name())?;
+        return Ok(PreparedField {
+            key,
+            place,
+            non_null: true,
+            asked: ValueFrom::Known(LeafValue::Text(name)),
+        });
     }
-    Ok(all)
+    let Some(definition) = definition_of(plan, ty, first) else {
+        return Ok(null_at(key, place));
+    };
+    let asked = prepare_defined(alloc, plan, ty.name(), definition, first, group.fields)?;
+    Ok(PreparedField {
+        key,
+        place,
+        non_null: definition.of_type.is_non_null(),
+        asked,
+    })
 }

@@ -4,6 +4,7 @@ use gq_bindings::ViaLoader;
 use gq_lexer::Place;
 use gq_parser::{Field, TypeRef};
 use load_memory::{Key, Text};
+use short_list::ShortList;
 use std::sync::Arc;
 
 /// The own value of a position with nothing below it.
@@ -47,7 +48,7 @@ pub struct Children<'p> {
     /// Place of errors of the items: that of the first field of the group.
     pub place: Place,
     /// The fields of the group, which select of the object.
-    pub fields: Vec<&'p Field>,
+    pub fields: ShortList<&'p Field>,
 }
 
 /// Origin of a group's value.

@@ -1,6 +1,6 @@
 //! Documents of requests, kept by their texts.
 
-ghost use Rattle.std.specs.Prelude.{◌≡◌, ◌≤◌, ℕ, List, [], Option, None, IfOk, IfErr, IsTrue, OnOk, OnErr, length, string_bytes};
+ghost use Rattle.std.specs.Prelude.{◌≡◌, ◌≤◌, ℕ, List, [], Option, None, IfOk, IfErr, OnOk, OnErr, length, string_bytes};
 ghost use Rattle.std.specs.HashMap.{get_by_text};
 ghost use Rattle.std.specs.List.{Contains};
 ghost use Rattle.serde_json.specs.Data.{Data};
@@ -137,13 +137,6 @@ impl DocumentCache {
         ensures bounded { AreBounded self.now.texts }
     {
         &self.server
-    }
-
-    /// Tells whether the document of a query is kept.
-    pub fn contains(&self, query: &str) -> bool
-        ensures { IsTrue result → Contains self.now.texts query.now }
-    {
-        self.documents.contains_key(query)
     }
 
     /// Keeps the document of a query, unless it is kept already or longer than any that is kept.

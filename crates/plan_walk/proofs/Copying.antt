@@ -23,7 +23,7 @@ pub record IsShapeCopy (s c : TypePositions) : Type 0 where
 pub record IsCopy (g c : LoadingField) : Type 0 where
   pub does : c.then ≡ g.then
   pub children : arc_value c.children ≡ arc_value g.children
-  pub shapes : AllZip IsShapeCopy g.shapes.items c.shapes.items
+  pub shapes : AllZip IsShapeCopy g.shapes c.shapes
 
 pub copies-by : {X : Type 0} {R Q : X → X → Type 0} → ((x y : X) → R x y → Q x y) → (xs ys : List X) → AllZip R xs ys → AllZip Q xs ys
 copies-by f [] [] h = tt
@@ -64,8 +64,8 @@ copies-grow plan gs cs h =
           let c : LoadingField = get_or cs k d in
           let same : IsCopy g c = AllZip-get_or IsCopy gs cs k d d h within in
           λ j e here.
-          let there : j < length g.shapes.items = omega (arith, here, AllZip-long IsShapeCopy g.shapes.items c.shapes.items same.shapes) in
-          shape-copied plan cs (children_in g.children) (children_in c.children) (get_or g.shapes.items j e) (get_or c.shapes.items j e) (ap children_seen same.children)
-          (AllZip-get_or IsShapeCopy g.shapes.items c.shapes.items j e e same.shapes there)
-          (shape-more plan gs cs (children_in g.children) (get_or g.shapes.items j e) le covers (are k d within j e there));
+          let there : j < length g.shapes = omega (arith, here, AllZip-long IsShapeCopy g.shapes c.shapes same.shapes) in
+          shape-copied plan cs (children_in g.children) (children_in c.children) (get_or g.shapes j e) (get_or c.shapes j e) (ap children_seen same.children)
+          (AllZip-get_or IsShapeCopy g.shapes c.shapes j e e same.shapes there)
+          (shape-more plan gs cs (children_in g.children) (get_or g.shapes j e) le covers (are k d within j e there));
     }

@@ -1,6 +1,6 @@
 -- Groups that are more and more, and shapes that are kept.
 use Rattle.std.specs.Arc.{arc_value}
-use Rattle.std.proofs.Common.{◌≡◌, ℕ, zero, suc, ◌<◌, ◌≤◌, ◌+◌, true, List, [], ◌∷◌, ◌++◌, take, length, get_or, set, refl, sym, ap, subst, ◌∙◌, arith, length-append, length-set, Some, None}
+use Rattle.std.proofs.Common.{◌≡◌, ℕ, zero, suc, ◌<◌, ◌≤◌, ◌+◌, true, List, [], ◌∷◌, ◌++◌, take, length, map, get_or, set, refl, sym, ap, subst, ◌∙◌, arith, length-append, length-set, Some, None}
 use Rattle.std.specs.List.{All, slice_get}
 use Rattle.std.specs.Option.{option_map_or}
 use Rattle.std.proofs.lemmas.Option.{slice_get-get_or, slice_get_within, get_or_from_slice_get}
@@ -10,13 +10,14 @@ use Rattle.schema_syntax.specs.Tree.{Definition}
 use Rattle.load_memory.specs.Rows.{RowOf}
 use Rattle.execution.specs.Program.{Program, Programs, End, With}
 use Rattle.gq_check.specs.Plans.{PlanOf}
-use Rattle.plan_program.specs.FieldValues.{ChildrenOf, ValueFrom, PreparedOf}
-use Rattle.plan_program.specs.Prepared.{key_from_seen, value_from_seen, prepared_seen, all_prepared_seen}
+use Rattle.plan_program.specs.FieldValues.{ChildrenOf, ValueFrom, PreparedOf, prepared, all_prepared}
+use Rattle.plan_program.specs.Prepared.{key_from_seen}
+use Rattle.plan_program.specs.Seen.{group_of, groups_of}
+use Rattle.plan_program.specs.declared.group.Group.{Group}
 use Rattle.plan_program.specs.PlanPrograms.{fields_of, read_from, asked_program, object_program}
 use Rattle.plan_program.specs.declared.prepared.KeyFrom.{KeyFrom}
-use Rattle.plan_program.specs.declared.prepared.PreparedField.{PreparedField}
 use Rattle.plan_walk.specs.Puts.{OnwardOf, View}
-use Rattle.plan_walk.specs.Groups.{children_in, nowhere, children_at, then_at, then_rows, next_rows, after_at, Covers, type_prepared, IsAsked, asks_seen, members_seen, Makes, IsShape, IsRight, AreRight, Grows, IsNew, IsAsking, AreMade, AreKept, IsOnly, IsShaped, view_of}
+use Rattle.plan_walk.specs.Groups.{children_in, nowhere, children_at, then_at, then_rows, next_rows, after_at, Covers, type_prepared, IsAsked, asks_seen, members_seen, Makes, IsShape, IsRight, AreRight, Grows, IsNew, IsAsking, AreMade, AreMadeOf, AreKept, IsOnly, IsShaped, view_of}
 use Rattle.plan_walk.specs.Positions.{position_seen}
 use Rattle.plan_walk.specs.declared.loading_fields.FieldResolver.{FieldResolver}
 use Rattle.plan_walk.specs.declared.loading_fields.FieldResolver.TheVariants as asks
@@ -88,7 +89,7 @@ shape-more plan old new children s le covers made = record {
 }
 
 right-one : (plan : PlanOf) (old new : List LoadingField) (g : LoadingField) → length old ≤ length new → ((v : View) → Covers plan new v → Covers plan old v) → IsRight plan old g → IsRight plan new g
-right-one plan old new g le covers h = λ j s within. shape-more plan old new (children_in g.children) (get_or g.shapes.items j s) le covers (h j s within)
+right-one plan old new g le covers h = λ j s within. shape-more plan old new (children_in g.children) (get_or g.shapes j s) le covers (h j s within)
 
 right-more : (plan : PlanOf) (old new more : List LoadingField) → length old ≤ length new → ((v : View) → Covers plan new v → Covers plan old v) → All (IsRight plan old) more → All (IsRight plan new) more
 right-more plan old new more le covers h = λ k d lt. right-one plan old new (get_or more k d) le covers (h k d lt)
@@ -96,7 +97,7 @@ right-more plan old new more le covers h = λ k d lt. right-one plan old new (ge
 -- ---- a group more
 
 abbrev IsBare : LoadingField → Type 0
-IsBare g = length g.shapes.items ≡ 0
+IsBare g = length g.shapes ≡ 0
 
 bare-right : (plan : PlanOf) (gs : List LoadingField) (g : LoadingField) → IsBare g → IsRight plan gs g
 bare-right plan gs g bare = λ k d lt. absurd (omega (arith, bare, lt))
@@ -132,7 +133,7 @@ children-there gs i g e = ap (λ o. option_map_or (λ (x : LoadingField). childr
 right-there : (plan : PlanOf) (gs : List LoadingField) (i : ℕ) (g : LoadingField) → slice_get gs i ≡ Some g → AreRight plan gs → IsRight plan gs g
 right-there plan gs i g e h = subst (IsRight plan gs) (get_or_from_slice_get gs i g g e) (h i g (slice_get_within gs i g e))
 
-pub kept-there : (gs : List LoadingField) (i k : ℕ) (g : LoadingField) (s : TypePositions) (ty : List ℕ) → i < length gs → g ≡ get_or gs i g → k < length g.shapes.items → s ≡ get_or g.shapes.items k s → s.ty ≡ ty → AreKept gs i ty (arc_value s.members).items
+pub kept-there : (gs : List LoadingField) (i k : ℕ) (g : LoadingField) (s : TypePositions) (ty : List ℕ) → i < length gs → g ≡ get_or gs i g → k < length g.shapes → s ≡ get_or g.shapes k s → s.ty ≡ ty → AreKept gs i ty (arc_value s.members).items
 kept-there gs i k g s ty within same lt is name = λ plan h.
     let there : slice_get gs i ≡ Some g = slice_get-get_or gs i g within ∙ ap Some (sym same) in
     let here : IsShape plan gs (children_in g.children) s = subst (IsShape plan gs (children_in g.children)) (sym is) (right-there plan gs i g there h k s lt) in
@@ -149,7 +150,7 @@ seen-set f d (x ∷ xs) zero (suc j) e y h = refl
 seen-set f d (x ∷ xs) (suc i) zero e y h = refl
 seen-set f d (x ∷ xs) (suc i) (suc j) e y h = seen-set f d xs i j e y h
 
-pub grows-kept : (plan : PlanOf) (gs : List LoadingField) (i : ℕ) (g new : LoadingField) (s : TypePositions) → i < length gs → g ≡ get_or gs i g → new.then ≡ g.then → new.children ≡ g.children → new.shapes.items ≡ g.shapes.items ++ s ∷ []
+pub grows-kept : (plan : PlanOf) (gs : List LoadingField) (i : ℕ) (g new : LoadingField) (s : TypePositions) → i < length gs → g ≡ get_or gs i g → new.then ≡ g.then → new.children ≡ g.children → new.shapes ≡ g.shapes ++ s ∷ []
     → IsShape plan gs (children_at gs i) s → Grows plan gs (set gs i new)
 grows-kept plan gs i g new s lt is does stands more here =
     let all : List LoadingField = set gs i new in
@@ -166,8 +167,8 @@ grows-kept plan gs i g new s lt is does stands more here =
       right = λ h.
           let old : IsRight plan all g = right-one plan gs all g le covers (right-there plan gs i g there h) in
           let shape : IsShape plan all (children_in g.children) s = shape-more plan gs all (children_in g.children) s le covers (subst (λ (b : ChildrenOf). IsShape plan gs b s) (children-there gs i g there) here) in
-          let both : All (IsShape plan all (children_in g.children)) new.shapes.items = subst (All (IsShape plan all (children_in g.children))) (sym more) (All-push (IsShape plan all (children_in g.children)) g.shapes.items s old shape) in
-          All-set (IsRight plan all) gs i new (subst (λ (b : ChildrenOf). All (IsShape plan all b) new.shapes.items) (sym (ap children_in stands)) both) (right-more plan gs all gs le covers h);
+          let both : All (IsShape plan all (children_in g.children)) new.shapes = subst (All (IsShape plan all (children_in g.children))) (sym more) (All-push (IsShape plan all (children_in g.children)) g.shapes s old shape) in
+          All-set (IsRight plan all) gs i new (subst (λ (b : ChildrenOf). All (IsShape plan all b) new.shapes) (sym (ap children_in stands)) both) (right-more plan gs all gs le covers h);
     }
 
 -- ---- what groups ask for
@@ -189,23 +190,31 @@ pub front-then : {X : Type 0} (a b c : List X) → length a ≤ length b → tak
 front-then a b c le f g = sym (take-take (length a) (length b) c le) ∙ ap (take (length a)) g ∙ f
 
 -- one member more
-pub made-more : (old mid new : List LoadingField) (ps : List PreparedField) (p : PreparedField) (ms : List Member) (m : Member) → AreMade old mid (all_prepared_seen ps) ms → IsAsking mid new (value_from_seen p.asked) m.asks → position_seen m.position ≡ (prepared_seen p).position
-    → AreMade old new (all_prepared_seen (ps ++ p ∷ [])) (ms ++ m ∷ [])
+pub made-more : (old mid new : List LoadingField) (ps : List PreparedOf) (p : PreparedOf) (ms : List Member) (m : Member) → AreMade old mid ps ms → IsAsking mid new p.asked m.asks → position_seen m.position ≡ p.position
+    → AreMade old new (ps ++ p ∷ []) (ms ++ m ∷ [])
 made-more old mid new ps p ms m h a same = record {
   grows = λ plan. grows-then plan old mid new (h.grows plan) (a.grows plan);
   front = front-then old mid new (omega (arith, length-take (length old) mid, ap length h.front)) h.front a.front;
-  makes = λ plan. let made : Makes plan new ms (all_prepared_seen ps) = makes-more plan mid new ms (all_prepared_seen ps) (a.grows plan) (h.makes plan) in record {
+  makes = λ plan. let made : Makes plan new ms ps = makes-more plan mid new ms ps (a.grows plan) (h.makes plan) in record {
     known = All-push (λ (x : Member). IsAsked (length new) x.asks) ms m made.known a.known;
     members = λ v c levels row.
         let f : ValueFrom → Program = asked_program plan.definitions (object_program plan levels) row in
         members-append plan.definitions v levels row ms (m ∷ [])
         ∙ ap (λ qs. chained qs (With (position_seen m.position) (asks_seen plan.definitions v levels row m.asks) End)) (made.members v c levels row)
-        ∙ ap (λ q. chained (fields_of f (all_prepared_seen ps)) (With (position_seen m.position) q End)) (a.same plan v c levels row)
-        ∙ ap (λ position. chained (fields_of f (all_prepared_seen ps)) (With position (f (value_from_seen p.asked)) End)) same
-        ∙ sym (fields-append f (all_prepared_seen ps) (prepared_seen p ∷ []))
-        ∙ ap (fields_of f) (sym (map-append prepared_seen ps (p ∷ [])));
+        ∙ ap (λ q. chained (fields_of f ps) (With (position_seen m.position) q End)) (a.same plan v c levels row)
+        ∙ ap (λ position. chained (fields_of f ps) (With position (f p.asked) End)) same
+        ∙ sym (fields-append f ps (p ∷ []));
   };
 }
+
+-- one collected group more
+pub made-of-more : (plan : PlanOf) (ty : List ℕ) (old mid new : List LoadingField) (gs : List Group) (g : Group) (p : PreparedOf) (ms : List Member) (m : Member) → AreMadeOf plan ty (groups_of gs) old mid ms → p ≡ prepared plan ty (group_of g) → IsAsking mid new p.asked m.asks
+    → position_seen m.position ≡ p.position → AreMadeOf plan ty (groups_of (gs ++ g ∷ [])) old new (ms ++ m ∷ [])
+made-of-more plan ty old mid new gs g p ms m h is a same =
+    let f = prepared plan ty in
+    let more : all_prepared plan ty (groups_of (gs ++ g ∷ [])) ≡ all_prepared plan ty (groups_of gs) ++ p ∷ [] =
+    ap (map f) (map-append group_of gs (g ∷ [])) ∙ (map-append f (groups_of gs) (group_of g ∷ []) ∙ ap (λ (q : PreparedOf). all_prepared plan ty (groups_of gs) ++ q ∷ []) (sym is)) in
+    subst (λ (qs : List PreparedOf). AreMade old new qs (ms ++ m ∷ [])) (sym more) (made-more old mid new (all_prepared plan ty (groups_of gs)) p ms m h a same)
 
 pub made-none : (gs : List LoadingField) → AreMade gs gs [] []
 made-none gs = record { grows = λ plan. grows-self plan gs; front = take_all (length gs) gs (omega arith); makes = λ plan. record { known = λ k d lt. absurd (omega (arith, lt)); members = λ v c levels row. refl } }

@@ -3,7 +3,7 @@ use Rattle.std.proofs.Common.{◌≡◌, Bool, true, false, ◌&&◌, ◌==◌, 
 use Rattle.std.specs.Prelude.{MatchOption, option_copied}
 use Rattle.std.specs.Bool.{MatchBool}
 use Rattle.std.specs.Borrow.{Bor}
-use Rattle.std.specs.List.{list_any, slice_get}
+use Rattle.std.specs.List.{list_any, slice_get, AllByRecursion, IsDistinct}
 use Rattle.std.specs.Option.{option_eq, option_to_list}
 use Rattle.std.specs.Map.Iter.{TakesFirst}
 use Rattle.std.specs.Iterator.{YieldsFirstBy}
@@ -11,6 +11,7 @@ use Rattle.std.specs.Iterator.Adapters.{once_item, once_steps, chain_first, chai
 use Rattle.std.specs.declared.iter.Chain.{Chain}
 use Rattle.std.specs.declared.iter.Once.{Once}
 use Rattle.std.proofs.lemmas.Bool.{or_left, or_right}
+use Rattle.std.proofs.lemmas.Map.Keys.{IsDistinct-cons, IsDistinct-head, IsDistinct-tail}
 use Rattle.indexmap.specs.IndexSet.{insert_key}
 use Rattle.load_memory.specs.Keys.{key_of}
 use Rattle.load_memory.proofs.LoaderMemoryLaws.{key-eq}
@@ -33,6 +34,23 @@ any-eq b (x ∷ xs) = ap (λ (e : Bool). e || list_any (equal b) xs) (position-e
 
 pub inserted : (b : BlockedPosition) (bs : List BlockedPosition) → insert_key equal bs b ≡ with_position bs b
 inserted b bs = ap (λ (there : Bool). if there then bs else bs ++ b ∷ []) (any-eq b bs)
+
+-- ---- positions of which no two are the same
+
+pub none-apart : IsDistinct is_position []
+unfolding IsDistinct
+none-apart = tt
+
+pub one-apart : (b : BlockedPosition) → IsDistinct is_position (b ∷ [])
+one-apart b = IsDistinct-cons is_position b [] tt none-apart
+
+others-apart : (b : BlockedPosition) (bs : List BlockedPosition) → AllByRecursion (λ x. equal b x ≡ false) bs → AllByRecursion (λ x. is_position b x ≡ false) bs
+others-apart b [] h = tt
+others-apart b (x ∷ xs) h = (sym (position-eq b x) ∙ h.0, others-apart b xs h.1)
+
+pub all-apart : (bs : List BlockedPosition) → IsDistinct equal bs → IsDistinct is_position bs
+all-apart [] h = none-apart
+all-apart (b ∷ bs) h = IsDistinct-cons is_position b bs (others-apart b bs (IsDistinct-head equal b bs h)) (all-apart bs (IsDistinct-tail equal b bs h))
 
 -- ---- a position that stands there
 

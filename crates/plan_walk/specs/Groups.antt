@@ -13,10 +13,12 @@ use Rattle.gq_bindings.specs.Seen.{step_of}
 use Rattle.load_memory.specs.Rows.{RowOf, cell_of}
 use Rattle.execution.specs.Program.{Program, Is, Under, Programs, End, With, ListOf}
 use Rattle.gq_check.specs.Plans.{PlanOf}
-use Rattle.plan_program.specs.Groups.{nothing_collected, collect_subfields}
+use Rattle.plan_program.specs.Groups.{GroupOf, nothing_collected, collect_subfields}
 use Rattle.plan_program.specs.FieldValues.{ChildrenOf, ValueFrom, PreparedOf, all_prepared}
 use Rattle.plan_program.specs.Prepared.{leaf_value_seen, key_from_seen, keys_seen, children_seen}
 use Rattle.plan_program.specs.PlanPrograms.{cell_value, places, fields_of, read_from, read_if, first_object, all_objects, first_of, joined_object, joined_objects, asked_program, object_program}
+use Rattle.plan_program.specs.ObjectTypes.{name_in, is_found, IsOf}
+use Rattle.plan_program.specs.declared.object_type.ObjectType.{ObjectType}
 use Rattle.plan_program.specs.declared.prepared.Children.{Children}
 use Rattle.plan_walk.specs.Steps.{last_steps}
 use Rattle.plan_walk.specs.Puts.{OnwardOf, View}
@@ -90,7 +92,7 @@ pub record Covers (plan : PlanOf) (gs : List LoadingField) (v : View) : Type 0 w
 abbrev pub asks_seen : List Definition → View → ℕ → RowOf → FieldResolver → Program
 asks_seen defs v levels row (asks.Known leaf_value) = Is (leaf_value_seen leaf_value)
 asks_seen defs v levels row (asks.Cell column ty) =
-    Is (cell_value defs column.now (type_of ty.now) (cell_of row column.now))
+    Is (cell_value defs column.now (type_of ty) (cell_of row column.now))
 asks_seen defs v levels row (asks.Load loader key group) = read_from loader (key_from_seen key) row
     (v.after (record { group = group; later = None; levels = levels }))
 asks_seen defs v levels row (asks.Each loader keys items group) =
@@ -136,6 +138,11 @@ pub record IsOnly (defs : List Definition) (children : ChildrenOf) (ty : List �
   pub object : is_object_type defs children.type_name ≡ true
   pub same : ty ≡ children.type_name
 
+-- an object type below a group is of the plan; where it was found, each object there has it
+pub record IsBelow (plan : PlanOf) (children : ChildrenOf) (ty : ObjectType) : Type 0 where
+  pub within : IsOf plan ty
+  pub only : is_found ty ≡ true → IsOnly plan.definitions children (name_in ty)
+
 pub record IsShape (plan : PlanOf) (gs : List LoadingField) (children : ChildrenOf)
     (s : TypePositions) : Type 0 where
   pub makes : Makes plan gs (arc_value s.members).items
@@ -143,7 +150,7 @@ pub record IsShape (plan : PlanOf) (gs : List LoadingField) (children : Children
   pub only : s.only ≡ true → IsOnly plan.definitions children s.ty
 
 abbrev pub IsRight : PlanOf → List LoadingField → LoadingField → Type 0
-IsRight plan gs g = All (IsShape plan gs (children_in g.children)) g.shapes.items
+IsRight plan gs g = All (IsShape plan gs (children_in g.children)) g.shapes
 
 -- each shape of a group is what the plan asks of its objects
 abbrev pub AreRight : PlanOf → List LoadingField → Type 0
@@ -187,6 +194,11 @@ pub record AreMade (old new : List LoadingField) (ps : List PreparedOf)
   pub grows : (plan : PlanOf) → Grows plan old new
   pub front : take (length old) new ≡ old
   pub makes : (plan : PlanOf) → Makes plan new ms ps
+
+-- the members are made of what these groups of an object type ask for
+abbrev pub AreMadeOf : PlanOf → List ℕ → List GroupOf
+    → List LoadingField → List LoadingField → List Member → Type 0
+AreMadeOf plan ty gs old new ms = AreMade old new (all_prepared plan ty gs) ms
 
 -- says what the plan asks of an object of this type below a group was prepared, with the groups that it needs
 abbrev pub Meets : PlanOf → ChildrenOf → List ℕ

@@ -1,6 +1,7 @@
 pub mod Reading
 pub mod Cells
 pub mod Keys
+pub mod LeafTypes
 pub mod Steps
 pub mod Puts
 pub mod Positions

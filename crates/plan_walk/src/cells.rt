@@ -3,16 +3,16 @@
 ghost use Rattle.std.specs.Prelude.{◌≡◌, IfOk, option_map};
 ghost use Rattle.std.specs.Str.{all_ascii_digits};
 ghost use Rattle.gq_parser.specs.Tree.{type_of};
-ghost use Rattle.gq_schema.specs.Types.{tree_of};
+ghost use Rattle.gq_schema.specs.Types.{tree_of, has_value};
 ghost use Rattle.gq_bindings.specs.Types.{is_object_type};
 ghost use Rattle.gq_schema.specs.Coercion.{int_of};
 ghost use Rattle.load_memory.specs.Rows.{cell_of};
 ghost use Rattle.plan_program.specs.Texts.{is_int_text, is_unsigned_text};
-ghost use Rattle.plan_program.specs.PlanPrograms.{boolean_of, int_leaf, named_leaf, leaf_of, cell_value, type_of_row};
+ghost use Rattle.plan_program.specs.PlanPrograms.{boolean_of, int_leaf, text_if, leaf_of, cell_value, type_of_row};
 ghost use Rattle.plan_program.specs.Prepared.{leaf_value_seen};
 ghost use Rattle.plan_walk.specs.Cells.{value_seen, type_seen};
 
-use gq_parser::TypeRef;
+use crate::leaf_type::{LeafKind, LeafType};
 use gq_schema::{Schema, TypeKind};
 use load_memory::{Cell, Row};
 use plan_program::{
@@ -92,31 +92,28 @@ fn boolean_leaf<'t>(text: &str) -> Option<CellValue<'t>>
     None
 }
 
-// Returns what a text is at the type of this name.
-fn named_leaf<'t>(schema: &Schema, name: &str, text: &'t str) -> Option<CellValue<'t>>
-    ensures { option_map value_seen result ≡ named_leaf
-        (tree_of schema.now) name.now text.now }
+// Returns what a text is at the type of this name, if it is one of its values.
+fn enum_leaf<'t>(schema: &Schema, name: &str, text: &'t str) -> Option<CellValue<'t>>
+    ensures { option_map value_seen result
+        ≡ text_if (has_value (tree_of schema.now) name.now text.now) text.now }
 {
-    if name == "Int" {
-        return int_leaf(text);
-    }
-    if name == "Boolean" {
-        return boolean_leaf(text);
-    }
-    if name == "String" || name == "ID" || schema.has_value(name, text) {
+    if schema.has_value(name, text) {
         return Some(CellValue::Text(text));
     }
     None
 }
 
 /// Returns what a text is at a type, if it is right there (section 3.5, Result Coercion).
-pub fn leaf_of<'t>(schema: &Schema, ty: &TypeRef, text: &'t str) -> Option<CellValue<'t>>
+pub fn leaf_of<'t>(schema: &Schema, ty: &LeafType<'_>, text: &'t str) -> Option<CellValue<'t>>
     ensures { option_map value_seen result
         ≡ leaf_of (tree_of schema.now) (type_of ty.now) text.now }
 {
-    match ty {
-        TypeRef::Named { name, .. } => named_leaf(schema, name.as_str(), text),
-        TypeRef::List { .. } => None,
+    match ty.kind() {
+        LeafKind::Int => int_leaf(text),
+        LeafKind::Boolean => boolean_leaf(text),
+        LeafKind::Text => Some(CellValue::Text(text)),
+        LeafKind::Other => enum_leaf(schema, ty.name(), text),
+        LeafKind::List => None,
     }
 }
 
@@ -125,7 +122,7 @@ pub fn cell_value(
     alloc: Global,
     schema: &Schema,
     column: &str,
-    ty: &TypeRef,
+    ty: &LeafType<'_>,
     row: &Row,
 ) -> Result<LeafValue, AllocError>
     ensures { IfOk result (λ leaf_value. leaf_value_seen leaf_value ≡ cell_value

@@ -10,8 +10,8 @@
 pub mod cells;
 mod following;
 mod keys;
+pub mod leaf_type;
 pub mod loading_fields;
-mod places;
 pub mod positions;
 pub mod reading;
 pub mod sink;

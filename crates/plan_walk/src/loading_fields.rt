@@ -1,31 +1,32 @@
 //! Groups, which are the same for all rows: what a plan asks of the objects below each load, prepared once.
 
-ghost use Rattle.std.specs.Prelude.{◌≡◌, ◌<◌, ◌≤◌, IfOk, IfSome, IsTrue, OnOk, map};
+ghost use Rattle.std.specs.Prelude.{◌≡◌, ◌<◌, ◌≤◌, IfOk, IfSome, OnOk, map};
 ghost use Rattle.std.specs.Arc.{arc_value};
-ghost use Rattle.gq_schema.specs.Types.{tree_of};
 ghost use Rattle.gq_bindings.specs.Seen.{step_of};
 ghost use Rattle.gq_check.specs.Plans.{PlanOf, plan_of};
 ghost use Rattle.plan_program.specs.FieldValues.{each_row};
-ghost use Rattle.plan_program.specs.Prepared.{keys_seen, value_from_seen, prepared_seen, all_prepared_seen, children_seen};
+ghost use Rattle.plan_program.specs.Prepared.{keys_seen, value_from_seen, prepared_seen, children_seen};
+ghost use Rattle.plan_program.specs.ObjectTypes.{name_in, IsOf};
+ghost use Rattle.plan_program.specs.Seen.{groups_of};
 ghost use Rattle.plan_walk.specs.Positions.{is_non_null, position_seen};
-ghost use Rattle.plan_walk.specs.Groups.{children_in, children_at, then_at, steps_in, GrowsByShape, IsNew, IsAsking, AreMade, Meets, AreKept, IsOnly, AreOnly, IsShaped, Grows};
+ghost use Rattle.plan_walk.specs.Groups.{children_in, children_at, then_at, steps_in, GrowsByShape, IsNew, IsAsking, AreMadeOf, Meets, AreKept, IsBelow, AreOnly, IsShaped, Grows};
 
-use crate::cells::is_object_type;
+use crate::leaf_type::LeafType;
 use crate::positions::{FieldPosition, Items, Nullability, Onward};
 use crate::walk::Walk;
 use gq_bindings::ViaLoader;
+use gq_check::Plan;
 use gq_lexer::Place;
-use gq_parser::{Field, Selection, TypeRef};
-use gq_schema::Schema;
+use gq_parser::{Field, Selection};
+use gq_schema::TypeKind;
 use load_memory::{Key, Text};
 use plan_program::{
-    Children, KeyFrom, LeafValue, PreparedField, ValueFrom, collect_subfields, prepare_groups,
+    Children, Group, KeyFrom, LeafValue, ObjectType, PreparedField, ValueFrom, collect_subfields,
+    prepare_group,
 };
+use short_list::ShortList;
 use std::alloc::{AllocError, Global};
 use std::sync::Arc;
-
-/// Says of how many groups, and of how many members, what stands below is prepared ahead.
-const MOST_PREPARED: usize = 256;
 
 /// Says what is done with the rows of a load.
 #[derive(Clone, Copy, Drop)]
@@ -46,7 +47,7 @@ pub enum FieldResolver<'p> {
     /// A column's field, at a type.
     Cell {
         column: &'p str,
-        ty: &'p TypeRef,
+        ty: LeafType<'p>,
     },
     /// The rows of a key.
     Load {
@@ -85,7 +86,7 @@ pub struct TypePositions<'p> {
 pub struct LoadingField<'p> {
     pub then: RowUse<'p>,
     pub children: Arc<Children<'p>>,
-    pub shapes: Vec<TypePositions<'p>>,
+    pub shapes: ShortList<TypePositions<'p>>,
 }
 
 /// Returns what is done with the rows of a group's load.
@@ -165,11 +166,10 @@ fn new_loading_field<'p>(
         (IsNew groups.old.items groups.new.items then.entry (children_in children.entry)) }
 {
     let number = groups.len();
-    let shapes = Vec::new(*groups.allocator());
     groups.push(LoadingField {
         then,
         children,
-        shapes,
+        shapes: ShortList::new(),
     })?;
     Ok(number)
 }
@@ -204,7 +204,10 @@ fn asks_of<'p>(
 {
     match asked {
         ValueFrom::Known(leaf_value) => Ok(FieldResolver::Known(leaf_value)),
-        ValueFrom::Cell { column, ty } => Ok(FieldResolver::Cell { column, ty }),
+        ValueFrom::Cell { column, ty } => Ok(FieldResolver::Cell {
+            column,
+            ty: LeafType::new(ty),
+        }),
         ValueFrom::First {
             loader,
             key,
@@ -255,17 +258,20 @@ fn position_of<'p>(prepared: &PreparedField<'p>) -> FieldPosition<'p>
     }
 }
 
-/// The members that these groups make.
+/// The members that collected groups of an object type make. The groups that they need of those that load come behind `groups`.
 pub fn members_of<'p>(
-    alloc: Global,
+    walk: &Walk<'_, 'p>,
     groups: &mut Vec<LoadingField<'p>>,
-    all: Vec<PreparedField<'p>>,
+    ty: &ObjectType<'p, '_>,
+    collected: Vec<Group<'p>>,
 ) -> Result<Vec<Member<'p>>, AllocError>
-    ensures { IfOk result (λ members. AreMade groups.old.items
-        groups.new.items (all_prepared_seen all.entry.items) members.items) }
+    requires { IsOf (plan_of walk.now.plan.now) ty.now }
+    ensures { IfOk result (λ members. AreMadeOf (plan_of walk.now.plan.now) (name_in ty.now)
+        (groups_of collected.entry.items) groups.old.items groups.new.items members.items) }
 {
-    let mut members = Vec::with_capacity(alloc, all.len())?;
-    for prepared in all {
+    let mut members = Vec::with_capacity(walk.alloc, collected.len())?;
+    for group in collected {
+        let prepared = prepare_group(walk.alloc, walk.plan, ty, group)?;
         let position = position_of(&prepared);
         let asks = asks_of(groups, prepared.asked)?;
         members.push(Member { position, asks })?;
@@ -285,7 +291,7 @@ fn known_members<'p>(
     if group >= groups.len() {
         return Ok(None);
     }
-    for shape in &groups[group].shapes {
+    for shape in groups[group].shapes.as_slice() {
         if shape.ty.as_str() == ty {
             return Ok(Some(Arc::try_clone(&shape.members)?));
         }
@@ -304,19 +310,29 @@ pub fn only_members<'p>(
     if group >= groups.len() {
         return Ok(None);
     }
-    match groups[group].shapes.first() {
+    match groups[group].shapes.as_slice().first() {
         Some(shape) if shape.only => Ok(Some(Arc::try_clone(&shape.members)?)),
         _ => Ok(None),
     }
 }
 
-// Tells whether all objects below a group have this type, since the group's field is of it.
-fn is_only(schema: &Schema, groups: &[LoadingField<'_>], group: usize, ty: &str) -> bool
-    ensures { IsTrue result → IsOnly (tree_of schema.now)
-        (children_at groups.now group) ty.now }
+// The object type of this name below a group. It is found where all objects there have it, since the group's field is of it.
+fn type_below<'p, 'a>(
+    plan: &'p Plan,
+    groups: &[LoadingField<'p>],
+    group: usize,
+    name: &'a str,
+) -> ObjectType<'p, 'a>
+    ensures name { name_in result ≡ name.now }
+    ensures below { IsBelow (plan_of plan.now)
+        (children_at groups.now group) result }
 {
-    let name = type_name_of(groups, group);
-    ty == name && is_object_type(schema, name)
+    let own = plan.schema().find_type(type_name_of(groups, group));
+    if name == own.name && matches!(own.kind(), Some(TypeKind::Object)) {
+        ObjectType::Found(own)
+    } else {
+        ObjectType::Named(name)
+    }
 }
 
 // Prepares what is asked of the objects of a type.
@@ -324,19 +340,21 @@ fn meet<'p>(
     walk: &Walk<'_, 'p>,
     groups: &mut Vec<LoadingField<'p>>,
     children: &Children<'p>,
-    ty: &str,
+    ty: &ObjectType<'p, '_>,
 ) -> Result<Arc<Vec<Member<'p>>>, AllocError>
+    requires { IsOf (plan_of walk.now.plan.now) ty.now }
     ensures { IfOk result (λ members. Meets (plan_of walk.now.plan.now) (children_seen children.now)
-        ty.now groups.old.items groups.new.items (arc_value members).items) }
+        (name_in ty.now) groups.old.items groups.new.items (arc_value members).items) }
 {
-    let collected = collect_subfields(walk.alloc, walk.plan, ty, &children.fields)?;
-    let all = prepare_groups(walk.alloc, walk.plan, ty, collected)?;
-    let members = members_of(walk.alloc, groups, all)?;
+    let fields = children.fields.as_slice();
+    let collected = collect_subfields(walk.alloc, walk.plan, ty.name(), fields)?;
+    let members = members_of(walk, groups, ty, collected)?;
     Ok(Arc::new(walk.alloc, members)?)
 }
 
 // Keeps the members of a type below a group that is one of the first `count`, fewer than `most`.
 fn keep<'p>(
+    alloc: Global,
     groups: &mut Vec<LoadingField<'p>>,
     count: usize,
     most: usize,
@@ -349,7 +367,7 @@ fn keep<'p>(
         → groups.new.items ≡ groups.old.items) }
 {
     if group < count && count < most && group < groups.len() {
-        groups[group].shapes.push(shape)?;
+        groups[group].shapes.push(alloc, shape)?;
     }
     Ok(())
 }
@@ -370,9 +388,34 @@ fn children_of<'p>(
         type_name: "",
         item_non_null: false,
         place: Place { line: 1, column: 1 },
-        fields: Vec::new(alloc),
+        fields: ShortList::new(),
     };
     Ok(Arc::new(alloc, nowhere)?)
+}
+
+// The members of the objects of a type below a group, of which no object was met. They are kept, unless there are too many groups.
+fn new_shape<'p>(
+    walk: &Walk<'_, 'p>,
+    groups: &mut Vec<LoadingField<'p>>,
+    group: usize,
+    ty: &ObjectType<'p, '_>,
+) -> Result<Arc<Vec<Member<'p>>>, AllocError>
+    requires { IsBelow (plan_of walk.now.plan.now)
+        (children_at groups.old.items group) ty.now }
+    ensures { IfOk result (λ members. IsShaped (plan_of walk.now.plan.now) walk.now.most
+        groups.old.items groups.new.items group (name_in ty.now) (arc_value members).items) }
+{
+    let count = groups.len();
+    let only = ty.is_found();
+    let children = children_of(walk.alloc, groups, group)?;
+    let members = meet(walk, groups, &children, ty)?;
+    let shape = TypePositions {
+        ty: Text::from_str(walk.alloc, ty.name())?,
+        only,
+        members: Arc::try_clone(&members)?,
+    };
+    keep(walk.alloc, groups, count, walk.most, group, shape)?;
+    Ok(members)
 }
 
 /// The members of the objects of a type below a group.
@@ -388,17 +431,8 @@ pub fn shape_of<'p>(
     if let Some(members) = known_members(groups, group, ty)? {
         return Ok(members);
     }
-    let count = groups.len();
-    let only = is_only(walk.plan.schema(), groups, group, ty);
-    let children = children_of(walk.alloc, groups, group)?;
-    let members = meet(walk, groups, &children, ty)?;
-    let shape = TypePositions {
-        ty: Text::from_str(walk.alloc, ty)?,
-        only,
-        members: Arc::try_clone(&members)?,
-    };
-    keep(groups, count, walk.most, group, shape)?;
-    Ok(members)
+    let ty = type_below(walk.plan, groups, group, ty);
+    new_shape(walk, groups, group, &ty)
 }
 
 /// A copy of groups, which shares what stands below them.
@@ -410,16 +444,18 @@ pub fn copy_of<'p>(groups: &Vec<LoadingField<'p>>) -> Result<Vec<LoadingField<'p
     Ok(copy)
 }
 
-/// Prepares what is asked of the objects below groups of one object type, for some of them: not more than a short document has.
+/// Prepares what is asked of the objects below groups of one object type: below the first `most` groups, until there are as many
+/// members.
 pub fn prepare_below<'p>(
     walk: &Walk<'_, 'p>,
     groups: &mut Vec<LoadingField<'p>>,
+    most: usize,
 ) -> Result<(), AllocError>
     ensures { OnOk result
         (Grows (plan_of walk.now.plan.now) groups.old.items groups.new.items) }
 {
-    let mut room = MOST_PREPARED;
-    for group in 0..MOST_PREPARED {
+    let mut room = most;
+    for group in 0..most {
         if group >= groups.len() || room == 0 {
             return Ok(());
         }
@@ -438,11 +474,15 @@ fn prepare_only<'p>(
     ensures { OnOk result
         (Grows (plan_of walk.now.plan.now) groups.old.items groups.new.items) }
 {
-    let ty = type_name_of(groups, group);
-    if !is_object_type(walk.plan.schema(), ty) {
+    let name = type_name_of(groups, group);
+    if let Some(members) = known_members(groups, group, name)? {
+        return Ok(members.len());
+    }
+    let ty = type_below(walk.plan, groups, group, name);
+    if !ty.is_found() {
         return Ok(0);
     }
-    let members = shape_of(walk, groups, group, ty)?;
+    let members = new_shape(walk, groups, group, &ty)?;
     Ok(members.len())
 }
 
@@ -463,5 +503,5 @@ pub fn may_load(groups: &[LoadingField<'_>], onward: Onward) -> bool {
         return false;
     };
     let loads_again = matches!(group.then, RowUse::Joined { .. }) && onward.later != Some(0);
-    loads_again || selects_objects(&group.children.fields)
+    loads_again || selects_objects(group.children.fields.as_slice())
 }

@@ -3,8 +3,8 @@
 ghost use Rattle.std.specs.Prelude.{◌≡◌, None};
 ghost use Rattle.plan_walk.specs.Positions.{is_non_null};
 
+use crate::leaf_type::LeafType;
 use gq_lexer::Place;
-use gq_parser::TypeRef;
 use gq_schema::Schema;
 use load_memory::Row;
 
@@ -42,7 +42,7 @@ pub struct Items {
 pub struct Leaf<'r> {
     pub schema: &'r Schema,
     pub column: &'r str,
-    pub ty: &'r TypeRef,
+    pub ty: &'r LeafType<'r>,
     pub row: &'r Row,
 }
 

@@ -1,13 +1,14 @@
 //! Positions that wait for loads, each of them once.
 
 ghost use Rattle.std.specs.Prelude.{◌≡◌, ◌≢◌, ◌↔◌, ◌∷◌, ◌++◌, [], IsTrue, IfOk, IfSome, OnOk, length};
+ghost use Rattle.std.specs.List.{IsDistinct};
 ghost use Rattle.std.specs.Option.{option_to_list};
 ghost use Rattle.load_memory.specs.Keys.{key_of, borrowed_of};
-ghost use Rattle.plan_walk.specs.Noted.{positions_in, with_position};
+ghost use Rattle.plan_walk.specs.Noted.{positions_in, is_position, with_position};
 
-use crate::places::{Places, mark_of};
 use crate::positions::Onward;
 use indexmap::{IndexSet, set};
+use load_memory::places::{Places, mark_of};
 use load_memory::{Key, KeyRef};
 use std::alloc::{AllocError, Global};
 use std::iter::Chain;
@@ -98,7 +99,7 @@ impl PositionSet {
         if self.places.is_empty() {
             return None;
         }
-        let place = self.places.likely(mark_of(onward, key));
+        let place = self.places.likely(mark_of(onward.group, key));
         self.positions.get_index(place)
     }
 
@@ -110,7 +111,7 @@ impl PositionSet {
             return;
         }
         if let Some(there) = self.positions.get_index(place) {
-            let mark = mark_of(there.onward, there.key.as_key_ref());
+            let mark = mark_of(there.onward.group, there.key.as_key_ref());
             self.places.keep(mark, place);
         }
     }
@@ -121,7 +122,7 @@ impl PositionSet {
     {
         self.places.widen(self.positions.len())?;
         for (place, there) in self.positions.iter().enumerate() {
-            let mark = mark_of(there.onward, there.key.as_key_ref());
+            let mark = mark_of(there.onward.group, there.key.as_key_ref());
             self.places.keep(mark, place);
         }
         Ok(())
@@ -178,7 +179,8 @@ impl Waiting {
 
     /// The positions in order.
     pub fn as_slice(&self) -> &[BlockedPosition]
-        ensures { result.now ≡ self.now }
+        ensures all { result.now ≡ self.now }
+        ensures apart { IsDistinct is_position self.now }
     {
         match &self.held {
             HeldPositions::Nothing => &[],

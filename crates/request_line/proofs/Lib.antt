@@ -1,3 +1,4 @@
 mod Lines
 mod Loops
 mod PlainMembers
+pub mod Keys

@@ -2,3 +2,4 @@
 pub mod Requests
 pub mod Seen
 pub mod Plain
+pub mod Keys

@@ -7,6 +7,7 @@
 //! for arrays and objects among its other members.
 #![tactic(auto)]
 
+mod key;
 mod line;
 mod member;
 mod number;

@@ -2,6 +2,7 @@ pub mod Broken
 pub mod Pieces
 pub mod Parts
 pub mod Parents
+pub mod Found
 pub mod Fragments
 pub mod Selections
 pub mod Uses

@@ -1,18 +1,18 @@
 -- The selections of a document, each before those inside it.
 use Rattle.std.specs.Prelude.{◌≡◌, ℕ, ◌+◌, List, [], ◌∷◌, ◌++◌, map, Option, None}
 use Rattle.std.specs.Global.{Vec}
-use Rattle.std.specs.Borrow.{Bor}
-use Rattle.std.specs.Option.{option_copied}
 use Rattle.gq_parser.specs.Tree.{Field, Spread, Inline, Below, nothing_below, below, SelectionSet, set_at, Selection, Selections, no_selection, and_selection, Operation, Fragment, Document, set_of, selection_of}
 use Rattle.gq_parser.specs.declared.tree.SelectionSet as rust-set
 use Rattle.gq_parser.specs.declared.tree.Selection as rust-tree
 use Rattle.schema_syntax.specs.Tree.{Definition}
 use Rattle.schema_syntax.specs.declared.tree.Definition as rust-definition
 use Rattle.gq_schema.specs.Types.{tree_of}
+use Rattle.gq_schema.specs.declared.found.FoundType.{FoundType}
 use Rattle.rules_parts.specs.declared.part.Owner.{Owner}
 use Rattle.rules_parts.specs.declared.part.Owner.TheVariants as owner
 use Rattle.rules_parts.specs.declared.part.SelectionPart as rust-selection
 use Rattle.rules_parts.specs.Pieces.{SelectionPart, selection_part_of}
+use Rattle.rules_parts.specs.Found.{type_named}
 use Rattle.rules_parts.specs.Parents.{known_field, inside_operation, inside_field, inside_condition, inside_inline}
 
 abbrev mutual
@@ -78,14 +78,14 @@ document_selections defs d =
 
 -- gives the same of a set and of a selection that were read
 abbrev pub read_selections_in : List rust-definition.Definition → Owner
-    → Option (Bor (List ℕ)) → rust-set.SelectionSet → List SelectionPart
+    → Option FoundType → rust-set.SelectionSet → List SelectionPart
 read_selections_in schema o parent set =
-    selections_in (tree_of schema) o (option_copied parent) (set_of set)
+    selections_in (tree_of schema) o (type_named parent) (set_of set)
 
 abbrev pub read_selections_from : List rust-definition.Definition → Owner
-    → Option (Bor (List ℕ)) → rust-tree.Selection → List SelectionPart
+    → Option FoundType → rust-tree.Selection → List SelectionPart
 read_selections_from schema o parent selection =
-    selections_from (tree_of schema) o (option_copied parent) (selection_of selection)
+    selections_from (tree_of schema) o (type_named parent) (selection_of selection)
 
 -- the new list is the old one, with these behind it
 abbrev pub AddsSelections : Vec rust-selection.SelectionPart

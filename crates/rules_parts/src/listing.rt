@@ -9,7 +9,7 @@ ghost use Rattle.rules_parts.specs.Parts.{selection_part_of, field_part_of, spre
 ghost use Rattle.rules_parts.specs.Listing.{field_part, spread_part, inline_part, set_part, fields_in, spreads_in, sets_in, AddsVariables, variables_from, variables_in, AddsDirectives, directives_at, selection_directives, directives_in};
 
 use crate::fragments::FragmentNumbers;
-use crate::parents::{inside_condition, inside_operation};
+use crate::parents::{inside_condition, inside_operation, name_of};
 use crate::part::{
     DirectiveList, DirectiveLocation, FieldPart, InlinePart, Owner, SelectionPart, SetPart,
     SpreadPart, VariablePart,
@@ -168,14 +168,14 @@ pub fn sets<'d>(
     for (i, operation) in document.operations.iter().enumerate() {
         sets.push(SetPart {
             owner: Owner::Operation(i),
-            parent: inside_operation(schema),
+            parent: name_of(inside_operation(schema)),
             selection_set: &operation.selection_set,
         })?;
     }
     for (i, fragment) in document.fragments.iter().enumerate() {
         sets.push(SetPart {
             owner: Owner::Fragment(i),
-            parent: inside_condition(schema, &fragment.condition),
+            parent: name_of(inside_condition(schema, &fragment.condition)),
             selection_set: &fragment.selection_set,
         })?;
     }

@@ -4,14 +4,16 @@ ghost use Rattle.std.specs.Prelude.{◌≡◌, OnOk, IfOk, map};
 ghost use Rattle.gq_parser.specs.Tree.{document_of};
 ghost use Rattle.gq_schema.specs.Types.{tree_of};
 ghost use Rattle.rules_parts.specs.Parts.{selection_part_of};
+ghost use Rattle.rules_parts.specs.Found.{IsTypeOf};
 ghost use Rattle.rules_parts.specs.Selections.{read_selections_in, read_selections_from, document_selections, AddsSelections};
 
 use crate::parents::{
-    inside_condition, inside_field, inside_inline, inside_operation, known_field,
+    definition_of, inside_condition, inside_field, inside_inline, inside_operation, known_field,
+    name_of,
 };
 use crate::part::{Owner, SelectionPart};
 use gq_parser::{Document, Selection, SelectionSet};
-use gq_schema::Schema;
+use gq_schema::{FoundType, Schema};
 use std::alloc::{AllocError, Global};
 
 // Adds the selections in a set.
@@ -19,10 +21,11 @@ use std::alloc::{AllocError, Global};
 fn add_set<'d>(
     schema: &'d Schema,
     owner: Owner,
-    parent: Option<&'d str>,
+    parent: Option<FoundType<'d>>,
     set: &'d SelectionSet,
     parts: &mut Vec<SelectionPart<'d>>,
 ) -> Result<(), AllocError>
+    requires { IsTypeOf schema.now parent }
     ensures { OnOk result (AddsSelections parts.old parts.new
         (read_selections_in schema.now owner parent.entry set.now)) }
 {
@@ -37,22 +40,23 @@ fn add_set<'d>(
 fn add_selection<'d>(
     schema: &'d Schema,
     owner: Owner,
-    parent: Option<&'d str>,
+    parent: Option<FoundType<'d>>,
     selection: &'d Selection,
     parts: &mut Vec<SelectionPart<'d>>,
 ) -> Result<(), AllocError>
+    requires { IsTypeOf schema.now parent }
     ensures { OnOk result (AddsSelections parts.old parts.new
         (read_selections_from schema.now owner parent.entry selection.now)) }
 {
     match selection {
         Selection::Field(field) => {
-            let definition = known_field(schema, parent, field.name.as_str());
-            let inside = inside_field(schema, definition);
+            let known = known_field(schema, parent, field.name.as_str());
+            let inside = inside_field(schema, known);
             parts.push(SelectionPart {
                 owner,
-                parent,
-                definition,
-                inside,
+                parent: name_of(parent),
+                definition: definition_of(known),
+                inside: name_of(inside),
                 selection,
             })?;
             match &field.selection_set {
@@ -63,7 +67,7 @@ fn add_selection<'d>(
         Selection::Spread(_) => {
             parts.push(SelectionPart {
                 owner,
-                parent,
+                parent: name_of(parent),
                 definition: None,
                 inside: None,
                 selection,
@@ -74,9 +78,9 @@ fn add_selection<'d>(
             let inside = inside_inline(schema, parent, &inline.condition);
             parts.push(SelectionPart {
                 owner,
-                parent,
+                parent: name_of(parent),
                 definition: None,
-                inside,
+                inside: name_of(inside),
                 selection,
             })?;
             add_set(schema, owner, inside, &inline.selection_set, parts)

@@ -22,6 +22,7 @@ pub data PlaceOf : Type 0 where
   refused : List ℕ → PlaceOf
   answered : PlanOf → ReportOf → PlaceOf
 
+-- says what stands in the place of a value is its own
 abbrev pub IsInPlace : ServerOf → Option RequestOf → PlaceOf → Type 0
 IsInPlace s value (refused text) = IsRefused s value text
 IsInPlace s value (answered plan report) = HasPlan s value plan

@@ -12,6 +12,7 @@ use Rattle.server.specs.Answers.{AnswersRequest, StopsRequest}
 use Rattle.server.specs.Arrays.{AnswersArray, StopsArray}
 use Rattle.server.specs.Lines.{AnswersText, StopsText}
 
+-- it is answered in the client's session
 abbrev pub Answers : {S : Type 0} → (S → List KeyOf → AnswerOf → Type 0)
     → ClientOf S → RequestInput → ReportOf → SessionOf S → Type 0
 Answers may c (One request) report new = AnswersRequest may c (request_of request.now) report new

@@ -132,6 +132,7 @@ module _ {S : Type 0} where
           → OnErr out.1 (StopsAsked may c asked out.0.session)
       pub same : IsSameClient b.client out.0
 
+    -- gives the same, and nothing comes of a future that has answered
     abbrev pub Gives : Option (ByHandOf S) → ClientOf S × Result Answer AllocError → Type 0
     Gives None out = ⊥
     Gives (Some b) out = GivesFrom b out

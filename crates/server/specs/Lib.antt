@@ -4,6 +4,7 @@ pub mod Plans
 pub mod Runners
 pub mod Answers
 pub mod Kept
+pub mod Answering
 pub mod Arrays
 pub mod Lines
 pub mod LoadsByHand

@@ -71,12 +71,13 @@ pub record PlansAsked {S : Type 0} (c : ClientOf S) (asked : AskedOf)
   pub bounded : AreBounded c.most plans planned.plans
   pub planned_as : IsPlannedAs c.server asked planned.many planned.refusals plans
 
--- the response that is made of the answers to the plans
+-- the response to one request: the answer to its plan, or its refusal
 abbrev pub IsOneResponse : List (Option (List ℕ)) → List ReportOf → ReportOf → Type 0
 IsOneResponse refusals (t ∷ []) report = report ≡ t
 IsOneResponse (Some refusal ∷ []) [] report = report ≡ unasked refusal
 IsOneResponse refusals reports report = Unit {0}
 
+-- the response that is made of the answers to the plans
 abbrev pub IsResponseOf : Bool → List (Option (List ℕ)) → List ReportOf → ReportOf → Type 0
 IsResponseOf true refusals reports report =
     (report.text ≡ array_text (in_places refusals (map (λ (t : ReportOf). t.text) reports)))

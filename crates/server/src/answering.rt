@@ -1,25 +1,33 @@
 //! Answers to requests of a client, from the parts of its session.
+//!
+//! A request that has a key is answered by the plan that is kept under it, and where none is, its plan is made and kept. The plan of
+//! another request is made each time.
 
-ghost use Rattle.std.specs.Prelude.{◌≡◌, ◌≤◌, IfOk, OnErr, length};
-ghost use Rattle.gq_check.specs.Planned.{IsPlan};
-ghost use Rattle.gq_check.specs.Plans.{plan_of};
-ghost use Rattle.load_rounds.specs.Headline.{StopsAnswering};
-ghost use Rattle.load_rounds.specs.Sessions.{state_of};
-ghost use Rattle.load_rounds.specs.SharedRounds.{report_of};
-ghost use Rattle.plan_program.specs.PlanPrograms.{plan_program};
+ghost use Rattle.kept_plans.specs.Kept.{within};
+ghost use Rattle.request_line.specs.Keys.{IsKey};
 ghost use Rattle.request_line.specs.Seen.{request_of};
-ghost use Rattle.plan_requests.specs.Servers.{ServerOf};
-ghost use Rattle.server.specs.Answers.{AnswersPlan, AnswersRequest, StopsRequest};
-ghost use Rattle.server.specs.Clients.{HasLoaders, client_of};
-ghost use Rattle.server.specs.Runners.{RunsEach};
+ghost use Rattle.server.specs.Answering.{AnswersLimited};
+ghost use Rattle.server.specs.Clients.{HasLoaders};
+ghost use Rattle.server.specs.Plans.{HasLoadersFor};
+ghost use Rattle.server.specs.Runners.{RunsEach, RunsPlan};
 
-use crate::request_cache::RequestCache;
+use crate::planned::plan_request;
+use crate::request_cache::{PlanUse, RequestCache};
 use gq_check::Plan;
 use gq_resolve::LimitedPlan;
+use kept_plans::KeptPlan;
 use load_queue::LocalSource;
 use load_rounds::{Answer, Session};
 use plan_requests::{Request, RequestPlan};
 use std::alloc::{AllocError, Global};
+
+/// A request, the limit on its answer, and where memory for that comes from.
+#[derive(Clone, Copy)]
+pub(crate) struct LimitedRequest<'r> {
+    pub(crate) alloc: Global,
+    pub(crate) request: &'r Request<'r>,
+    pub(crate) most: Option<usize>,
+}
 
 // The answer of a plan in a session, within a limit.
 fn answer_plan<
@@ -28,84 +36,109 @@ fn answer_plan<
 >(run: &F, session: &mut Session<S>, plan: &Plan, most: Option<usize>) -> Result<Answer, AllocError>
     requires runs { RunsEach S.may_tell
         (F.pre run.now) (F.post run.now) }
-    requires loaders { length (plan_of plan.now).bindings.loaders ≤ length session.old.loaders }
-    requires prepared { IsPlan (plan_of plan.now) }
-    ensures answered { (s : ServerOf) → IfOk result (λ a. AnswersPlan S.may_tell
-        (client_of s most session.old) (plan_of plan.now) (report_of a) session.new) }
-    ensures stopped { OnErr result (StopsAnswering S.may_tell (state_of session.old)
-        (state_of session.new) (plan_program (plan_of plan.now))) }
-    ensures loaders { length session.new.loaders
-        ≡ length session.old.loaders }
+    requires loaders { HasLoadersFor session.old
+        (within plan.now most) }
+    ensures { RunsPlan S.may_tell session.old
+        (within plan.now most) result session.new }
 {
     run(session, &LimitedPlan::new(plan, most))
 }
 
-// The response to a request whose plan isn't kept. If its document was kept, its plan is kept from then on.
-fn answer_new<
+// The response to a request whose plan can't be kept.
+fn answer_once<
     S: LocalSource,
     F: Fn(&mut Session<S>, &LimitedPlan<'_, '_>) -> Result<Answer, AllocError>,
 >(
-    alloc: Global,
     run: &F,
     kept: &mut RequestCache,
     session: &mut Session<S>,
-    request: &Request<'_>,
-    most: Option<usize>,
+    asked: LimitedRequest<'_>,
 ) -> Result<Answer, AllocError>
     requires runs { RunsEach S.may_tell
         (F.pre run.now) (F.post run.now) }
     requires loaders { HasLoaders
         kept.old.server session.old }
-    ensures answered { IfOk result (λ a. AnswersRequest S.may_tell (client_of kept.old.server
-        most session.old) (request_of request.now) (report_of a) session.new) }
-    ensures stopped { OnErr result (StopsRequest S.may_tell
-        (client_of kept.old.server most session.old) (request_of request.now) session.new) }
-    ensures server { kept.new.server ≡ kept.old.server }
-    ensures loaders { length session.new.loaders
-        ≡ length session.old.loaders }
+    ensures { AnswersLimited S.may_tell asked.entry
+        kept.old session.old result kept.new session.new }
 {
-    let comes_again = kept.has_document(request);
-    if let Some(text) = kept.keep(alloc, request)? {
-        return Ok(Answer { text, rounds: 0 });
+    match plan_request(asked.alloc, kept, asked.request, PlanUse::Once)? {
+        RequestPlan::Refused(text) => Ok(Answer { text, rounds: 0 }),
+        RequestPlan::Planned(plan) => answer_plan(run, session, &plan, asked.most),
     }
-    match kept.plan(alloc, request)? {
+}
+
+// The response to a request whose key was noted, and whose plan isn't kept yet. It is kept from then on.
+fn answer_first<
+    S: LocalSource,
+    F: Fn(&mut Session<S>, &LimitedPlan<'_, '_>) -> Result<Answer, AllocError>,
+>(
+    run: &F,
+    kept: &mut RequestCache,
+    session: &mut Session<S>,
+    asked: LimitedRequest<'_>,
+) -> Result<Answer, AllocError>
+    requires runs { RunsEach S.may_tell
+        (F.pre run.now) (F.post run.now) }
+    requires loaders { HasLoaders
+        kept.old.server session.old }
+    requires key { IsKey kept.old.key
+        (request_of asked.request.now) }
+    ensures { AnswersLimited S.may_tell asked.entry
+        kept.old session.old result kept.new session.new }
+{
+    match plan_request(asked.alloc, kept, asked.request, PlanUse::Kept)? {
         RequestPlan::Refused(text) => Ok(Answer { text, rounds: 0 }),
         RequestPlan::Planned(plan) => {
-            let answer = answer_plan(run, session, &plan, most);
-            if comes_again {
-                kept.keep_plan(alloc, request, plan);
-            }
-            answer
+            let plan = KeptPlan::new(asked.alloc, plan)?;
+            kept.answer_and_keep(asked.alloc, run, session, plan, asked.most)
         }
     }
 }
 
-/// The response to a request: the refusal of its first fault, or the answer of its plan in the session, within a limit.
-pub(crate) fn answer_request<
+// The response to a request whose key was noted, by its plan if that is kept.
+fn answer_noted<
     S: LocalSource,
     F: Fn(&mut Session<S>, &LimitedPlan<'_, '_>) -> Result<Answer, AllocError>,
 >(
-    alloc: Global,
     run: &F,
     kept: &mut RequestCache,
     session: &mut Session<S>,
-    request: &Request<'_>,
-    most: Option<usize>,
+    asked: LimitedRequest<'_>,
 ) -> Result<Answer, AllocError>
     requires runs { RunsEach S.may_tell
         (F.pre run.now) (F.post run.now) }
     requires loaders { HasLoaders
         kept.old.server session.old }
-    ensures answered { IfOk result (λ a. AnswersRequest S.may_tell (client_of kept.old.server
-        most session.old) (request_of request.now) (report_of a) session.new) }
-    ensures stopped { OnErr result (StopsRequest S.may_tell
-        (client_of kept.old.server most session.old) (request_of request.now) session.new) }
-    ensures server { kept.new.server ≡ kept.old.server }
-    ensures loaders { length session.new.loaders
-        ≡ length session.old.loaders }
+    requires key { IsKey kept.old.key
+        (request_of asked.request.now) }
+    ensures { AnswersLimited S.may_tell asked.entry
+        kept.old session.old result kept.new session.new }
 {
-    match kept.answer_again(run, session, request, most) {
+    match kept.answer_again(run, session, asked.most) {
         Some(answer) => answer,
-        None => answer_new(alloc, run, kept, session, request, most),
+        None => answer_first(run, kept, session, asked),
     }
+}
+
+/// The response to a request: the refusal of its first fault, or the answer of its plan in the session, within the limit.
+pub(crate) fn answer_request<
+    S: LocalSource,
+    F: Fn(&mut Session<S>, &LimitedPlan<'_, '_>) -> Result<Answer, AllocError>,
+>(
+    run: &F,
+    kept: &mut RequestCache,
+    session: &mut Session<S>,
+    asked: LimitedRequest<'_>,
+) -> Result<Answer, AllocError>
+    requires runs { RunsEach S.may_tell
+        (F.pre run.now) (F.post run.now) }
+    requires loaders { HasLoaders
+        kept.old.server session.old }
+    ensures { AnswersLimited S.may_tell asked.entry
+        kept.old session.old result kept.new session.new }
+{
+    if !kept.note_key(asked.alloc, asked.request)? {
+        return answer_once(run, kept, session, asked);
+    }
+    answer_noted(run, kept, session, asked)
 }

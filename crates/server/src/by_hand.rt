@@ -59,7 +59,7 @@ impl ClientAdvance {
 #[derive(Drop)]
 pub struct ByHand<'p, S> {
     alloc: Global,
-    documents: RequestCache,
+    kept: RequestCache,
     lines: LineReader,
     max_answer: Option<usize>,
     planned: &'p PlannedRequest,
@@ -82,9 +82,11 @@ impl<'p, S> Model for ByHand<'p, S> {
 
     ghost coded = { Prim.hlevel (codes, type_ref.the_row.coded, literal.the_row.coded, argument.the_row.coded, field.the_row.coded, inline.the_row.coded, set.the_row.coded, input.the_row.coded, S.code) };
 
-    ghost view = { λ b. by_hand_of (client_of b.documents.server b.max_answer b.hand.session) b.planned.now b.hand.far };
+    ghost view = { λ b. by_hand_of
+        (client_of b.kept.server b.max_answer b.hand.session) b.planned.now b.hand.far };
 
-    ghost invariant = { λ b. HoldsByHand (client_of b.documents.server b.max_answer b.hand.session) b.planned.now b.hand };
+    ghost invariant = { λ b. HoldsByHand
+        (client_of b.kept.server b.max_answer b.hand.session) b.planned.now b.hand };
 }
 
 impl<S> ClientSession<S> {
@@ -110,14 +112,14 @@ impl<S> ClientSession<S> {
     {
         let ClientSession {
             alloc,
-            documents,
+            kept,
             lines,
             session,
             max_answer,
         } = self;
         ByHand {
             alloc,
-            documents,
+            kept,
             lines,
             max_answer,
             planned,
@@ -282,7 +284,7 @@ impl<'p, S: LocalSource> ByHand<'p, S> {
     {
         let ByHand {
             alloc,
-            documents,
+            kept,
             lines,
             max_answer,
             hand,
@@ -290,7 +292,7 @@ impl<'p, S: LocalSource> ByHand<'p, S> {
         } = self;
         ClientSession {
             alloc,
-            documents,
+            kept,
             lines,
             session: hand.into_session(),
             max_answer,

@@ -13,7 +13,7 @@ ghost use Rattle.server.specs.Lines.{AnswersText, StopsText, ServesLine, StopsLi
 ghost use Rattle.server.specs.Plans.{HasLoadersFor};
 ghost use Rattle.server.specs.Runners.{RunsPlan, RunsPlans, RunsEach, RunsAll};
 
-use crate::answering::answer_request;
+use crate::answering::{LimitedRequest, answer_request};
 use crate::arrays::answer_requests;
 use crate::batch_runner::{BatchRunner, Workers};
 use crate::counting::line_read;
@@ -29,10 +29,10 @@ use std::marker::Model;
 use std::sync::Wait;
 use std::thread::Threads;
 
-/// Holds what a server keeps for one client: a loader for each `loader` line, one memory of what they returned, and the documents of the
-/// client's queries, so that a query that comes again is neither parsed nor checked again (at most 1,024 texts of 262,144 bytes together).
-/// Where such a request has no variables and names no operation, the code keeps its plan too, prepared: at most 1,024, of queries of up to
-/// 2,048 bytes. No clause says which, and no answer depends on it.
+/// Holds what a server keeps for one client: a loader for each `loader` line, one memory of what they returned, and documents of the
+/// client's queries, so that a request that comes again is neither parsed nor checked again (at most 1,024 texts of 262,144 bytes together).
+/// The code keeps plans of requests too, prepared, by their queries, operations' names and variables: at most 2,048, of 262,144 bytes of
+/// these together, of queries of up to 2,048 bytes and of variables that are short. No clause says which, and no answer depends on it.
 ///
 /// A request is answered over what the session knows, as with a DataLoader: what an earlier request of the client loaded isn't asked again.
 /// [`restart`](ClientSession::restart) makes it forget.
@@ -41,7 +41,7 @@ use std::thread::Threads;
 #[derive(Drop)]
 pub struct ClientSession<S> {
     pub(crate) alloc: Global,
-    pub(crate) documents: RequestCache,
+    pub(crate) kept: RequestCache,
     pub(crate) lines: LineReader,
     pub(crate) session: Session<S>,
     pub(crate) max_answer: Option<usize>,
@@ -57,9 +57,9 @@ impl<S> Model for ClientSession<S> {
 
     ghost coded = { Prim.hlevel (codes, type_ref.the_row.coded, literal.the_row.coded, S.code) };
 
-    ghost view = { λ c. client_of c.documents.server c.max_answer c.session };
+    ghost view = { λ c. client_of c.kept.server c.max_answer c.session };
 
-    ghost invariant = { λ c. HasLoaders c.documents.server c.session };
+    ghost invariant = { λ c. HasLoaders c.kept.server c.session };
 }
 
 impl<S> ClientSession<S> {
@@ -71,7 +71,7 @@ impl<S> ClientSession<S> {
     {
         ClientSession {
             alloc,
-            documents: RequestCache::new(alloc, server),
+            kept: RequestCache::new(alloc, server),
             lines: LineReader::new(),
             session,
             max_answer: None,
@@ -96,7 +96,7 @@ impl<S> ClientSession<S> {
         ensures loaders { HasLoaders
             self.now.server self.now.session }
     {
-        self.documents.server()
+        self.kept.server()
     }
 
     /// The session: what is known, and each batch that was asked, with its round.
@@ -123,13 +123,13 @@ impl<S> ClientSession<S> {
         ensures same { self.new ≡ self.old }
     {
         match self.lines.read(self.alloc, text) {
-            Ok(line) => line_read(self.alloc, &self.documents, &self.session, &line),
+            Ok(line) => line_read(self.alloc, &self.kept, &self.session, &line),
             Err(_) => Err(AllocError),
         }
     }
 
-    /// Starts again: nothing is known of any key, the logs are empty, and no round was made. The documents stay. When out of memory,
-    /// nothing is changed.
+    /// Starts again: nothing is known of any key, the logs are empty, and no round was made. What is kept of requests stays. When out of
+    /// memory, nothing is changed.
     pub fn restart(&mut self) -> Result<(), AllocError>
         ensures begun { OnOk result
             (self.new ≡ begun self.old) }
@@ -154,8 +154,8 @@ impl<S> ClientSession<S> {
         ensures fits { IfOk result (λ planned. planned.loaders ≤ length self.new.session.loaders) }
         ensures same { self.new ≡ self.old }
     {
-        let array = plan_one(self.alloc, &mut self.documents, request)?;
-        Ok(PlannedRequest::of(self.documents.server(), array, false, self.max_answer)?)
+        let array = plan_one(self.alloc, &mut self.kept, request)?;
+        Ok(PlannedRequest::of(self.kept.server(), array, false, self.max_answer)?)
     }
 
     /// Returns what the requests of an array ask, of which `None` is a value that is no request. Each is planned or refused, as
@@ -172,8 +172,8 @@ impl<S> ClientSession<S> {
         ensures fits { IfOk result (λ planned. planned.loaders ≤ length self.new.session.loaders) }
         ensures same { self.new ≡ self.old }
     {
-        let array = plan_several(self.alloc, &mut self.documents, requests)?;
-        Ok(PlannedRequest::of(self.documents.server(), array, true, self.max_answer)?)
+        let array = plan_several(self.alloc, &mut self.kept, requests)?;
+        Ok(PlannedRequest::of(self.kept.server(), array, true, self.max_answer)?)
     }
 
     /// Returns what a request that is JSON text asks, or an array of 1 to 16, as [`answer_text`](ClientSession::answer_text) takes it. What
@@ -190,16 +190,16 @@ impl<S> ClientSession<S> {
     {
         match self.lines.read(self.alloc, text) {
             Ok(Line::One(request)) => {
-                let array = plan_one(self.alloc, &mut self.documents, &request)?;
-                Ok(PlannedRequest::of(self.documents.server(), array, false, self.max_answer)?)
+                let array = plan_one(self.alloc, &mut self.kept, &request)?;
+                Ok(PlannedRequest::of(self.kept.server(), array, false, self.max_answer)?)
             }
             Ok(Line::Several(values)) => {
-                let array = plan_several(self.alloc, &mut self.documents, &values)?;
-                Ok(PlannedRequest::of(self.documents.server(), array, true, self.max_answer)?)
+                let array = plan_several(self.alloc, &mut self.kept, &values)?;
+                Ok(PlannedRequest::of(self.kept.server(), array, true, self.max_answer)?)
             }
             Ok(Line::NoRequest) => {
                 let array = plan_none(self.alloc)?;
-                Ok(PlannedRequest::of(self.documents.server(), array, false, self.max_answer)?)
+                Ok(PlannedRequest::of(self.kept.server(), array, false, self.max_answer)?)
             }
             Err(_) => Err(AllocError),
         }
@@ -240,7 +240,7 @@ impl<S: LocalSource> ClientSession<S> {
     {
         let ClientSession {
             alloc,
-            documents,
+            kept,
             lines,
             session,
             max_answer,
@@ -248,17 +248,27 @@ impl<S: LocalSource> ClientSession<S> {
         let (alloc, most) = (*alloc, *max_answer);
         match asked {
             RequestInput::One(request) => {
-                answer_request(alloc, &runner.one, documents, session, request, most)
+                let limited = LimitedRequest {
+                    alloc,
+                    request,
+                    most,
+                };
+                answer_request(&runner.one, kept, session, limited)
             }
             RequestInput::Several(values) => {
-                answer_requests(alloc, &runner.all, documents, session, values, most)
+                answer_requests(alloc, &runner.all, kept, session, values, most)
             }
             RequestInput::Text(text) => match lines.read(alloc, text) {
                 Ok(Line::One(request)) => {
-                    answer_request(alloc, &runner.one, documents, session, &request, most)
+                    let limited = LimitedRequest {
+                        alloc,
+                        request: &request,
+                        most,
+                    };
+                    answer_request(&runner.one, kept, session, limited)
                 }
                 Ok(Line::Several(values)) => {
-                    answer_requests(alloc, &runner.all, documents, session, &values, most)
+                    answer_requests(alloc, &runner.all, kept, session, &values, most)
                 }
                 Ok(Line::NoRequest) => Ok(Answer {
                     text: not_a_request(alloc)?,

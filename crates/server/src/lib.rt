@@ -3,12 +3,13 @@
 //! A [`Server`] has the schema and its bindings, for its whole life. For each client, [`Sessions::session`] makes a
 //! [`ClientSession`]: a loader for each `loader` line over the author's source, and one memory. It answers requests, given by
 //! their parts ([`ClientSession::answer`]), as JSON text ([`ClientSession::answer_text`]) or as the lines of an input ([`serve`]). This
-//! thread runs the batches of a round, or several do ([`Workers`], with which each of these calls has its like: `answer_with`).
+//! thread runs the batches of a round, or several do ([`Workers`], with which each of these calls has its like: `answer_with`). Or a
+//! request is planned first ([`PlannedRequest`]), and then its caller asks the sources ([`ByHand`]), or it is a future ([`ClientAnswering`]).
 //!
-//! The layer above may rely on this: an answer is always a response, the refusal of the request's first fault or the answer of its
-//! plan, and says of the client's session that was given what happened to it (`specs/Answers.antt`, `specs/Lines.antt`): its loaders
-//! were asked exactly the batches of a lawful log, with the headline of `load_rounds`, and nothing else was asked. That the session has
-//! a loader for each `loader` line, and that a plan is one of its server, are invariants of the types.
+//! The layer above may rely on this: an answer is always a response, the refusal of the request's first fault or the answer of its plan.
+//! With it a contract says what became of the client's session (`specs/Answers.antt`, `specs/Lines.antt`): its loaders were asked
+//! exactly the batches of a lawful log, with the headline of `load_rounds`, and nothing else was asked. That the session has a loader for
+//! each `loader` line, and that a plan is one of its server, are invariants of the types.
 #![tactic(auto)]
 
 mod answering;

@@ -27,7 +27,7 @@ use std::marker::Model;
 #[derive(Drop)]
 pub struct LoadByHand<S> {
     alloc: Global,
-    documents: RequestCache,
+    kept: RequestCache,
     lines: LineReader,
     max_answer: Option<usize>,
     hand: LoadHand<S>,
@@ -44,9 +44,10 @@ impl<S> Model for LoadByHand<S> {
 
     ghost coded = { Prim.hlevel (codes, type_ref.the_row.coded, literal.the_row.coded, S.code) };
 
-    ghost view = { λ b. load_by_hand_of (client_of b.documents.server b.max_answer b.hand.session) b.hand.loader b.hand.keys b.hand.far };
+    ghost view = { λ b. load_by_hand_of
+        (client_of b.kept.server b.max_answer b.hand.session) b.hand.loader b.hand.keys b.hand.far };
 
-    ghost invariant = { λ b. HasLoaders b.documents.server b.hand.session };
+    ghost invariant = { λ b. HasLoaders b.kept.server b.hand.session };
 }
 
 impl<S> ClientSession<S> {
@@ -62,14 +63,14 @@ impl<S> ClientSession<S> {
     {
         let ClientSession {
             alloc,
-            documents,
+            kept,
             lines,
             session,
             max_answer,
         } = self;
         LoadByHand {
             alloc,
-            documents,
+            kept,
             lines,
             max_answer,
             hand: LoadHand::new(session, loader, keys),
@@ -169,14 +170,14 @@ impl<S: LocalSource> LoadByHand<S> {
     {
         let LoadByHand {
             alloc,
-            documents,
+            kept,
             lines,
             max_answer,
             hand,
         } = self;
         ClientSession {
             alloc,
-            documents,
+            kept,
             lines,
             session: hand.into_session(),
             max_answer,

@@ -1,4 +1,4 @@
-//! Planned requests: its refusals, and its plans.
+//! What was asked of a client, planned: refusals and plans.
 
 ghost use Rattle.std.specs.Prelude.{◌≡◌, ◌≤◌, [], ◌∷◌, All, Some, None, IfOk, length, map, string_bytes};
 ghost use Rattle.gq_check.specs.Plans.{plan_of};
@@ -10,7 +10,7 @@ ghost use Rattle.server.specs.Planned.{PlansAlone};
 
 use crate::arrays::array_answer;
 use crate::bounded::{BoundedPlan, bound_plans};
-use crate::request_cache::RequestCache;
+use crate::request_cache::{PlanUse, RequestCache};
 use load_rounds::Answer;
 use plan_requests::{ArrayPlan, Request, RequestPlan, Server, not_a_request};
 use std::alloc::{AllocError, Global};
@@ -58,16 +58,18 @@ impl Model for PlannedRequest {
     ghost invariant = { λ p. All (λ bounded. bounded_loaders bounded ≤ p.loaders) p.plans.items };
 }
 
-// Returns what a request asks. The document of its query is kept.
-fn plan_request(
+/// Returns what a request asks. The document of its query is kept, if it may be of use again.
+pub(crate) fn plan_request(
     alloc: Global,
     kept: &mut RequestCache,
     request: &Request<'_>,
+    plan_use: PlanUse,
 ) -> Result<RequestPlan, AllocError>
     ensures planned { IfOk result (PlansRequest kept.old.server (request_of request.now)) }
     ensures server { kept.new.server ≡ kept.old.server }
+    ensures key { kept.new.key ≡ kept.old.key }
 {
-    if let Some(text) = kept.keep(alloc, request)? {
+    if let Some(text) = kept.keep(alloc, request, plan_use)? {
         return Ok(RequestPlan::Refused(text));
     }
     kept.plan(alloc, request)
@@ -92,7 +94,7 @@ pub(crate) fn plan_one(
         (PlansArray kept.old.server (Some (request_of request.now) ∷ [])) }
     ensures server { kept.new.server ≡ kept.old.server }
 {
-    let plan = plan_request(alloc, kept, request)?;
+    let plan = plan_request(alloc, kept, request, PlanUse::Once)?;
     plan_alone(alloc, plan)
 }
 
@@ -109,7 +111,7 @@ pub(crate) fn plan_several(
     kept.plan_each(alloc, values)
 }
 
-/// Returns what is no request asks nothing: it is refused.
+/// Returns what is planned of what is no request: its refusal.
 pub(crate) fn plan_none(alloc: Global) -> Result<ArrayPlan, AllocError>
     ensures { (s : ServerOf)
         → IfOk result (PlansArray s (None ∷ [])) }

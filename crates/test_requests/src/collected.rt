@@ -36,7 +36,7 @@ fn put_arguments(
 ) -> Result<()> {
     match arguments_of(alloc, plan, ty, group) {
         Ok(args) => {
-            for (name, input) in &args.pairs {
+            for (name, input) in args.pairs.as_slice() {
                 write!(text, " {name}=")?;
                 put_input(text, input)?;
             }
@@ -56,7 +56,7 @@ fn collected_text(
     let mut text = String::new(alloc);
     for group in &collect(alloc, plan, ty, selections)? {
         text.push_str(if text.is_empty() { "" } else { "; " })?;
-        write!(text, "{} {}", group.key, group.fields.len())?;
+        write!(text, "{} {}", group.key, group.fields.as_slice().len())?;
         put_arguments(&mut text, alloc, plan, ty, group)?;
     }
     Ok(text)

@@ -1,4 +1,4 @@
-use Rattle.std.proofs.Common.{◌≡◌, ◌∙◌, sym, ap, ℕ, ◌≤◌, vec_len, List, [], ◌∷◌, map, arith}
+use Rattle.std.proofs.Common.{◌≡◌, ◌∙◌, sym, ap, ◌≤◌, vec_len, List, [], ◌∷◌, map, arith}
 use Rattle.std.proofs.lemmas.Bool.{eqb-true}
 use Rattle.std.proofs.lemmas.List.{nil_from_length}
 use Rattle.gq_parser.specs.declared.tree.Operation as rust
@@ -6,7 +6,6 @@ use Rattle.gq_parser.specs.declared.tree.Fragment as rust-fragment
 use Rattle.gq_parser.specs.Tree.{set_of, operation_of, fragment_of, document_of}
 use Rattle.gq_schema.specs.Types.{tree_of}
 use Rattle.merging_members.specs.Members.{capped, count_in, count_operations}
-use Rattle.gq_check.specs.Plain.{is_plain_set}
 use Rattle.gq_check.proofs.PlainRules.{plain-document, lone-item, below-cap}
 use Rattle.gq_check.proofs.plain.is_plainly_valid.Goals as goal
 
@@ -21,4 +20,4 @@ returns c =
     let few : count_in (set_of o.selection_set) ≤ 64 = below-cap (count_in (set_of o.selection_set)) c.operation_fields.result count c.if-operation_fields-gt-MOST_PLAIN_FIELDS.false in
     λ yes. plain-document defs (document_of d) (operation_of o) (ap (λ (os : List rust.Operation). map operation_of os) lone) (ap (λ (fs : List rust-fragment.Fragment). map fragment_of fs) none)
     (sym c.is_plain_query.ensures ∙ c.if-not-is_plain_query.false) few
-    (ap (λ (q : List ℕ). is_plain_set defs q (set_of o.selection_set)) (sym c.root.ensures) ∙ (sym c.is_plain_set.ensures ∙ yes))
+    (rw (c.root_type.ensures.schema, c.root_type.ensures.name) at (sym c.is_plain_set.ensures ∙ yes))

@@ -7,9 +7,9 @@ use Rattle.gq_parser.proofs.Views.{of_set}
 use Rattle.schema_syntax.specs.declared.tree.Definition.{Definition}
 use Rattle.gq_schema.specs.Types.{tree_of, root_in}
 use Rattle.gq_check.specs.Plans.{PlanOf, plan_of}
-use Rattle.plan_program.specs.FieldValues.{all_prepared}
+use Rattle.plan_program.specs.FieldValues.{PreparedOf, all_prepared}
 use Rattle.plan_program.specs.Groups.{selections_in, collect}
-use Rattle.plan_program.specs.Prepared.{all_prepared_seen}
+use Rattle.plan_program.specs.Seen.{groups_of}
 use Rattle.plan_program.specs.PlanPrograms.{root_prepared}
 use Rattle.plan_walk.specs.Groups.{AreMade}
 use Rattle.plan_walk.specs.declared.loading_fields.Member.{Member}
@@ -23,11 +23,14 @@ returns c =
     let chosen : Selections = selections_in (set_of set) in
     let ss : map_selections c.deref.result.now ≡ chosen =
     ap map_selections (c.deref.ensures.value ∙ ap (λ (o : Operation). o.selection_set.selections.items) c.operation.ensures.same) ∙ sym (ap selections_in (of_set set.place set.selections)) in
-    let root : c.root-ty.result.now ≡ root_in plan.definitions = c.root-ty.ensures ∙ ap (λ (ds : List Definition). root_in (tree_of ds)) c.schema.ensures in
-    let ps : all_prepared_seen c.in_ok-all.all.items ≡ root_prepared plan =
-    c.in_ok-all.ensures ∙ ap (all_prepared plan c.root-ty.result.now) (c.in_ok-collected.ensures ∙ ap (collect plan c.root-ty.result.now) ss)
-    ∙ ap (λ (ty : List ℕ). all_prepared plan ty (collect plan ty chosen)) root in
-    let made : AreMade c.new-groups.result.items c.members_of.new.groups.items (root_prepared plan) c.in_ok-members.members.items = rw (← ps) c.in_ok-members.ensures in
+    let name : List ℕ = c.root_type.result.name.now in
+    let root : name ≡ root_in plan.definitions = c.root_type.ensures.name ∙ ap (λ (ds : List Definition). root_in (tree_of ds)) c.schema.ensures in
+    let collected : groups_of c.in_ok-collected.collected.items ≡ collect plan name chosen =
+    c.in_ok-collected.ensures ∙ (ap (λ (ty : List ℕ). collect plan ty (map_selections c.deref.result.now)) c.name.ensures ∙ ap (collect plan name) ss) in
+    let ps : all_prepared plan name (groups_of c.in_ok-collected.collected.items) ≡ root_prepared plan =
+    ap (all_prepared plan name) collected ∙ ap (λ (ty : List ℕ). all_prepared plan ty (collect plan ty chosen)) root in
+    let made : AreMade c.new-groups.result.items c.members_of.new.groups.items (root_prepared plan) c.in_ok-members.members.items =
+    subst (λ (qs : List PreparedOf). AreMade c.new-groups.result.items c.members_of.new.groups.items qs c.in_ok-members.members.items) ps c.in_ok-members.ensures in
     let shared : arc_value c.in_ok-new.field-0 ≡ c.in_ok-members.members = c.in_ok-new.ensures.ok in
     begun-rooted plan _ c.new-groups.result.items c.new-groups.ensures.items
-    (subst (λ (v : Vec Member Global). AreMade c.new-groups.result.items c.members_of.new.groups.items (root_prepared plan) v.items) (sym shared) made)
+    (subst (λ (v : Vec Member Global). AreMade c.new-groups.result.items c.members_of.new.groups.items (root_prepared plan) v.items) (sym shared) made) c.in_ok-new-2.ensures

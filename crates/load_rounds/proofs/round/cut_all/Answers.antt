@@ -56,8 +56,8 @@ returns-in_err-more-clause-lost g c =
     on-err c.from_residual.result
     (i, enters-kept c.args.round i (first_keys i keys) c.args.loaders.now.items c.loop-loader.loaders.items c.args.rounds.now c.loop-loader.rounds c.index_mut.result.now c.cut_owned.new.self c.loop-loader.invariant.entered c.index_mut.ensures.value c.in_err-more.ensures.kept)
 
-pub returns-in_err-append-clause-lost : goal.returns-in_err-append-clause-lost
-returns-in_err-append-clause-lost g c =
+pub returns-in_err-orders-clause-lost : goal.returns-in_err-orders-clause-lost
+returns-in_err-orders-clause-lost g c =
     let keys = keys_wanted c.args.wants.now in
     let i = c.loop-loader.loader in
     let lt : i < length c.loop-loader.loaders.items = omega (arith, c.loop-loader-test.true, c.len-loader-end.ensures, c.args.loaders.now.ok.0, ap length c.loop-loader.invariant.entered.loaders, length-logged false c.args.round 0 (first_keys i keys) c.args.loaders.now.items) in
@@ -70,7 +70,7 @@ returns-in_err-append-clause-lost g c =
     ] in
     let grown = enters-cut c.args.round i keys c.args.loaders.now.items c.loop-loader.loaders.items c.args.rounds.now c.loop-loader.rounds c.if-not-is_empty.rounds c.loop-loader.invariant.entered c.index_mut.result.now c.cut_owned.new.self lt c.index_mut.ensures.value
     (map key_of c.take_keys-keys.result.items) own_keys c.in_ok-more.ensures.entered more c.in_ok-more.ensures.orders either c.requires.next in
-    on-err c.from_residual-in_err-append.result (i + 1, grown)
+    on-err c.from_residual-in_err-orders.result (i + 1, grown)
 
 pub loop-loader-preserved : goal.loop-loader-preserved
 loop-loader-preserved g c =
@@ -91,7 +91,7 @@ loop-loader-preserved g c =
     let next = more-orders c.args.round i keys old c.loop-loader.loaders.items c.args.rounds.now c.loop-loader.rounds c.loop-loader.invariant.entered d c.cut_owned.new.self lt c.index_mut.ensures.value (rw own_keys at c.in_ok-more.ensures.entered) in
     let own : more ≡ map (order_of i) (batches d.limit (keys i)) = rw own_keys at c.in_ok-more.ensures.orders in
     record {
-      orders = c.in_ok-append.ensures.items ∙ ap (λ os. os ++ more) c.loop-loader.invariant.orders ∙ ap (λ os. orders_by 0 (map rule_of old) (first_keys i keys) ++ os) own ∙ sym next;
+      orders = c.in_ok-orders.ensures ∙ ap (λ os. os ++ more) c.loop-loader.invariant.orders ∙ ap (λ os. orders_by 0 (map rule_of old) (first_keys i keys) ++ os) own ∙ sym next;
       entered = grown;
       lined = rw c.take_keys-keys.ensures.after (length-taken c.loop-loader.wants i) ∙ c.loop-loader.invariant.lined;
       rest = λ m le. rw c.take_keys-keys.ensures.after (taken-other c.loop-loader.wants i m (omega (arith, le))) ∙ c.loop-loader.invariant.rest m (omega (arith, le));

@@ -1,7 +1,7 @@
 use Rattle.std.proofs.Common.{◌≡◌, drop}
 use Rattle.gq_check.specs.Plans.{plan_of}
 use Rattle.plan_program.specs.Groups.{collect_subfields, nothing_collected}
-use Rattle.plan_program.specs.Seen.{fields_seen}
+use Rattle.plan_program.specs.Fields.{fields_seen}
 use Rattle.plan_program.specs.Collecting.{collected_of}
 use Rattle.plan_program.proofs.collection.collect_subfields.Given as goal
 

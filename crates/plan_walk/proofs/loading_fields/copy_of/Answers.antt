@@ -10,5 +10,5 @@ pub returns : goal.returns
 returns c = λ plan. copies-grow plan _ _ (copies-by (λ g h is. record {
   does = is.0;
   children = is.1.0;
-  shapes = copies-by shape-copy _ _ is.1.1.0;
+  shapes = copies-by shape-copy _ _ is.1.1;
 }) _ _ c.in_ok-copy.ensures.cases.0)

@@ -12,7 +12,7 @@ returns-then-eq c =
     let g : LoadingField = get_or gs c.args.group c.index-groups-group.result in
     let k = c.loop-shape.shape-index in
     let s : TypePositions = c.shape-item.result in
-    let lt : k < length g.shapes.items = subst (λ (ss : List TypePositions). k < length ss) c.deref-shape-items.ensures.value c.loop-shape-test.true in
-    let is : s ≡ get_or g.shapes.items k s = subst (λ (ss : List TypePositions). s ≡ get_or ss k s) c.deref-shape-items.ensures.value c.shape-item.is in
+    let lt : k < length g.shapes = subst (λ (ss : List TypePositions). k < length ss) c.as_slice-shape-items.ensures c.loop-shape-test.true in
+    let is : s ≡ get_or g.shapes k s = subst (λ (ss : List TypePositions). s ≡ get_or ss k s) c.as_slice-shape-items.ensures c.shape-item.is in
     let same : arc_value c.in_ok-try_clone.field-0 ≡ arc_value s.members = grind arith in
     rw same (kept-there gs c.args.group k g s c.args.ty.now (omega (arith, c.if-group-groups.false)) (ap (λ (x : LoadingField). get_or gs c.args.group x) c.index-groups-group.is) lt is (sym c.as_str.ensures ∙ same_text _ _ c.if-eq.ensures))

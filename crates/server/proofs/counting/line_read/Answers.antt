@@ -1,4 +1,4 @@
-use Rattle.std.proofs.Common.{◌≡◌, ◌∷◌, [], ◌∙◌, List, refl, ap, subst, arith}
+use Rattle.std.proofs.Common.{◌∷◌, [], ◌∙◌, List, refl, ap, subst, arith}
 use Rattle.std.proofs.lemmas.Result.{IfOk-weaker}
 use Rattle.gq_check.specs.Plans.{PlanOf, plan_of}
 use Rattle.gq_resolve.specs.Counting.{counted}

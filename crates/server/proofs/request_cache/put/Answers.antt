@@ -5,5 +5,5 @@ use Rattle.server.proofs.request_cache.put.Goals as goal
 
 pub returns : goal.returns
 returns c = λ s h is.
-    added-kept s (get_by_text c.args.plans.now) (get_by_text c.add.new.plans) (string_bytes c.in_ok-query.query) c.in_ok-kept.kept c.add.result c.add.ensures.ok c.add.ensures.err h
-    (rw (c.in_ok-query.ensures.ok, c.in_ok-kept.ensures) is)
+    added-kept s (get_by_text c.args.plans.now) (get_by_text c.add.new.plans) (string_bytes c.in_ok-key.key) c.args.plan c.add.result c.add.ensures.ok c.add.ensures.err h
+    (rw c.in_ok-key.ensures.ok is)

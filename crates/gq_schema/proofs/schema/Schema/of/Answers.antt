@@ -5,4 +5,6 @@ invariant_of-result c = record {
   rooted = rw c.deref.ensures.value at c.in_ok-root.ensures;
   placed = rw c.deref-2.ensures.value at c.in_ok-types.ensures;
   found = rw c.deref-3.ensures.value at c.in_ok-possible.ensures;
+  root_found = rw (c.deref-4.ensures.value, c.root_name.ensures, rw c.deref.ensures.value at c.in_ok-root.ensures) at c.entry_of-root_entry.ensures;
+  fields_found = rw c.deref-5.ensures.value at c.in_ok-field_entries.ensures;
 }

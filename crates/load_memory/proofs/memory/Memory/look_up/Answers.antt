@@ -41,8 +41,8 @@ returns-in-None c =
     let known = c.in-None.ensures ∙ ap (look_in c.index-part.result.now.entries) c.in_ok-set.ensures in
     told c.args.self.now parts c.args.loader c.index-part.result.now c.mode-mode.result (borrowed_of c.args.key) _ (ap (λ (m : MemoryOf). m.pairs) c.self.view_is) c.mode-mode.ensures lt c.index-part.ensures known
 
-pub returns-in-Some-find : goal.returns-in-Some-find
-returns-in-Some-find c =
+pub returns-in_ok-note_hashed-in-Some-find : goal.returns-in_ok-note_hashed-in-Some-find
+returns-in_ok-note_hashed-in-Some-find c =
     let parts = c.self.inside.parts.items in
     let lt : c.args.loader < length parts = rw (c.self.invariant.lined_up, ap (λ (m : MemoryOf). m.modes) c.self.view_is) c.requires in
     let known = c.in-Some-find.ensures ∙ ap (look_in c.index-part.result.now.entries) c.in_ok-set.ensures in

@@ -1,5 +1,5 @@
-use Rattle.std.proofs.Common.{rules, ◌≡◌, ◌+◌, ◌++◌, map, ap, length, arith, ◌∙◌, sym, refl}
-use Rattle.std.proofs.lemmas.List.{map-append, length-map, length-append}
+use Rattle.std.proofs.Common.{rules, ◌≡◌, ◌+◌, ◌++◌, map, ap, length, arith, ◌∙◌, refl}
+use Rattle.std.proofs.lemmas.List.{length-map, length-append}
 use Rattle.load_memory.specs.Keys.{key_of}
 use Rattle.load_queue.specs.Batches.{batches}
 use Rattle.load_queue.specs.Loaders.{entered}
@@ -18,14 +18,13 @@ returns-clause-pieces g c =
 pub returns-clause-entered : goal.returns-clause-entered
 returns-clause-entered g c =
     let log = c.self.inside.log.items in
-    let more = c.in_ok-entries.entries.items in
+    let orders = c.in_ok-orders.orders.items in
     let cut = c.in_ok-orders.ensures ∙ ap (map (order_of c.args.loader)) (rw c.deref.ensures.value at c.piece_length-most.ensures.pieces) in
     let ks = batches c.self.inside.limit (map key_of c.args.keys.items) in
     let own : map (λ (o : OrderOf). o.keys) c.deref-2.result.now ≡ ks = rw (c.deref-2.ensures.value, cut) (keys-of-orders c.args.loader ks) in
-    let entries : map asked_of more ≡ map (entered c.args.round) ks = c.in_ok-entries.ensures ∙ ap (map (entered c.args.round)) own in
-    let all : map asked_of c.append.new.self.items ≡ map asked_of log ++ map (entered c.args.round) ks = rw (c.in_ok-append.ensures.items, map-append asked_of log more) (ap (λ es. map asked_of log ++ es) entries) in
-    let many : length more ≡ length ks = sym (length-map more asked_of) ∙ ap length entries ∙ length-map ks (entered c.args.round) in
-    let count : c.in_ok-count.count ≡ c.self.inside.orders + length more = search rules in
+    let all : map asked_of c.enter.new.log.items ≡ map asked_of log ++ map (entered c.args.round) ks = c.in_ok-enter.ensures.entered ∙ ap (λ qs. map asked_of log ++ map (entered c.args.round) qs) own in
+    let many : length orders ≡ length ks = ap length cut ∙ length-map ks (order_of c.args.loader) in
+    let count : c.in_ok-count.count ≡ c.self.inside.orders + length orders = search rules in
     let counted : c.in_ok-count.count ≡ c.self.inside.orders + length ks = count ∙ ap (λ n. c.self.inside.orders + n) many in
     elim c.if-self-round.branch [
       | then-self-round w ↦ rw (w.self-is, ← c.self.view_is, all, counted) refl
@@ -36,24 +35,26 @@ pub invariant_of-self-then-self-round : goal.invariant_of-self-then-self-round
 invariant_of-self-then-self-round g c =
     let log = c.self.inside.log.items in
     let ks = map (λ (o : OrderOf). o.keys) c.deref-2.result.now in
-    rw (c.in_ok-append.ensures.items, map-append asked_of log c.in_ok-entries.entries.items, c.in_ok-entries.ensures)
+    rw c.in_ok-enter.ensures.entered
     (is-loader-later c.self.inside.limit c.self.inside.latest c.self.inside.earlier c.args.round c.len-earlier.result (map asked_of log) ks c.if-self-round.true (omega (arith, c.len-earlier.ensures, length-map log asked_of)) c.self.invariant)
 
 pub invariant_of-self-else-self-round : goal.invariant_of-self-else-self-round
 invariant_of-self-else-self-round g c =
     let log = c.self.inside.log.items in
     let ks = map (λ (o : OrderOf). o.keys) c.deref-2.result.now in
-    rw (c.in_ok-append.ensures.items, map-append asked_of log c.in_ok-entries.entries.items, c.in_ok-entries.ensures)
+    rw c.in_ok-enter.ensures.entered
     (is-loader-more c.self.inside.limit c.self.inside.latest c.self.inside.earlier c.args.round (map asked_of log) ks (omega (arith, c.if-self-round.false)) c.self.invariant)
 
 pub returns-clause-recorded : goal.returns-clause-recorded
 returns-clause-recorded g c =
     let log = c.self.inside.log.items in
-    let more = c.in_ok-entries.entries.items in
-    let entries : length (map asked_of c.append.new.self.items) ≡ length (map asked_of log) + length more =
-    rw (c.in_ok-append.ensures.items, length-map (log ++ more) asked_of, length-map log asked_of) (length-append log more) in
-    let count : c.in_ok-count.count ≡ c.self.inside.orders + length more = search rules in
+    let orders = c.in_ok-orders.orders.items in
+    let ks = map (λ (o : OrderOf). o.keys) c.deref-2.result.now in
+    let many : length ks ≡ length orders = length-map c.deref-2.result.now (λ (o : OrderOf). o.keys) ∙ ap length c.deref-2.ensures.value in
+    let size : length (map asked_of c.enter.new.log.items) ≡ length (map asked_of log) + length (map (entered c.args.round) ks) = ap length c.in_ok-enter.ensures.entered ∙ length-append (map asked_of log) (map (entered c.args.round) ks) in
+    let entries : length (map asked_of c.enter.new.log.items) ≡ length (map asked_of log) + length orders = omega (arith, size, length-map ks (entered c.args.round), many) in
+    let count : c.in_ok-count.count ≡ c.self.inside.orders + length orders = search rules in
     elim c.if-self-round.branch [
-      | then-self-round w ↦ rw (w.self-is, ← c.self.view_is) (record { made = length more; orders = count; entries = entries })
-      | else-self-round w ↦ rw (w.self-is, ← c.self.view_is) (record { made = length more; orders = count; entries = entries })
+      | then-self-round w ↦ rw (w.self-is, ← c.self.view_is) (record { made = length orders; orders = count; entries = entries })
+      | else-self-round w ↦ rw (w.self-is, ← c.self.view_is) (record { made = length orders; orders = count; entries = entries })
     ]

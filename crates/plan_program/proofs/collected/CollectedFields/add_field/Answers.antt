@@ -5,7 +5,8 @@ use Rattle.gq_parser.specs.declared.tree.Field.{Field}
 use Rattle.std.proofs.Math.Seq.{map-set_same}
 use Rattle.plan_program.specs.declared.group.Group.{Group}
 use Rattle.plan_program.specs.Groups.{FieldOf, GroupOf, Collected}
-use Rattle.plan_program.specs.Seen.{field_seen, fields_seen, groups_of}
+use Rattle.plan_program.specs.Fields.{field_seen, fields_seen}
+use Rattle.plan_program.specs.Seen.{groups_of}
 use Rattle.plan_program.specs.Finding.{texts_of}
 use Rattle.plan_program.proofs.Grouping.{put_at, put_last}
 use Rattle.plan_program.proofs.collected.CollectedFields.add_field.Goals as goal
@@ -24,19 +25,18 @@ invariant_of-self c = record {
 pub returns-in_ok-push-in-Some : goal.returns-in_ok-push-in-Some
 returns-in_ok-push-in-Some c =
     let g : Group = c.index_mut.result.now in
-    let fields : fields_seen c.push.new.self.items ≡ fields_seen g.fields.items ++ field_seen c.args.field.now ∷ [] =
-    ap fields_seen c.in_ok-push-in-Some.ensures.items ∙ map-append (λ (f : Bor Field). field_seen f.now) g.fields.items (c.args.field ∷ []) in
+    let fields : fields_seen c.push.new.self ≡ fields_seen g.fields ++ field_seen c.args.field.now ∷ [] =
+    ap fields_seen c.in_ok-push-in-Some.ensures.ok ∙ map-append (λ (f : Bor Field). field_seen f.now) g.fields (c.args.field ∷ []) in
     ap (λ (gs : List GroupOf). collected gs (texts_of c.args.self.now.entered.keys))
     (put_at c.args.self.now.groups.items (field_seen c.args.field.now) c.key_of-key.result.now c.in-Some.place g (record { key = g.key; fields = c.push.new.self })
     c.key_of-key.ensures (rw c.deref.ensures.value at c.in-Some.ensures) c.index_mut.ensures.value (ap (λ (fs : List FieldOf). group g.key.now fs) fields))
 
-pub returns-in_ok-push-in-None-2 : goal.returns-in_ok-push-in-None-2
-returns-in_ok-push-in-None-2 c =
+pub returns-in_ok-push-in-None : goal.returns-in_ok-push-in-None
+returns-in_ok-push-in-None c =
     let f = field_seen c.args.field.now in
-    let fields : fields_seen c.push-in-None.new.self.items ≡ f ∷ [] = ap fields_seen (c.in_ok-push-in-None.ensures.items ∙ ap (λ (fs : List (Bor Field)). fs ++ c.args.field ∷ []) c.in_ok-fields-in-None.ensures.items) in
-    let g : Group = record { key = c.key_of-key.result; fields = c.push-in-None.new.self } in
-    let groups : c.push-in-None-2.new.self.items ≡ c.args.self.now.groups.items ++ g ∷ [] =
-    c.in_ok-push-in-None-2.ensures.items ∙ ap (λ (gs : List Group). gs ++ g ∷ []) c.in_ok-reserve-in-None.ensures.items in
+    let g : Group = record { key = c.key_of-key.result; fields = c.one-fields.result } in
+    let groups : c.push-in-None.new.self.items ≡ c.args.self.now.groups.items ++ g ∷ [] =
+    c.in_ok-push-in-None.ensures.items ∙ ap (λ (gs : List Group). gs ++ g ∷ []) c.in_ok-reserve-in-None.ensures.items in
     ap (λ (gs : List GroupOf). collected gs (texts_of c.args.self.now.entered.keys))
     (ap groups_of groups ∙ put_last c.args.self.now.groups.items f c.key_of-key.result.now g
-    c.key_of-key.ensures (rw c.deref.ensures.value at c.in-None.ensures) (ap (λ (k : List ℕ). group k (fields_seen c.push-in-None.new.self.items)) c.key_of-key.ensures ∙ ap (λ (fs : List FieldOf). group f.key fs) fields))
+    c.key_of-key.ensures (rw c.deref.ensures.value at c.in-None.ensures) (ap (λ (k : List ℕ). group k (fields_seen c.one-fields.result)) c.key_of-key.ensures ∙ ap (λ (fs : List FieldOf). group f.key fs) (ap fields_seen c.one-fields.ensures)))

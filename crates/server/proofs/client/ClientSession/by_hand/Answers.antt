@@ -14,4 +14,4 @@ invariant_of-result g c =
     let plans : c.deref.result.now ≡ planned.plans = c.deref.ensures.value ∙ ap (λ (p : PlannedOf). p.plans) c.planned.view_is in
     let hand = c.new.ensures ∙ ap (λ ps. record { session = session; plans = ps; far = handed }) plans in
     let each = subst (λ (p : PlannedOf). All (λ (b : BoundedPlan). bounded_loaders b ≤ p.loaders) p.plans) c.planned.view_is c.planned.invariant in
-    handed-in (client_of c.self.inside.documents.server c.self.inside.max_answer session) planned c.new.result c.self.invariant hand each (rw (← c.self.view_is) at c.requires)
+    handed-in (client_of c.self.inside.kept.server c.self.inside.max_answer session) planned c.new.result c.self.invariant hand each (rw (← c.self.view_is) at c.requires)

@@ -13,9 +13,9 @@ pub of-requires : goal.of-requires
 of-requires g c =
     let array = c.in_ok-array.array in
     subst (λ (s : ServerOf). All (λ (p : PlanOf). p.bindings ≡ s.bindings) (plans_of array)) (sym (c.server.ensures.server ∙ c.plan_several.ensures.server))
-    (plans-bound c.self.inside.documents.server (requests_of c.args.requests.now) (refusals_of array) (plans_of array) c.in_ok-array.ensures.planned)
+    (plans-bound c.self.inside.kept.server (requests_of c.args.requests.now) (refusals_of array) (plans_of array) c.in_ok-array.ensures.planned)
 
 pub returns-clause-planned : goal.returns-clause-planned
 returns-clause-planned g c =
     let made = c.in_ok-of.ensures in
-    rw (← c.self.view_is) (asks (client_of c.self.inside.documents.server c.self.inside.max_answer c.self.inside.session) (several (requests_of c.args.requests.now)) true c.in_ok-array.array c.in_ok-of.field-0 made.many made.refusals made.plans (refl, c.in_ok-array.ensures.planned))
+    rw (← c.self.view_is) (asks (client_of c.self.inside.kept.server c.self.inside.max_answer c.self.inside.session) (several (requests_of c.args.requests.now)) true c.in_ok-array.array c.in_ok-of.field-0 made.many made.refusals made.plans (refl, c.in_ok-array.ensures.planned))

@@ -1,4 +1,4 @@
-use Rattle.std.proofs.Common.{◌≡◌, ◌∙◌, Ok, Err, sym, subst}
+use Rattle.std.proofs.Common.{◌∙◌, Ok, Err, sym, subst}
 use Rattle.server.specs.Hands.{Gives}
 use Rattle.server.proofs.Handing.{polled-again, polled-answered, polled-failed}
 use Rattle.server.proofs.future.ClientAnsweringFuture.poll.Goals as goal
