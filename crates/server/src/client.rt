@@ -32,7 +32,7 @@ use std::thread::Threads;
 /// Holds what a server keeps for one client: a loader for each `loader` line, one memory of what they returned, and documents of the
 /// client's queries, so that a request that comes again is neither parsed nor checked again (at most 1,024 texts of 262,144 bytes together).
 /// The code keeps plans of requests too, prepared, by their queries, operations' names and variables: at most 2,048, of 262,144 bytes of
-/// these together, of queries of up to 2,048 bytes and of variables that are short. No clause says which, and no answer depends on it.
+/// these together, of queries of up to 32,768 bytes and of variables that are short. No clause says which, and no answer depends on it.
 ///
 /// A request is answered over what the session knows, as with a DataLoader: what an earlier request of the client loaded isn't asked again.
 /// [`restart`](ClientSession::restart) makes it forget.
