@@ -117,12 +117,11 @@ fn answer_orders(alloc: Global, by_hand: &mut ByHand<'_, Books>) -> anyhow::Resu
     Ok(())
 }
 
-// A request by hand, whose ids are cut into batches of one, as the session was made. It lies in a box: the borrow checker doesn't cover a
-// variable that holds it.
+// A request by hand. Its ids are cut into batches of one, as the session was made.
 fn by_hand(alloc: Global, server: &Server) -> anyhow::Result<String> {
     let mut client = server.session(alloc, Some(1), |_line| Books)?;
     let planned = client.plan(&asking("{books(ids:[1,3,1]){title}}"))?;
-    let mut by_hand = Box::new(alloc, client.by_hand(&planned))?;
+    let mut by_hand = client.by_hand(&planned);
     for _round in 0..MOST_ROUNDS {
         match by_hand.advance()? {
             ClientAdvance::Answered(answer) => return Ok(answer.text),
@@ -136,9 +135,9 @@ fn by_hand(alloc: Global, server: &Server) -> anyhow::Result<String> {
 fn refused_by_hand(alloc: Global, server: &Server) -> anyhow::Result<String> {
     let mut client = server.session(alloc, None, |_line| Books)?;
     let planned = client.plan_text("{}".as_bytes())?;
-    let mut by_hand = Box::new(alloc, client.by_hand(&planned))?;
+    let mut by_hand = client.by_hand(&planned);
     let step = by_hand.advance()?;
-    let asked = Box::into_inner(by_hand)
+    let asked = by_hand
         .into_client()
         .session()
         .logs(BOOK_BY_ID)
