@@ -21,7 +21,7 @@ use Rattle.rules_typed.specs.VariablesAreInputTypes.{non_input_variable, variabl
 use Rattle.rules_typed.specs.AllVariableUsagesAreAllowed.{forbidden_usage, all_variable_usages_are_allowed}
 use Rattle.gq_check.specs.declared.fault.Rule.{Rule}
 use Rattle.gq_check.specs.declared.fault.Rule.TheVariants as rule
-use Rattle.gq_check.specs.Verdict.{FaultOf, breaks, report, variables_fault}
+use Rattle.gq_check.specs.Verdict.{FaultOf, report, variables_fault}
 
 -- a rule that nothing breaks reports nothing, and the next decides
 next : (r : Rule) (bs : List BrokenOf) (others : Option FaultOf) → bs ≡ [] → others ≡ None → or_else (report r bs) others ≡ None

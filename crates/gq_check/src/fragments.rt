@@ -3,7 +3,7 @@
 //! While a document is checked, one map of names serves all rules. A kept document has a map of its own, since
 //! that one borrows the document.
 
-ghost use Rattle.std.specs.Prelude.{◌≡◌, IfOk, map};
+ghost use Rattle.std.specs.Prelude.{◌≡◌, IfOk};
 ghost use Rattle.std.specs.Option.{option_map, option_copied};
 ghost use Rattle.gq_parser.specs.Tree.{fragment_of};
 ghost use Rattle.gq_schema.specs.Places.{ArePlaces};

@@ -11,8 +11,7 @@ ghost use Rattle.gq_check.specs.Plain.{is_plain_value, are_plain_items, is_plain
 ghost use Rattle.gq_check.specs.Verdict.{IsValid};
 
 use gq_parser::{
-    Argument, Directive, Document, Field, Literal, Operation, OperationKind, Selection,
-    SelectionSet, Value,
+    Argument, Document, Field, Literal, Operation, OperationKind, Selection, SelectionSet, Value,
 };
 use gq_schema::{ArgDef, FoundField, FoundType, Schema, accepts};
 use merging_members::operation_fields;

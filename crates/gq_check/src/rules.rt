@@ -1,13 +1,13 @@
 //! The rules in the order of their sections (section 5).
 
-ghost use Rattle.std.specs.Prelude.{◌≡◌, ◌≤◌, None, IsTrue, IfOk, length, option_map};
-ghost use Rattle.rules_parts.specs.Broken.{broken_of, earliest};
+ghost use Rattle.std.specs.Prelude.{◌≡◌, None, IsTrue, IfOk, option_map};
+ghost use Rattle.rules_parts.specs.Broken.{broken_of};
 ghost use Rattle.rules_parts.specs.Listing.{parts_of};
 ghost use Rattle.rules_parts.specs.Parts.{parts_in};
 ghost use Rattle.rules_spreads.specs.Graphs.{graph_of};
 ghost use Rattle.rules_spreads.specs.Rules.{fragment_spreads_must_not_form_cycles};
 ghost use Rattle.gq_check.specs.Report.{report_of};
-ghost use Rattle.gq_check.specs.Verdict.{served_fault, operations_fault, fields_fault, arguments_fault, fragments_fault, spreads_fault, values_fault, directives_fault, variables_fault, rules_fault, limits_fault, first_fault, breaks, IsMergingFault, IsVerdictOf};
+ghost use Rattle.gq_check.specs.Verdict.{served_fault, operations_fault, fields_fault, arguments_fault, fragments_fault, spreads_fault, directives_fault, variables_fault, rules_fault, limits_fault, first_fault, breaks, IsMergingFault, IsVerdictOf};
 
 use crate::fault::Rule;
 use crate::report::Report;

@@ -1,6 +1,6 @@
 //! Variables by their names.
 
-ghost use Rattle.std.specs.Prelude.{◌≡◌, IfOk, map};
+ghost use Rattle.std.specs.Prelude.{◌≡◌, IfOk};
 ghost use Rattle.std.specs.Option.{option_map, option_copied};
 ghost use Rattle.gq_schema.specs.Inputs.{input_of};
 ghost use Rattle.gq_schema.specs.Places.{ArePlaces};
@@ -20,8 +20,8 @@ const MANY_VARIABLES: usize = 8;
 #[derive(Drop)]
 pub struct Variables {
     items: Vec<Variable>,
-    // none while the variables are few
-    places: Option<PlacesByName>,
+    // empty while the variables are few
+    places: PlacesByName,
 }
 
 impl Model for Variables {
@@ -72,9 +72,9 @@ impl Variables {
         ensures { IfOk result
             (λ variables. variables ≡ items.items) }
     {
-        let mut places = None;
+        let mut places = HashMap::new(alloc);
         if items.len() >= MANY_VARIABLES {
-            places = Some(variable_places(alloc, &items)?);
+            places = variable_places(alloc, &items)?;
         }
         Ok(Variables { items, places })
     }
@@ -84,12 +84,10 @@ impl Variables {
         ensures { option_map input_of (option_copied result)
             ≡ value_in (variables_of self.now) name.now }
     {
-        match &self.places {
-            Some(places) => {
-                let place = *places.get(name)?;
-                Some(&self.items[place].value)
-            }
-            None => value_among(&self.items, name),
+        if self.places.is_empty() {
+            return value_among(&self.items, name);
         }
+        let place = *self.places.get(name)?;
+        Some(&self.items[place].value)
     }
 }

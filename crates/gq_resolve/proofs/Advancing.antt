@@ -12,7 +12,6 @@ use Rattle.json.specs.Json.{object, member, no_members}
 use Rattle.json.specs.Tree.{json_tokens}
 use Rattle.load_memory.specs.Keys.{KeyOf, key_of}
 use Rattle.load_memory.specs.Pairs.{MemoryOf}
-use Rattle.load_memory.specs.Rows.{RowOf}
 use Rattle.execution.specs.Loads.{Load, Reader, AnswersMore}
 use Rattle.execution.specs.Program.{ObjectOf, Key, FieldPosition, Program, Under, Programs, Tree, tree}
 use Rattle.execution.specs.Completion.{ErrorOf, top_position}

@@ -1,5 +1,4 @@
 //! Objects that handles hold.
-ghost use Rattle.std.specs.Prelude.{◌≡◌};
 ghost use Rattle.host_clients.specs.Objects.{MakesClient, Shares};
 
 use crate::client::HostClient;

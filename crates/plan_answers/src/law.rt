@@ -1,5 +1,4 @@
 //! Laws of the answers of plans. Each function does nothing: its contract is the law.
-ghost use Rattle.std.specs.Prelude.{◌≡◌};
 ghost use Rattle.gq_check.specs.Plans.{plan_of};
 ghost use Rattle.plan_answers.specs.Headline.{ExecutesPlan, AnswersPlan};
 

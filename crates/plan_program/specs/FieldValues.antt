@@ -1,6 +1,6 @@
 -- *Arguments and loads*: what a group asks for, whatever the row is: its position, and by its field's binding a cell, or
 -- loads with where their keys come from.
-use Rattle.std.specs.Prelude.{◌≡◌, ℕ, Bool, true, false, nat_lt, ◌&&◌, List, [], ◌∷◌, length, Option, Some, None, option_map, option_and_then, map, codes, bytes_eq, if◌then◌else◌}
+use Rattle.std.specs.Prelude.{◌≡◌, ℕ, Bool, true, false, nat_lt, List, [], ◌∷◌, length, Option, Some, None, option_map, option_and_then, map, codes, bytes_eq, if◌then◌else◌}
 use Rattle.std.specs.Fmt.{signed_decimal}
 use Rattle.std.specs.List.{list_all}
 use Rattle.text_place.specs.declared.place.Place.{Place}

@@ -1,6 +1,6 @@
 //! Selections that count.
 
-ghost use Rattle.std.specs.Prelude.{◌≡◌, Some, codes};
+ghost use Rattle.std.specs.Prelude.{◌≡◌, Some};
 ghost use Rattle.std.specs.Option.{option_map, option_copied};
 ghost use Rattle.gq_parser.specs.Tree.{literal_of, arguments_of as arguments_seen, directive_of, directives_of, condition_of, condition_if};
 ghost use Rattle.gq_schema.specs.Inputs.{input_of};

@@ -1,6 +1,6 @@
 //! The words of a command line.
 
-ghost use Rattle.std.specs.Prelude.{◌≡◌, ℕ, List, IfOk, IfErr, MatchOption, map, option_map, string_bytes};
+ghost use Rattle.std.specs.Prelude.{◌≡◌, IfOk, IfErr, MatchOption, map, option_map, string_bytes};
 ghost use Rattle.clap.specs.Words.{found_of, kind_of, rows_of, first_of, one_of};
 ghost use Rattle.query_command.specs.Words.{HasNoEquals, joined, text_at, table_words, NamesTables, IsNumber, IsFlag, IsWords, IsRead, IsRefused, IsUnread, Refuses};
 

@@ -1,5 +1,5 @@
 -- Definitions of what handles hold, and what calls make of them.
-use Rattle.std.specs.Prelude.{◌≡◌, ◌≢◌, ℤ, ℕ, List, [], ◌∷◌, Bool, true, Option, Some, None, Result, Ok, Err, OnOk, IfOk, IfErr, length, if◌then◌else◌}
+use Rattle.std.specs.Prelude.{◌≡◌, ◌≢◌, ℤ, ℕ, List, [], ◌∷◌, Bool, true, Option, Some, None, Result, Ok, Err, OnOk, IfOk, IfErr, length}
 use Rattle.load_memory.specs.Keys.{KeyOf}
 use Rattle.load_memory.specs.Outcomes.{ItemOf, OutcomeOf}
 use Rattle.load_queue.specs.Orders.{OrderOf}

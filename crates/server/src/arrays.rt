@@ -4,10 +4,9 @@
 //! A query's fault isn't remembered in between, so a query that is refused is read twice, and so is
 //! one that others of the array drop for want of room.
 
-ghost use Rattle.std.specs.Prelude.{◌≡◌, length, map, IfOk, OnErr, option_map, string_bytes};
+ghost use Rattle.std.specs.Prelude.{◌≡◌, length, map, IfOk, OnErr, string_bytes};
 ghost use Rattle.load_rounds.specs.SharedRounds.{greatest, report_of};
 ghost use Rattle.request_line.specs.Seen.{requests_of};
-ghost use Rattle.plan_requests.specs.Planning.{refusals_of, plans_of};
 ghost use Rattle.gq_check.specs.Plans.{plan_of};
 ghost use Rattle.server.specs.Arrays.{AnswersArray, StopsArray, array_text, texts_of};
 ghost use Rattle.server.specs.Clients.{HasLoaders, client_of};

@@ -1,6 +1,6 @@
 //! Plans within a limit, which own all that they need.
 
-ghost use Rattle.std.specs.Prelude.{◌≡◌, IfOk, map};
+ghost use Rattle.std.specs.Prelude.{IfOk, map};
 ghost use Rattle.gq_check.specs.Plans.{plan_of};
 ghost use Rattle.server.specs.Bounded.{AreBounded};
 

@@ -1,7 +1,7 @@
 //! A client that is answered by hand: the caller asks its sources itself.
 
 ghost use Rattle.std.specs.Prelude.{◌≡◌, ◌≤◌, length, slice_get, IfOk, IfSome, OnOk, OnErr};
-ghost use Rattle.rounds_by_hand.specs.Hands.{handed, over, IsOver, pending_in};
+ghost use Rattle.rounds_by_hand.specs.Hands.{handed, IsOver, pending_in};
 ghost use Rattle.rounds_by_hand.specs.Pending.{RefusesAnswer, TakesAnswer};
 ghost use Rattle.server.specs.Clients.{IsSameClient};
 ghost use Rattle.server.specs.Hands.{IsFinished, IsStepOf};

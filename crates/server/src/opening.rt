@@ -1,8 +1,7 @@
 //! New sessions of clients.
 
-ghost use Rattle.std.specs.Prelude.{◌≡◌, ◌↔◌, [], None, IfOk, IsErrOf, option_map};
+ghost use Rattle.std.specs.Prelude.{◌≡◌, [], None, IfOk, option_map};
 ghost use Rattle.gq_bindings.specs.Seen.{by_of};
-ghost use Rattle.load_queue.specs.Loaders.{IsBadLimit};
 ghost use Rattle.server.specs.Opening.{AreOpened, mode_of};
 
 use crate::client::ClientSession;

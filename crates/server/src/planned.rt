@@ -1,7 +1,6 @@
 //! What was asked of a client, planned: refusals and plans.
 
 ghost use Rattle.std.specs.Prelude.{◌≡◌, ◌≤◌, [], ◌∷◌, All, Some, None, IfOk, length, map, string_bytes};
-ghost use Rattle.gq_check.specs.Plans.{plan_of};
 ghost use Rattle.load_rounds.specs.SharedRounds.{report_of};
 ghost use Rattle.request_line.specs.Seen.{request_of, requests_of};
 ghost use Rattle.plan_requests.specs.Planning.{PlansArray, PlansRequest, refusals_of, plans_of};

@@ -1,12 +1,12 @@
 //! The tables by their names, and the indices of their columns.
 
-ghost use Rattle.std.specs.Prelude.{◌≡◌, ℕ, List, Ok, Some, None, IfOk, IfErr, IfSome, OnOk, Contains, map, position, bytes_eq};
+ghost use Rattle.std.specs.Prelude.{◌≡◌, ℕ, List, Ok, Some, None, IfOk, IfErr, IfSome, OnOk, map, position, bytes_eq};
 ghost use Rattle.std.specs.Arc.{arc_value};
 ghost use Rattle.std.specs.HashMap.{get_by_text};
 ghost use Rattle.std.specs.Option.{option_map};
 ghost use Rattle.gq_bindings.specs.Seen.{by_of};
 ghost use Rattle.csv_source.specs.Reading.{Repeats};
-ghost use Rattle.csv_source.specs.Tables.{rows_of, index_of};
+ghost use Rattle.csv_source.specs.Tables.{index_of};
 ghost use Rattle.world.specs.Sources.{table_of, names_of, sheet_named, mode_of, source_by_columns, source_over, IsRefused, IsRefusedTables};
 ghost use Rattle.world.specs.IndexedColumns.{source_of, source_by_index, source_by_pair_index};
 

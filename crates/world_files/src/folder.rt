@@ -1,6 +1,6 @@
 //! Folders in which files are opened and created by their paths.
 
-ghost use Rattle.std.specs.Prelude.{◌≡◌, ℕ, [], List, Option, Some, None, IfOk, OnOk, OnErr, string_bytes, option_map};
+ghost use Rattle.std.specs.Prelude.{◌≡◌, ℕ, [], List, Option, Some, None, IfOk, OnOk, OnErr, option_map};
 ghost use Rattle.world_files.specs.Folders.{Holdings, IsAllOf, IsCreatedAt, IsWritten, WritesNoOther, held_in, written_in};
 
 use std::alloc::Global;
