@@ -1,5 +1,5 @@
 -- Lemmas on what a poll answers, and that it may go on over each larger memory.
-use Rattle.std.proofs.Common.{◌≡◌, ◌≢◌, ◌≤◌, false, List, [], ◌∷◌, length, refl, sym, ap, ◌∙◌, subst, Option, Some, None, IfSome}
+use Rattle.std.proofs.Common.{◌≡◌, ◌≢◌, ◌⊎◌, ◌≤◌, false, List, [], ◌∷◌, length, inl, inr, refl, sym, ap, ◌∙◌, subst, Option, Some, None}
 use Rattle.load_memory.specs.Pairs.{MemoryOf}
 use Rattle.load_queue.specs.Wanted.{WantedOf}
 use Rattle.execution.specs.Loads.{Load}
@@ -15,8 +15,9 @@ use Rattle.gq_check.specs.Plans.{PlanOf}
 use Rattle.plan_program.specs.PlanPrograms.{plan_program}
 use Rattle.gq_resolve.specs.Evaluated.{front_over, AddsPart}
 use Rattle.plan_walk.specs.Reading.{reader, lookup}
-use Rattle.gq_resolve.specs.Suspended.{FitsWaiting, FitsStopped, loads_of, Advanced, lacking}
+use Rattle.gq_resolve.specs.Suspended.{IsRooted, MayGoOn, FitsWaiting, FitsStopped, loads_of, Advanced, lacking}
 use Rattle.gq_resolve.specs.Written.{asks, thinned}
+use Rattle.gq_resolve.specs.declared.advance.RootObject.{RootObject}
 use Rattle.gq_resolve.specs.declared.advance.Suspension.{Suspension}
 use Rattle.gq_resolve.specs.declared.advance.FinishedWalk.{FinishedWalk}
 use Rattle.plan_walk.specs.declared.waiting.BlockedPosition.{BlockedPosition}
@@ -29,14 +30,24 @@ use Rattle.plan_walk.proofs.Lookups.{lookup-same, lookup-more}
 -- ---- larger memories
 
 -- positions that are kept fit each larger memory, and so does a root
-pub still-fits : (plan : PlanOf) (m n : MemoryOf) (w : FinishedWalk Output) (waiting : Option (List BlockedPosition)) → Advanced plan m w → IfSome waiting (λ bs. bs ≡ w.out.blocked) → GrowsTo m n
+pub still-fits : (plan : PlanOf) (m n : MemoryOf) (w : FinishedWalk Output) (waiting : List BlockedPosition) → Advanced plan m w → (waiting ≡ []) ⊎ (waiting ≡ w.out.blocked) → GrowsTo m n
     → FitsWaiting plan n w.rooted waiting
-still-fits plan m n w None a h grown = a.goes_on.rooted
-still-fits plan m n w (Some bs) a h grown = rw h (record {
+still-fits plan m n w [] a h grown = a.goes_on.rooted
+still-fits plan m n w (b ∷ bs) a (inl none) grown = absurd (cc none)
+still-fits plan m n w (b ∷ bs) a (inr all) grown = rw all (record {
   rooted = a.goes_on.rooted;
   within = a.goes_on.within;
   ask = λ R more. a.goes_on.ask R (λ load outcome e. more load outcome (lookup-more m n grown load outcome e));
 })
+
+-- where none is kept, an execution begins at its root
+pub begins-again : (plan : PlanOf) (m : MemoryOf) (r : RootObject) (waiting : List BlockedPosition) → waiting ≡ [] → IsRooted plan r → FitsWaiting plan m r waiting
+begins-again plan m r waiting none rooted = subst (FitsWaiting plan m r) (sym none) rooted
+
+-- where some are kept, it goes on at them
+pub goes-on : (plan : PlanOf) (m : MemoryOf) (r : RootObject) (waiting : List BlockedPosition) → waiting ≢ [] → FitsWaiting plan m r waiting → MayGoOn plan m r waiting
+goes-on plan m r [] some fits = absurd (some refl)
+goes-on plan m r (b ∷ bs) some fits = fits
 
 -- a root fits every memory
 pub none-fits : (plan : PlanOf) (m : MemoryOf) (stopped : Option Suspension) → stopped ≡ None → FitsStopped plan m stopped

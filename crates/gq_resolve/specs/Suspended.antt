@@ -1,5 +1,5 @@
 -- *Suspended resolvers*: an execution that has stopped, and when it may go on.
-use Rattle.std.specs.Prelude.{◌≡◌, ◌≢◌, ℕ, false, List, [], map, length, Option, Some, None}
+use Rattle.std.specs.Prelude.{◌≡◌, ◌≢◌, ℕ, false, List, [], ◌∷◌, map, length, Option, Some, None}
 use Rattle.std.specs.Arc.{arc_value}
 use Rattle.json.specs.Tree.{json_tokens}
 use Rattle.load_memory.specs.Keys.{key_of}
@@ -43,9 +43,9 @@ pub record MayGoOn (plan : PlanOf) (m : MemoryOf) (r : RootObject)
       ≡ thinned [] (asks (plan_program plan) R)
 
 -- an execution that begins at its root again fits every memory
-abbrev pub FitsWaiting : PlanOf → MemoryOf → RootObject → Option (List BlockedPosition) → Type 0
-FitsWaiting plan m r None = IsRooted plan r
-FitsWaiting plan m r (Some bs) = MayGoOn plan m r bs
+abbrev pub FitsWaiting : PlanOf → MemoryOf → RootObject → List BlockedPosition → Type 0
+FitsWaiting plan m r [] = IsRooted plan r
+FitsWaiting plan m r (b ∷ bs) = MayGoOn plan m r (b ∷ bs)
 
 abbrev pub FitsStopped : PlanOf → MemoryOf → Option Suspension → Type 0
 FitsStopped plan m None = Unit {0}

@@ -46,7 +46,7 @@ pub struct FinishedWalk<'p, S> {
 #[derive(Drop)]
 pub struct Suspension<'p> {
     pub rooted: RootObject<'p>,
-    pub waiting: Option<Waiting>,
+    pub waiting: Waiting,
 }
 
 /// The root object (section 6.2.1).
@@ -225,9 +225,9 @@ fn advance_text<'p>(
     let Some(Suspension { rooted, waiting }) = stopped else {
         return begin(walk, most, prepare_root(walk)?);
     };
-    let Some(waiting) = waiting else {
+    if waiting.is_empty() {
         return begin(walk, most, rooted);
-    };
+    }
     let walked = search_waiting(walk, rooted, waiting)?;
     if walked.out.blocked.is_empty() {
         return write_output(walk, most, walked.rooted);

@@ -21,6 +21,7 @@ use futures::task::Poll;
 use gq_check::Plan;
 use load_memory::Memory;
 use load_queue::Wants;
+use plan_walk::waiting::Waiting;
 use plan_walk::walk::Walk;
 use std::alloc::{AllocError, Global};
 
@@ -61,9 +62,11 @@ impl<'p> RootState<'p> {
             → FitsMemory self.old m → FitsMemory self.new m) }
     {
         if self.stopped.is_none() {
+            let rooted = prepared.copy()?;
+            let alloc = *rooted.groups.allocator();
             self.stopped = Some(Suspension {
-                rooted: prepared.copy()?,
-                waiting: None,
+                rooted,
+                waiting: Waiting::new(alloc),
             });
         }
         Ok(())

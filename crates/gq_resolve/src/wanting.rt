@@ -3,7 +3,7 @@
 //! Wants are filled at the end, depth first, so that they are unchanged where memory runs out before. An
 //! execution that ran out of memory begins anew at its next poll.
 
-ghost use Rattle.std.specs.Prelude.{◌≡◌, ◌<◌, IsTrue, IfOk, IfSome, OnOk, OnErr, length, false};
+ghost use Rattle.std.specs.Prelude.{◌≡◌, ◌<◌, ◌⊎◌, [], IsTrue, IfOk, OnOk, OnErr, length, false};
 ghost use Rattle.load_memory.specs.Keys.{key_of};
 ghost use Rattle.load_queue.specs.Wanted.{with_wanted, is_key_wanted};
 ghost use Rattle.execution.specs.Front.{wanting};
@@ -147,20 +147,19 @@ pub fn add_wants(
     waiting: Waiting,
     loaders: usize,
     wants: &mut Wants,
-) -> Result<Option<Waiting>, AllocError>
+) -> Result<Waiting, AllocError>
     requires { loaders ≡ length wants.old }
     ensures ok { OnOk result
         (wants.new ≡ wanting wants.old (loads_of waiting)) }
-    ensures kept { IfOk result (λ kept.
-        IfSome kept (λ positions. positions ≡ waiting)) }
+    ensures kept { IfOk result (λ kept. (kept ≡ []) ⊎ (kept ≡ waiting)) }
     ensures part { OnErr result
         (AddsPart wants.old wants.new (loads_of waiting)) }
 {
     let are_new = are_new(alloc, &waiting, loaders, wants)?;
     if any_may_load(groups, &waiting) {
         want_each(&waiting, are_new, loaders, wants)?;
-        return Ok(Some(waiting));
+        return Ok(waiting);
     }
     want_all(waiting, are_new, loaders, wants)?;
-    Ok(None)
+    Ok(Waiting::new(alloc))
 }

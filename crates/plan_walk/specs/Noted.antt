@@ -15,13 +15,13 @@ use Rattle.plan_walk.specs.declared.waiting.HeldPositions.TheVariants.{Nothing, 
 abbrev pub positions_in : HeldPositions → List BlockedPosition
 positions_in Nothing = []
 positions_in (One position) = position ∷ []
-positions_in (Several table) = table.positions.keys
+positions_in (Several table) = table.value.positions.keys
 
 -- in a table there is one at least
 abbrev pub IsHeld : HeldPositions → Type 0
 IsHeld Nothing = Unit {0}
 IsHeld (One position) = Unit {0}
-IsHeld (Several table) = table.positions.keys ≢ []
+IsHeld (Several table) = table.value.positions.keys ≢ []
 
 -- both go on alike
 abbrev pub is_onward : Onward → Onward → Bool

@@ -37,7 +37,7 @@ struct PositionSet {
 enum HeldPositions {
     Nothing,
     One(BlockedPosition),
-    Several(PositionSet),
+    Several(Box<PositionSet>),
 }
 
 /// Positions that wait, in the order in which they were met: each of them once, however often it is met. The first takes no
@@ -157,10 +157,8 @@ fn parts_of(
         HeldPositions::Nothing => (None, IndexSet::new(alloc)),
         HeldPositions::One(position) => (Some(position), IndexSet::new(alloc)),
         HeldPositions::Several(table) => {
-            let PositionSet {
-                positions,
-                places: _places,
-            } = table;
+            let mut table = table;
+            let positions = mem::replace(&mut table.positions, IndexSet::new(alloc));
             (None, positions)
         }
     }
@@ -240,7 +238,7 @@ impl Waiting {
             HeldPositions::One(first) => {
                 let mut table = PositionSet::new(self.alloc, first)?;
                 table.add(position)?;
-                self.held = HeldPositions::Several(table);
+                self.held = HeldPositions::Several(Box::new(self.alloc, table)?);
             }
             _ => self.held = HeldPositions::One(position),
         }

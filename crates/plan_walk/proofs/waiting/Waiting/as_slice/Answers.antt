@@ -11,5 +11,5 @@ returns-in-One-clause-apart c = rw (← c.self.view_is, c.in-One.is) (one-apart 
 
 pub returns-in-Several-clause-apart : goal.returns-in-Several-clause-apart
 returns-in-Several-clause-apart c =
-    let apart : IsDistinct is_position c.in-Several.table.positions.keys = all-apart _ c.as_slice.ensures.unique in
-    rw (← c.self.view_is, c.in-Several.is) apart
+    let apart : IsDistinct is_position c.deref.result.now.positions.keys = all-apart _ c.as_slice.ensures.unique in
+    rw (← c.self.view_is, c.in-Several.is) (rw c.deref.ensures at apart)
