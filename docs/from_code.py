@@ -1,19 +1,19 @@
 #!/usr/bin/env python3
-"""Writes what the documents say by the code alone: docs/PROOFS.md, docs/FAULTS.md, docs/DEFINITIONS.md, the tables of crates in
-docs/ARCHITECTURE.md, and what other documents quote.
+"""Writes what the documents say by the code alone: the pages of docs/out/, which aren't committed, and what the documents of docs/ quote.
 
-    docs/from_code.py write      writes them
-    docs/from_code.py compare    writes nothing; where one differs from what the code says, it prints how and exits with 1
+    docs/from_code.py write      writes both
+    docs/from_code.py compare    writes nothing; where a quote differs from what the code says, it prints how and exits with 1
 
-In each of these documents it writes what stands between the lines `<!-- from the code -->` and `<!-- by hand -->`, or up to the end where
-the second is missing. All else in them is written by hand, and stays.
-
-A line `<!-- quoted: WHAT: NAME; NAME -->` below the first of them says what a document quotes there. WHAT is one of these:
+In the documents it writes what stands between the lines `<!-- from the code -->` and `<!-- by hand -->`. All else in them is written by
+hand, and stays. The first of these lines has a line `<!-- quoted: WHAT: NAME; NAME -->` below it, which says what is quoted. WHAT is one
+of these:
 
 - a file of `specs/`: definitions of it; or a file of `src/`: items of it
 - `calls`: the first sentences of the comments of calls, as `server::ClientSession::load`
+- `crates`: what the crates of `crates.txt` are for
 - `rules`: the queries that break the rules of a section of the GraphQL specification, from below `# Examples` in the rules' comments
-- `sections`: what the comments of functions say below a heading of theirs, as `# Headline`
+- `sections`: what the comments of functions say below a heading of theirs, as `# Headline`. A function that says "As `NAME` says" there
+  is listed with the function NAME of its crate
 
 It reads `crates.txt` for the layers, and of each crate the first lines of `src/lib.rt` or `src/main.rt`, its public functions with their
 comments and the names of their clauses, its types of errors, and in `specs/` the public definitions with the comments above them."""
@@ -21,7 +21,7 @@ import argparse
 import difflib
 import re
 import sys
-from collections.abc import Callable, Iterable, Iterator
+from collections.abc import Callable, Iterable, Iterator, Sequence
 from functools import cache
 from pathlib import Path
 
@@ -31,6 +31,7 @@ from reach import reached_files  # noqa: E402
 from source import TOP, Crate, Function, SourceFile, SpecFile, Type, Variant, layers, parts_at_commas  # noqa: E402
 
 DOCS = TOP / "docs"
+PAGES = DOCS / "out"
 BEGIN, END = "<!-- from the code -->", "<!-- by hand -->"
 SHOWN_LINES = 40
 OUT = "When out of memory"
@@ -66,6 +67,13 @@ def unlinked(text: str) -> str:
     return re.sub(r"\[([^\]`]+)\]\((?!http)[^)]*\)", r"\1", named)
 
 
+def below(lines: Sequence[str], heading: str) -> list[str]:
+    """The lines of a comment below a heading of it, up to the next one, without the blank ones."""
+    rest = lines[lines.index(f"# {heading}") + 1 :]
+    end = next((at for at, line in enumerate(rest) if line.startswith("# ")), len(rest))
+    return [line for line in rest[:end] if line]
+
+
 def cell(text: str) -> str:
     return text.replace("|", "\\|")
 
@@ -82,8 +90,10 @@ def coded(names: Iterable[str]) -> str:
     return ", ".join(f"`{name}`" for name in names)
 
 
-def linked(crate: Crate) -> str:
-    return f"[`{crate.name}`](../{crate.root.path.relative_to(TOP).as_posix()})"
+def link(name: str, path: Path, place: Path) -> str:
+    """A link to a file, in a document of a folder."""
+    up = "../" * len(place.relative_to(TOP).parts)
+    return f"[`{name}`]({up}{path.relative_to(TOP).as_posix()})"
 
 
 # ---- what is public
@@ -129,7 +139,7 @@ def is_public(crate: Crate, file: SourceFile, function: Function) -> bool:
     return function.is_shown and (is_named or is_shown_module(crate, file))
 
 
-# ---- PROOFS.md
+# ---- out/PROOFS.md
 
 
 def named_clauses(function: Function, kind: str) -> str:
@@ -163,23 +173,23 @@ def proofs_of(crate: Crate) -> list[str]:
     types = list(kept_by_types(crate))
     lines = table(("Call", "What it does", "Requires", "Ensures"), rows)
     kept = ["What its types keep, and say of their traits:", "", *types, ""] if types else []
-    return [f"### {linked(crate)}", "", first_sentence(crate.root.heading), "", *lines, *kept]
+    return [f"### {link(crate.name, crate.root.path, PAGES)}", "", first_sentence(crate.root.heading), "", *lines, *kept]
 
 
-def by_layer(of_crate: Callable[[Crate], list[str]], before: str = "") -> list[str]:
+def by_layer(of_crate: Callable[[Crate], list[str]]) -> list[str]:
     """What is written of each crate, under the layers' titles."""
     lines: list[str] = []
     for title, (_, crates) in LAYERS.items():
         of_layer = [line for crate in crates for line in of_crate(crate)]
-        lines += [f"## {before}{title}", "", *of_layer] if of_layer else []
+        lines += [f"## {title}", "", *of_layer] if of_layer else []
     return lines
 
 
 def write_proofs() -> list[str]:
-    return by_layer(proofs_of)
+    return ["# What each call promises", "", "[PROOFS.md](../PROOFS.md) says how to read this page.", "", *by_layer(proofs_of)]
 
 
-# ---- FAULTS.md
+# ---- out/FAULTS.md
 
 
 @cache
@@ -211,14 +221,11 @@ def errors_in(result: str) -> Iterator[str]:
 
 def when_of(function: Function) -> str:
     """What a function's comment says of its errors: below `# Errors`, or from `When out of memory` to the end of that paragraph."""
-    lines = list(function.documents)
-    if "# Errors" not in lines:
-        paragraphs = " ".join(line or "\n" for line in lines).split("\n")
-        found = next((text[text.index(OUT) :] for text in paragraphs if OUT in text), "")
-        return unlinked(found.strip())
-    below = lines[lines.index("# Errors") + 1 :]
-    kept = below[: next((at for at, line in enumerate(below) if line.startswith("# ")), len(below))]
-    return unlinked(" ".join(line for line in kept if line))
+    if "# Errors" in function.documents:
+        return unlinked(" ".join(below(function.documents, "Errors")))
+    paragraphs = " ".join(line or "\n" for line in function.documents).split("\n")
+    found = next((text[text.index(OUT) :] for text in paragraphs if OUT in text), "")
+    return unlinked(found.strip())
 
 
 def returned() -> dict[ErrorKey, dict[str, ByText]]:
@@ -273,14 +280,15 @@ def unfailing_of(crate: Crate) -> list[str]:
 
 def write_faults() -> list[str]:
     found = returned()
-    lines = by_layer(lambda crate: faults_of(crate, found))
+    lines = ["# Faults", "", "[FAULTS.md](../FAULTS.md) says how to read this page.", ""]
+    lines += by_layer(lambda crate: faults_of(crate, found))
     lines += ["## `AllocError` of `std`", "", "Out of memory: an allocation was refused.", ""]
     lines += returned_lines(found.get(("std", "AllocError"), {}))
     lines += ["## Calls that return no `Result`", ""]
     return lines + [line for crate in CRATES.values() for line in unfailing_of(crate)] + [""]
 
 
-# ---- DEFINITIONS.md
+# ---- out/DEFINITIONS.md
 
 
 def definition_lines(specs: SpecFile) -> list[str]:
@@ -291,9 +299,8 @@ def definition_lines(specs: SpecFile) -> list[str]:
 
 def spec_lines(crate: Crate, specs: SpecFile) -> list[str]:
     name = specs.path.relative_to(crate.folder / "specs").with_suffix("").as_posix()
-    path = specs.path.relative_to(TOP).as_posix()
     heading = f": {specs.heading}" if specs.heading else ""
-    return [f"**[`{name}`](../{path})**{heading}", "", *definition_lines(specs)]
+    return [f"**{link(name, specs.path, PAGES)}**{heading}", "", *definition_lines(specs)]
 
 
 @cache
@@ -340,11 +347,13 @@ def section_rows() -> Iterator[tuple[str, str]]:
 
 
 def write_definitions() -> list[str]:
-    head = ["## By the sections of the GraphQL specification", "", "The files, and in them the definitions, whose comments name a section.", ""]
-    return [*head, *table(("Section", "Where"), section_rows()), *by_layer(definitions_of, "Definitions: ")]
+    head = ["# Each definition", "", "[DEFINITIONS.md](../DEFINITIONS.md) has the main ones, and says how to read this page.", ""]
+    head += ["## By the sections of the GraphQL specification", ""]
+    head += ["The files, and in them the definitions, whose comments name a section.", ""]
+    return [*head, *table(("Section", "Where"), section_rows()), *by_layer(definitions_of)]
 
 
-# ---- ARCHITECTURE.md
+# ---- quotes: the crates
 
 
 def nearest(crate: Crate) -> list[str]:
@@ -353,15 +362,16 @@ def nearest(crate: Crate) -> list[str]:
     return [name for name in crate.uses if name not in further]
 
 
-def write_crates() -> list[str]:
+def crate_tables() -> str:
+    """The tables of the crates of each layer."""
     lines: list[str] = []
-    for title, (about, crates) in LAYERS.items():
-        rows = [(linked(it), coded(nearest(it)), first_sentence(it.root.heading)) for it in crates]
+    for title, (_, crates) in LAYERS.items():
+        rows = [(link(it.name, it.root.path, DOCS), coded(nearest(it)), first_sentence(it.root.heading)) for it in crates]
         lines += [f"### {title}", "", *table(("Crate", "Uses", "What it is for"), rows)]
-    return lines
+    return "\n".join(lines).rstrip("\n")
 
 
-# ---- quotes
+# ---- quotes: code
 
 QUOTED = re.compile(rf"^{BEGIN}\n<!-- quoted: (\S+): ([^\n]+) -->\n.*?^{END}\n", re.MULTILINE | re.DOTALL)
 
@@ -391,6 +401,8 @@ def quoted_item(lines: list[str], name: str) -> list[str]:
     return lines[at : next(ends) + 1]
 
 
+# ---- quotes: what comments say
+
 EXAMPLE = re.compile(r"\| `.+?` \| `(\d[\d.]*) .+ \|")
 
 
@@ -399,8 +411,7 @@ def examples_of_rules(section: str) -> str:
     rows: list[tuple[list[int], str]] = []
     for crate in CRATES.values():
         for function in (it for file in crate.sources for it in file.functions if "# Examples" in it.documents):
-            lines = list(function.documents)
-            text = " ".join(lines[lines.index("# Examples") + 1 :]).strip()
+            text = " ".join(below(function.documents, "Examples"))
             for example in re.sub(r" \| \| `", " |\n| `", text).split("\n"):
                 found = EXAMPLE.match(example)
                 if found and found.group(1).startswith(f"{section}."):
@@ -409,17 +420,20 @@ def examples_of_rules(section: str) -> str:
     return "\n".join([*head, *(example for _, example in sorted(rows, key=lambda it: it[0]))])
 
 
+AS_ANOTHER = re.compile(r"As `([\w:]+)` says")
+
+
 def section_table(name: str) -> str:
     """A table of what the comments of functions say below a heading, the functions of a crate that say the same in one row."""
     rows: list[tuple[str, str]] = []
     for crate in CRATES.values():
+        functions = (it for file in crate.sources for it in file.functions)
+        said = {it.path: unlinked(" ".join(below(it.documents, name))) for it in functions if f"# {name}" in it.documents}
         by_text: ByText = {}
-        for function in (it for file in crate.sources for it in file.functions if f"# {name}" in it.documents):
-            lines = list(function.documents)
-            below = lines[lines.index(f"# {name}") + 1 :]
-            text = " ".join(line for line in below[: next((at for at, it in enumerate(below) if it.startswith("# ")), len(below))] if line)
-            by_text.setdefault(text, []).append(function.path)
-        rows += [(f"`{crate.name}`: {coded(paths)}", unlinked(text)) for text, paths in by_text.items()]
+        for path, text in said.items():
+            other = AS_ANOTHER.fullmatch(text)
+            by_text.setdefault(said[other.group(1)] if other else text, []).append(path)
+        rows += [(f"`{crate.name}`: {coded(paths)}", text) for text, paths in by_text.items()]
     return "\n".join(table(("Call", name), rows)).rstrip("\n")
 
 
@@ -433,22 +447,31 @@ def call_table(names: Iterable[str]) -> str:
     return "\n".join(table(("Call", "What it does"), rows)).rstrip("\n")
 
 
-def quote(found: re.Match[str]) -> str:
-    """The quoted code between its marker lines."""
-    path, names = found.group(1), found.group(2).split("; ")
-    marks = f"{BEGIN}\n<!-- quoted: {path}: {found.group(2)} -->\n"
-    if path == "rules":
-        return f"{marks}\n{examples_of_rules(names[0])}\n\n{END}\n"
-    if path == "calls":
-        return f"{marks}\n{call_table(names)}\n\n{END}\n"
-    if path == "sections":
-        return f"{marks}\n{section_table(names[0])}\n\n{END}\n"
+# ---- what is quoted
+
+
+def quoted_code(path: str, names: Iterable[str]) -> str:
+    """Definitions or items of a file, as code in a document."""
     lines = (TOP / path).read_text(encoding="utf-8").split("\n")
-    parts = []
-    for name in names:
-        part = quoted_item(lines, name) if path.endswith(".rt") else quoted_definition(lines, name)
-        parts.append("\n".join(f"    {line}" if line else "" for line in part).rstrip("\n"))
-    return marks + "\n" + "\n\n".join(parts) + f"\n\n{END}\n"
+    parts = (quoted_item(lines, name) if path.endswith(".rt") else quoted_definition(lines, name) for name in names)
+    return "\n\n".join("\n".join(f"    {line}" if line else "" for line in part).rstrip("\n") for part in parts)
+
+
+def quote(found: re.Match[str]) -> str:
+    """What is quoted, between its marker lines."""
+    what, names = found.group(1), found.group(2).split("; ")
+    match what:
+        case "calls":
+            text = call_table(names)
+        case "crates":
+            text = crate_tables()
+        case "rules":
+            text = examples_of_rules(names[0])
+        case "sections":
+            text = section_table(names[0])
+        case _:
+            text = quoted_code(what, names)
+    return f"{BEGIN}\n<!-- quoted: {what}: {found.group(2)} -->\n\n{text}\n\n{END}\n"
 
 
 # ---- writing and comparing
@@ -457,26 +480,26 @@ WRITERS: dict[str, Callable[[], list[str]]] = {
     "PROOFS.md": write_proofs,
     "FAULTS.md": write_faults,
     "DEFINITIONS.md": write_definitions,
-    "ARCHITECTURE.md": write_crates,
 }
-QUOTING = ("C.md", "EMBEDDING.md", "HEADLINE.md", "LOADING.md", "VALIDATION.md")
 
 
-def written(name: str, old: str) -> str:
-    """The document with what the code says between its marker lines."""
-    if name not in WRITERS:
-        return QUOTED.sub(quote, old)
-    before, marker, rest = old.partition(BEGIN + "\n")
-    if not marker:
-        sys.exit(f"docs/{name} has no line `{BEGIN}`")
-    _, end, after = rest.partition(END + "\n")
-    made = "\n".join(WRITERS[name]()).strip("\n")
-    return before + marker + "\n" + made + "\n" + (f"\n{END}\n{after}" if end else "")
+def by_the_code() -> dict[Path, str]:
+    """Each document of docs/ that quotes, with what the code says between its marker lines."""
+    found: dict[Path, str] = {}
+    for path in sorted(DOCS.glob("*.md")):
+        old = path.read_text(encoding="utf-8")
+        new, count = QUOTED.subn(quote, old)
+        if count != old.count(BEGIN):
+            sys.exit(f"docs/{path.name}: a line `{BEGIN}` without its line `<!-- quoted: WHAT: NAME -->` or `{END}`")
+        if count:
+            found[path] = new
+    return found
 
 
-def compare(name: str, old: str, new: str) -> bool:
+def compare(path: Path, new: str) -> bool:
     """Prints how a document differs from what the code says; says whether it is the same."""
-    differences = list(difflib.unified_diff(old.split("\n"), new.split("\n"), f"docs/{name}", f"docs/{name} by the code", lineterm=""))
+    name, old = f"docs/{path.name}", path.read_text(encoding="utf-8")
+    differences = list(difflib.unified_diff(old.split("\n"), new.split("\n"), name, f"{name} by the code", lineterm=""))
     for line in differences[:SHOWN_LINES]:
         print(line)
     if len(differences) > SHOWN_LINES:
@@ -488,17 +511,17 @@ def main() -> int:
     parser = argparse.ArgumentParser(description=__doc__, formatter_class=argparse.RawDescriptionHelpFormatter)
     parser.add_argument("what", choices=("write", "compare"))
     is_written = parser.parse_args().what == "write"
-    are_same = True
-    for name in (*WRITERS, *QUOTING):
-        old = (DOCS / name).read_text(encoding="utf-8")
-        new = written(name, old)
-        if is_written:
-            (DOCS / name).write_text(new, encoding="utf-8")
-        else:
-            are_same = compare(name, old, new) and are_same
-    if not are_same:
+    pages = {PAGES / name: "\n".join(of_page()) for name, of_page in WRITERS.items()}
+    documents = by_the_code()
+    if is_written:
+        PAGES.mkdir(exist_ok=True)
+        for path, text in (pages | documents).items():
+            path.write_text(text, encoding="utf-8")
+        return 0
+    are_same = [compare(path, text) for path, text in documents.items()]
+    if not all(are_same):
         print("`docs/from_code.py write` writes the documents anew")
-    return 0 if are_same else 1
+    return 0 if all(are_same) else 1
 
 
 if __name__ == "__main__":

@@ -14,8 +14,8 @@ use Rattle.execution.specs.Program.{Program}
 use Rattle.execution.specs.Front.{keys_for}
 use Rattle.execution.specs.Rounds.{RuleOf, rule_of, may_at, AreReplies}
 use Rattle.execution.proofs.StoreLaws.{reply-ran}
-use Rattle.round_workers.specs.Round.{EachShown, AllAnswered, HaveLoaders}
-use Rattle.round_workers.proofs.Orders.{in_order}
+use Rattle.batch_workers.specs.Round.{EachShown, AllAnswered, HaveLoaders}
+use Rattle.batch_workers.proofs.Orders.{in_order}
 use Rattle.load_rounds.specs.Sessions.{StateOf, rules_of}
 use Rattle.load_rounds.specs.ByHand.{AreReceived, front_in, orders_in}
 use Rattle.load_rounds.proofs.Numbering.{orders-below, orders-loads}

@@ -10,11 +10,10 @@ ghost use Rattle.load_rounds.specs.ByHand.{orders_in, AwaitsReplies};
 ghost use Rattle.batch_workers.specs.Workers.{IsBadCount, Stops, MakesRound, LosesRound};
 
 use crate::fault::WorkFault;
+use crate::round::{MOST_WORKERS, run_round};
 use load_memory::Shelf;
 use load_queue::{Order, Source};
 use load_rounds::{Answer, Execute, Next, RoundsByHand, Session};
-use round_workers::round::MOST_WORKERS;
-use round_workers::run_round;
 use std::alloc::AllocError;
 use std::sync::Wait;
 use std::thread::Threads;

@@ -7,11 +7,10 @@ ghost use Rattle.load_rounds.specs.SharedRuns.{FitsLater};
 ghost use Rattle.batch_workers.specs.Workers.{IsBadCount, Stops, MakesShared, LosesShared};
 
 use crate::fault::WorkFault;
+use crate::round::{MOST_WORKERS, run_round};
 use load_memory::Shelf;
 use load_queue::{Order, Source};
 use load_rounds::{AllRoundsByHand, Answer, Execute, NextAll, Session};
-use round_workers::round::MOST_WORKERS;
-use round_workers::run_round;
 use std::alloc::AllocError;
 use std::sync::Wait;
 use std::thread::Threads;

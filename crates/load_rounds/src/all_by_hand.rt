@@ -109,8 +109,7 @@ impl<'p, E: Drop, P: Execute<'p, E>> AllRoundsByHand<'p, P, E> {
     ///
     /// # Headline
     ///
-    /// `begun` and `run` say what was done since `begin_all`, and `answers` of `KeepsRunAll` states `SharedHeadline`
-    /// from there
+    /// As `Session::begin_all` says
     pub fn next_round<S: LocalSource>(
         &mut self,
         session: &mut Session<S>,
@@ -153,8 +152,7 @@ impl<'p, E: Drop, P: Execute<'p, E>> AllRoundsByHand<'p, P, E> {
     ///
     /// # Headline
     ///
-    /// `begun` and `run` say what was done since `begin_all`, and `answers` of `KeepsRunAll` states `SharedHeadline`
-    /// from there
+    /// As `Session::begin_all` says
     pub fn take<S: LocalSource>(
         &mut self,
         session: &mut Session<S>,

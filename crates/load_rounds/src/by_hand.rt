@@ -144,7 +144,7 @@ impl<'p, P> RoundsByHand<'p, P> {
     ///
     /// # Headline
     ///
-    /// `begun` and `run` say what was done since `begin`, and `answer` of `KeepsRun` states the headline from there
+    /// As `Session::begin` says
     pub fn next_round<E: Drop, S: LocalSource>(
         &mut self,
         session: &mut Session<S>,
@@ -171,7 +171,7 @@ impl<'p, P> RoundsByHand<'p, P> {
     ///
     /// # Headline
     ///
-    /// `begun` and `run` say what was done since `begin`, and `answer` of `KeepsRun` states the headline from there
+    /// As `Session::begin` says
     pub fn resume<E, S: LocalSource>(
         &mut self,
         session: &mut Session<S>,
@@ -223,7 +223,7 @@ impl<'p, P> RoundsByHand<'p, P> {
     ///
     /// # Headline
     ///
-    /// `begun` and `run` say what was done since `begin`, and `answer` of `KeepsRun` states the headline from there
+    /// As `Session::begin` says
     pub fn take<E, S: LocalSource>(
         &mut self,
         session: &mut Session<S>,
@@ -260,7 +260,7 @@ impl<'p, P> RoundsByHand<'p, P> {
     ///
     /// # Headline
     ///
-    /// `begun` and `run` say what was done since `begin`, and `answer` of `KeepsRun` states the headline from there
+    /// As `Session::begin` says
     pub fn take_owned<E, S: LocalSource>(
         &mut self,
         session: &mut Session<S>,

@@ -101,8 +101,7 @@ impl<S: LocalSource> Session<S> {
     ///
     /// # Headline
     ///
-    /// `begun` and `loaded`: together they are a call of `load_many`, if the replies are as the sources may give
-    /// them. A `LoadHand` of `rounds_by_hand` keeps both
+    /// As `Session::begin_load` says
     pub fn end_load(
         &mut self,
         loader: usize,

@@ -328,7 +328,7 @@ impl<S: LocalSource> Session<S> {
     ///
     /// # Headline
     ///
-    /// `loaded` and `no_memory`: one lawful round, or none; `recorded`: nothing was asked off the record
+    /// As `Session::load` says
     pub fn load_many(&mut self, loader: usize, keys: &[Key]) -> Result<Vec<Outcome>, SessionFault>
         ensures no_loader { IsErrOf result SessionFault.NoSuchLoader
             ↔ (length self.old.loaders ≤ loader) }

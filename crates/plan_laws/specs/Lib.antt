@@ -1,5 +1,7 @@
 pub mod Collecting
+pub mod Headline
 pub mod Levels
 pub mod Met
 pub mod OfServers
+pub mod Requests
 pub mod Unset

@@ -1,18 +1,22 @@
-//! Laws of collection, of levels, and of what execution can meet.
+//! Laws of collection, of levels, of what execution can meet, and of the answers of plans.
 ghost use Rattle.std.specs.Prelude.{◌≡◌, ◌≤◌, ℕ, List, length, false};
 ghost use Rattle.gq_parser.specs.Tree.{Value};
 ghost use Rattle.schema_syntax.specs.Tree.{Argument, Definition};
 ghost use Rattle.gq_bindings.specs.Tree.{BindingsOf};
-ghost use Rattle.gq_check.specs.Plans.{PlanOf};
+ghost use Rattle.gq_check.specs.Plans.{PlanOf, plan_of};
 ghost use Rattle.gq_check.specs.Planned.{IsPlan};
 ghost use Rattle.plan_program.specs.PlanPrograms.{most_levels, plan_program};
 ghost use Rattle.plan_requests.specs.Servers.{ServerOf};
 ghost use Rattle.plan_laws.specs.Collecting.{CollectsTheSame, CollectsBySelections};
+ghost use Rattle.plan_laws.specs.Headline.{ExecutesPlan, AnswersPlan};
 ghost use Rattle.plan_laws.specs.Levels.{program_with};
 ghost use Rattle.plan_laws.specs.Met.{CanBeMet, IsMetBy, HasFirst, CanHave, IsDefined, BindsFields, NamesItsLoaders, AsksItsBinding, AreRead, IsOverSchema, IsOverOne};
 ghost use Rattle.plan_laws.specs.OfServers.{IsMade, IsPlanOver};
 ghost use Rattle.plan_laws.specs.Unset.{IsRight, has_unset};
 ghost use Rattle.plan_program.specs.Groups.{FieldOf, GroupOf};
+
+use gq_check::Plan;
+use load_queue::LocalSource;
 
 /// Collection ends (section 6.3.2 of the GraphQL specification of October 2021): no more fragments are entered one inside
 /// another than the plan has, so a higher bound would collect the same. A fragment that is entered collects what its selections
@@ -65,3 +69,12 @@ pub fn literals_are_right()
 pub fn plans_of_a_server_are_over_one()
     ensures { (s : ServerOf) (plan : PlanOf) → IsMade s → IsPlanOver s plan → IsOverOne plan }
 {}
+
+/// The headline for a plan. Each plan is of a document that keeps every rule, so the whole sentence holds of its answer.
+pub fn answers_of_plans<S: LocalSource>(plan: &Plan)
+    ensures { let p = plan_of plan.now in (old new : _) (text : _) (n : _)
+        → ExecutesPlan S.may_tell old new p text n → AnswersPlan S.may_tell old new p text n }
+{
+    // The clause `prepared` of this call says that the plan is of a valid document.
+    let _ = plan.operation();
+}

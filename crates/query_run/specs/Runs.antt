@@ -119,13 +119,13 @@ abbrev pub unknown : Holdings
 unknown path = None
 
 -- lines were served with the workers and the trace of a run's words
-abbrev pub ServesFor : {R G : Type 0} → Holdings → RunContext R G
+abbrev pub ServesFor : {R : Type 0} → Holdings → RunContext R
     → Service → DevicesOf → LocatedRunEnd → Type 0
 ServesFor written run service d end =
     IsServedFor run.words.now written (service_of service) d end.stop
 
 -- a run of words that are read, to a writer whose contents a function says
-abbrev pub RunsFiles : {R G W : Type 0} → Holdings → Holdings → RunContext R G
+abbrev pub RunsFiles : {R W : Type 0} → Holdings → Holdings → RunContext R
     → (W → Option (List ℕ)) → CountedDevice W → CountedDevice W → LocatedRunEnd → Type 0
 RunsFiles holds written run contents old new end = IsFilesRun holds written run.words.now
     (contents (device_of old)) (contents (device_of new)) end.stop

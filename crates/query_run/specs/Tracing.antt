@@ -76,14 +76,14 @@ TracesFor workers contents old new d end = (s : ServiceOf) → IsClientOf s old.
     → IsTracedBy workers s (traced_of contents old) (traced_of contents new) d end
 
 -- they were served and traced for a new client of the service
-abbrev pub TracesService : {R G T : Type 0} → (T → Option (List ℕ))
-    → RunContext R G → Service → CountedDevice T → DevicesOf → TracedRun T → Type 0
+abbrev pub TracesService : {R T : Type 0} → (T → Option (List ℕ))
+    → RunContext R → Service → CountedDevice T → DevicesOf → TracedRun T → Type 0
 TracesService contents run service trace d traced =
     IsTracedFrom run.words.now.workers (service_of service) (trace_device contents trace)
     (trace_device contents traced.trace) d traced.stop
 
 -- they were traced to a file, which holds this then
-abbrev pub TracesTo : {R G : Type 0} → Option (List ℕ)
-    → RunContext R G → Service → DevicesOf → LocatedRunEnd → Type 0
+abbrev pub TracesTo : {R : Type 0} → Option (List ℕ)
+    → RunContext R → Service → DevicesOf → LocatedRunEnd → Type 0
 TracesTo held run service d end =
     IsTracedTo held run.words.now.workers (service_of service) d end.stop

@@ -2,11 +2,9 @@
 
 use query_command::CommandWords;
 
-/// Holds what a run of words goes by: what starts its threads, its words, and the gate that each batch
-/// enters.
+/// Holds what a run of words goes by: what starts its threads, and its words.
 #[derive(Drop)]
-pub struct RunContext<'r, R, G> {
+pub struct RunContext<'r, R> {
     pub rt: &'r R,
     pub words: &'r CommandWords,
-    pub gate: G,
 }

@@ -24,7 +24,7 @@ use std::io::{ErrorKind, Read, Write};
 use std::rt::{Env, Files};
 use std::sync::Wait;
 use std::thread::Threads;
-use world_answers::{Gate, NoGate, Service, lines_are_direct};
+use world_answers::{Service, lines_are_direct};
 use world_files::{Folder, System, create_trace, open_requests, open_world, sample_world};
 
 /// Words of `clap` on words that are no text.
@@ -52,17 +52,16 @@ pub fn program_words<R: Env + AllocGlobal>(rt: &R) -> Result<Vec<String>, RunEnd
 }
 
 /// Serves the lines of a reader for a new client of a service, on this thread.
-fn serve_in_turn<G: Gate + Copy, I: Read, W: Write>(
+fn serve_in_turn<I: Read, W: Write>(
     alloc: Global,
     service: &Service<'_>,
-    gate: G,
     reader: &mut CountedDevice<I>,
     writer: &mut CountedDevice<W>,
 ) -> RunEnd
     ensures { IsServed (service_of service.now)
         (devices I.remaining W.contents reader.old reader.new writer.old writer.new) result }
 {
-    let mut client = match service.client(alloc, gate) {
+    let mut client = match service.client(alloc) {
         Ok(client) => client,
         Err(_) => return RunEnd::Serve(ServeFault::NoMemory),
     };
@@ -75,18 +74,17 @@ fn serve_in_turn<G: Gate + Copy, I: Read, W: Write>(
 }
 
 /// Serves the lines of a reader for a new client of a service, by workers.
-fn serve_by_workers<R: Threads + Wait + AllocGlobal + Sync, G: Gate + Copy, I: Read, W: Write>(
+fn serve_by_workers<R: Threads + Wait + AllocGlobal + Sync, I: Read, W: Write>(
     rt: &R,
     workers: &Workers<'_, R>,
     service: &Service<'_>,
-    gate: G,
     reader: &mut CountedDevice<I>,
     writer: &mut CountedDevice<W>,
 ) -> RunEnd
     ensures { IsServed (service_of service.now)
         (devices I.remaining W.contents reader.old reader.new writer.old writer.new) result }
 {
-    let mut client = match service.client(rt.alloc(), gate) {
+    let mut client = match service.client(rt.alloc()) {
         Ok(client) => client,
         Err(_) => return RunEnd::Serve(ServeFault::NoMemory),
     };
@@ -99,11 +97,10 @@ fn serve_by_workers<R: Threads + Wait + AllocGlobal + Sync, G: Gate + Copy, I: R
 }
 
 /// Serves the lines of a reader, with workers where their number is given.
-fn serve_words<R: Threads + Wait + AllocGlobal + Sync, G: Gate + Copy, I: Read, W: Write>(
+fn serve_words<R: Threads + Wait + AllocGlobal + Sync, I: Read, W: Write>(
     rt: &R,
     workers: Option<u32>,
     service: &Service<'_>,
-    gate: G,
     reader: &mut CountedDevice<I>,
     writer: &mut CountedDevice<W>,
 ) -> RunEnd
@@ -111,18 +108,17 @@ fn serve_words<R: Threads + Wait + AllocGlobal + Sync, G: Gate + Copy, I: Read, 
         (devices I.remaining W.contents reader.old reader.new writer.old writer.new) result }
 {
     let Some(count) = workers else {
-        return serve_in_turn(rt.alloc(), service, gate, reader, writer);
+        return serve_in_turn(rt.alloc(), service, reader, writer);
     };
     match Workers::new(rt, count as usize) {
-        Ok(workers) => serve_by_workers(rt, &workers, service, gate, reader, writer),
+        Ok(workers) => serve_by_workers(rt, &workers, service, reader, writer),
         Err(_) => RunEnd::Serve(ServeFault::BadCount),
     }
 }
 
 /// Serves the lines of a reader over the sample world.
-fn run_sample<G: Gate + Copy, I: Read, W: Write>(
+fn run_sample<I: Read, W: Write>(
     alloc: Global,
-    gate: G,
     reader: &mut CountedDevice<I>,
     writer: &mut CountedDevice<W>,
 ) -> RunEnd
@@ -135,7 +131,7 @@ fn run_sample<G: Gate + Copy, I: Read, W: Write>(
                 world: &world,
                 max_answer: None,
             };
-            serve_in_turn(alloc, &service, gate, reader, writer)
+            serve_in_turn(alloc, &service, reader, writer)
         }
         Err(fault) => RunEnd::from(fault),
     }
@@ -152,14 +148,8 @@ fn max_answer(words: &CommandWords) -> Option<usize>
 }
 
 /// Serves the lines of a reader, and traces them to the file of a path, which is created first.
-fn trace_requests<
-    R: Threads + Wait + AllocGlobal + Sync,
-    D: Folder,
-    G: Gate + Copy,
-    I: Read,
-    W: Write,
->(
-    run: &RunContext<'_, R, G>,
+fn trace_requests<R: Threads + Wait + AllocGlobal + Sync, D: Folder, I: Read, W: Write>(
+    run: &RunContext<'_, R>,
     folder: &mut D,
     path: &str,
     service: &Service<'_>,
@@ -188,14 +178,8 @@ fn trace_requests<
 }
 
 /// Serves the lines of a reader, with a trace where the words name a file for it.
-fn serve_requests<
-    R: Threads + Wait + AllocGlobal + Sync,
-    D: Folder,
-    G: Gate + Copy,
-    I: Read,
-    W: Write,
->(
-    run: &RunContext<'_, R, G>,
+fn serve_requests<R: Threads + Wait + AllocGlobal + Sync, D: Folder, I: Read, W: Write>(
+    run: &RunContext<'_, R>,
     folder: &mut D,
     service: &Service<'_>,
     reader: &mut CountedDevice<I>,
@@ -213,7 +197,6 @@ fn serve_requests<
             run.rt,
             run.words.workers,
             service,
-            run.gate,
             reader,
             writer,
         )),
@@ -221,8 +204,8 @@ fn serve_requests<
 }
 
 /// Serves the request lines of a file over the world of the other files, with the limits, the workers and the trace that the words give.
-fn run_files<R: Threads + Wait + AllocGlobal + Sync, D: Folder, G: Gate + Copy, W: Write>(
-    run: &RunContext<'_, R, G>,
+fn run_files<R: Threads + Wait + AllocGlobal + Sync, D: Folder, W: Write>(
+    run: &RunContext<'_, R>,
     folder: &mut D,
     writer: &mut CountedDevice<W>,
 ) -> LocatedRunEnd
@@ -313,21 +296,18 @@ pub fn run<R: Files + Threads + Wait + AllocGlobal + Sync, I: Read, W: Write>(
     ensures explained { IfSome result.explanation (λ text.
         SaysWhere (map string_bytes words.now) result.stop (string_bytes text)) }
 {
-    run_in(rt, &mut System::new(rt), NoGate, words, reader, writer)
+    run_in(rt, &mut System::new(rt), words, reader, writer)
 }
 
-/// A run as [`run`] makes it, over the files of a folder. Each batch enters the gate before it is asked. The file of a trace is created
+/// A run as [`run`] makes it, over the files of a folder. The file of a trace is created
 /// once all other files are opened; when the run ends, it is closed. No other file is written.
 ///
 /// # Headline
 ///
-/// the clause `run`, by `IsProgramRun`: the lines were served for one client of a service (`ServesClient`), each as
-/// `AnswersLine` says: with `ServesLine` in that client's session, and with the text of direct execution
-/// (`IsAnswer`)
-pub fn run_in<R: Threads + Wait + AllocGlobal + Sync, D: Folder, G: Gate + Copy, I: Read, W: Write>(
+/// As `run` says
+pub fn run_in<R: Threads + Wait + AllocGlobal + Sync, D: Folder, I: Read, W: Write>(
     rt: &R,
     folder: &mut D,
-    gate: G,
     words: &[String],
     reader: &mut CountedDevice<I>,
     writer: &mut CountedDevice<W>,
@@ -340,15 +320,11 @@ pub fn run_in<R: Threads + Wait + AllocGlobal + Sync, D: Folder, G: Gate + Copy,
         (D.written folder.old) (D.written folder.new) }
 {
     if words.is_empty() {
-        return End::from(run_sample(rt.alloc(), gate, reader, writer));
+        return End::from(run_sample(rt.alloc(), reader, writer));
     }
     match CommandWords::read(rt.alloc(), words) {
         Ok(words) => {
-            let run = RunContext {
-                rt,
-                words: &words,
-                gate,
-            };
+            let run = RunContext { rt, words: &words };
             let stop = run_files(&run, folder, writer);
             End::of(rt.alloc(), &words, stop)
         }

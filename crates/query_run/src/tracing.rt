@@ -5,6 +5,7 @@ ghost use Rattle.server_lines.specs.Devices.{devices};
 ghost use Rattle.query_run.specs.Tracing.{TracesFor, TracesService};
 
 use crate::context::RunContext;
+use csv_source::CsvSource;
 use query_command::RunEnd;
 use server::Workers;
 use server_lines::{CountedDevice, ServeFault};
@@ -13,12 +14,12 @@ use std::alloc::Global;
 use std::io::{Read, Write};
 use std::sync::Wait;
 use std::thread::Threads;
-use world_answers::{Gate, GatedSource, Service};
+use world_answers::Service;
 
 // Serves and traces the lines of a reader for a client, on this thread.
-fn trace_in_turn<G: Gate, I: Read, W: Write, T: Write>(
+fn trace_in_turn<I: Read, W: Write, T: Write>(
     alloc: Global,
-    traced: &mut TracedClient<GatedSource<'_, G>, T>,
+    traced: &mut TracedClient<CsvSource<'_>, T>,
     reader: &mut CountedDevice<I>,
     writer: &mut CountedDevice<W>,
 ) -> RunEnd
@@ -32,10 +33,10 @@ fn trace_in_turn<G: Gate, I: Read, W: Write, T: Write>(
 }
 
 // Serves and traces the lines of a reader for a client, by workers.
-fn trace_by_workers<R: Threads + Wait + AllocGlobal + Sync, G: Gate, I: Read, W: Write, T: Write>(
+fn trace_by_workers<R: Threads + Wait + AllocGlobal + Sync, I: Read, W: Write, T: Write>(
     rt: &R,
     workers: &Workers<'_, R>,
-    traced: &mut TracedClient<GatedSource<'_, G>, T>,
+    traced: &mut TracedClient<CsvSource<'_>, T>,
     reader: &mut CountedDevice<I>,
     writer: &mut CountedDevice<W>,
 ) -> RunEnd
@@ -49,10 +50,10 @@ fn trace_by_workers<R: Threads + Wait + AllocGlobal + Sync, G: Gate, I: Read, W:
 }
 
 // Serves and traces the lines of a reader for a client, with workers where their number is given.
-fn trace_lines<R: Threads + Wait + AllocGlobal + Sync, G: Gate, I: Read, W: Write, T: Write>(
+fn trace_lines<R: Threads + Wait + AllocGlobal + Sync, I: Read, W: Write, T: Write>(
     rt: &R,
     workers: Option<u32>,
-    traced: &mut TracedClient<GatedSource<'_, G>, T>,
+    traced: &mut TracedClient<CsvSource<'_>, T>,
     reader: &mut CountedDevice<I>,
     writer: &mut CountedDevice<W>,
 ) -> RunEnd
@@ -76,14 +77,8 @@ pub struct TracedRun<T> {
 }
 
 /// Serves the lines of a reader for a new client of a service, and traces them to a device.
-pub fn trace_service<
-    R: Threads + Wait + AllocGlobal + Sync,
-    G: Gate + Copy,
-    I: Read,
-    W: Write,
-    T: Write,
->(
-    run: &RunContext<'_, R, G>,
+pub fn trace_service<R: Threads + Wait + AllocGlobal + Sync, I: Read, W: Write, T: Write>(
+    run: &RunContext<'_, R>,
     service: &Service<'_>,
     trace: CountedDevice<T>,
     reader: &mut CountedDevice<I>,
@@ -92,7 +87,7 @@ pub fn trace_service<
     ensures { TracesService T.contents run.now service.now trace
         (devices I.remaining W.contents reader.old reader.new writer.old writer.new) result }
 {
-    let client = match service.client(run.rt.alloc(), run.gate) {
+    let client = match service.client(run.rt.alloc()) {
         Ok(client) => client,
         Err(_) => {
             return TracedRun {

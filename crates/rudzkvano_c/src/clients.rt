@@ -29,8 +29,7 @@ fn client_object(alloc: Global, server: &mut Handle, limits: &[u32]) -> Result<O
 ///
 /// # Promise
 ///
-/// The server that the texts say; the same server; a client that knows nothing, within its limits. Refused, the
-/// handle holds what it held
+/// As `rz_open` says
 #[unsafe(no_mangle)]
 pub extern "C" fn rz_client(
     alloc: Global,
@@ -94,7 +93,7 @@ fn restart(object: &mut Object) -> Result<(), Fault>
 ///
 /// # Promise
 ///
-/// The client as these calls of `server` make it (`Becomes`); what is under way stays as it is
+/// As `rz_limit_answers` says
 #[unsafe(no_mangle)]
 pub extern "C" fn rz_restart(alloc: Global, client: &mut Handle) -> i32
     ensures { Makes (Becomes (λ c d. d ≡ begun c))

@@ -63,7 +63,7 @@ fn prime(
 ///
 /// # Promise
 ///
-/// The client as these calls of `server` make it (`Becomes`); what is under way stays as it is
+/// As `rz_limit_answers` says
 #[unsafe(no_mangle)]
 pub extern "C" fn rz_prime(
     alloc: Global,
@@ -122,7 +122,7 @@ fn clear(
 ///
 /// # Promise
 ///
-/// The client as these calls of `server` make it (`Becomes`); what is under way stays as it is
+/// As `rz_limit_answers` says
 #[unsafe(no_mangle)]
 pub extern "C" fn rz_clear(
     alloc: Global,
@@ -161,7 +161,7 @@ fn clear_all(object: &mut Object, loader: usize) -> Result<(), Fault>
 ///
 /// # Promise
 ///
-/// The client as these calls of `server` make it (`Becomes`); what is under way stays as it is
+/// As `rz_limit_answers` says
 #[unsafe(no_mangle)]
 pub extern "C" fn rz_clear_all(alloc: Global, client: &mut Handle, loader: usize) -> i32
     ensures { Makes (Becomes (Calls (ClearingAll loader)))

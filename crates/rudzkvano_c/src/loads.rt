@@ -106,8 +106,7 @@ fn tell_load_sizes(object: &Object, sizes: &mut LoadSizes) -> Result<(), Fault>
 ///
 /// # Promise
 ///
-/// Where it gives 0, it tells how much there is to copy (`TellsSizes`, `TellsLoadSizes`, `TellsLoaderSizes`,
-/// `TellsLogSizes`)
+/// As `rz_log_sizes` says
 #[unsafe(no_mangle)]
 pub extern "C" fn rz_load_sizes(alloc: Global, client: &mut Handle, sizes: &mut LoadSizes) -> i32
     ensures sizes { Copies (TellsLoadSizes sizes.new)

@@ -75,8 +75,7 @@ fn begin_request(alloc: Global, object: &mut Object, request: &FlatRequest<'_>) 
 ///
 /// # Promise
 ///
-/// The request is planned for the client as it is, and nothing is asked of loaders yet (`IsBegun`); or, refused,
-/// the client is as it was
+/// As `rz_begin` says
 #[unsafe(no_mangle)]
 pub extern "C" fn rz_begin_request(
     alloc: Global,
@@ -214,8 +213,7 @@ fn tell_sizes(object: &Object, sizes: &mut Sizes) -> Result<(), Fault>
 ///
 /// # Promise
 ///
-/// Where it gives 0, it tells how much there is to copy (`TellsSizes`, `TellsLoadSizes`, `TellsLoaderSizes`,
-/// `TellsLogSizes`)
+/// As `rz_log_sizes` says
 #[unsafe(no_mangle)]
 pub extern "C" fn rz_sizes(alloc: Global, client: &mut Handle, sizes: &mut Sizes) -> i32
     ensures sizes { Copies (TellsSizes sizes.new)
@@ -348,9 +346,7 @@ fn take_failed(alloc: Global, object: &mut Object, order: usize, text: &[u8]) ->
 ///
 /// # Promise
 ///
-/// Where it gives 0, the order of that number takes the items that the buffers say (`reply_items`), an item for
-/// each key, or the failure of its batch, and no other order changes. Refused for another reason than memory, the
-/// client is as it was
+/// As `rz_take_rows` says
 #[unsafe(no_mangle)]
 pub extern "C" fn rz_take_failed(
     alloc: Global,

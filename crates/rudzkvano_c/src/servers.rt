@@ -98,8 +98,7 @@ fn shared_server_object(alloc: Global, server: &mut Handle) -> Result<Object, Fa
 ///
 /// # Promise
 ///
-/// The server that the texts say; the same server; a client that knows nothing, within its limits. Refused, the
-/// handle holds what it held
+/// As `rz_open` says
 #[unsafe(no_mangle)]
 pub extern "C" fn rz_share(alloc: Global, server: &mut Handle, other: &mut Handle) -> i32
     ensures shared { Gives Shares server.old.held
@@ -137,8 +136,7 @@ fn tell_sizes(alloc: Global, object: &Object, sizes: &mut LoaderSizes) -> Result
 ///
 /// # Promise
 ///
-/// Where it gives 0, it tells how much there is to copy (`TellsSizes`, `TellsLoadSizes`, `TellsLoaderSizes`,
-/// `TellsLogSizes`)
+/// As `rz_log_sizes` says
 #[unsafe(no_mangle)]
 pub extern "C" fn rz_loaders_sizes(
     alloc: Global,
@@ -175,8 +173,7 @@ fn copy_loaders(
 ///
 /// # Promise
 ///
-/// Where it gives 0, what the buffers say are the loaders of the bindings, or the batches of the loader's log
-/// (`CopiesLoaders`, `CopiesLog`)
+/// As `rz_log` says
 #[unsafe(no_mangle)]
 pub extern "C" fn rz_loaders(
     alloc: Global,

@@ -5,11 +5,10 @@ ghost use Rattle.batch_workers.specs.Workers.{IsBadCount};
 ghost use Rattle.server.specs.Plans.{HasLoadersFor};
 ghost use Rattle.server.specs.Runners.{RunsPlan, RunsPlans};
 
-use batch_workers::{WorkFault, answer_all_with, answer_with};
+use batch_workers::{MOST_WORKERS, WorkFault, answer_all_with, answer_with};
 use gq_resolve::LimitedPlan;
 use load_queue::Source;
 use load_rounds::{Answer, Session};
-use round_workers::round::MOST_WORKERS;
 use std::alloc::AllocError;
 use std::marker::Model;
 use std::sync::Wait;

@@ -171,12 +171,7 @@ impl<'p, S: LocalSource> ByHand<'p, S> {
     ///
     /// # Headline
     ///
-    /// `answered` of the two that advance, by `Responds` of `server/specs/Hands.antt`: the answer to what was
-    /// planned is what `answer`, `answer_all` or `answer_text` answers to it (`AnswersAsked`), from the session
-    /// that the client was handed in with to the one that it has now. `underway`: each call goes on from there, of
-    /// `answer` if the answer is one that the order's source may give. `same` and `client`: the server and the
-    /// limit stay. `plan`, `plan_all` and `plan_text` plan what is asked, within the client's limit (`planned`, by
-    /// `PlansAsked`). Given up at any time: `stopped` of `ByHand::into_client`
+    /// As `ClientSession::by_hand` says
     pub fn advance(&mut self) -> Result<ClientAdvance, AllocError>
         ensures stepped { IfOk result
             (Steps self.old self.new) }
@@ -209,12 +204,7 @@ impl<'p, S: LocalSource> ByHand<'p, S> {
     ///
     /// # Headline
     ///
-    /// `answered` of the two that advance, by `Responds` of `server/specs/Hands.antt`: the answer to what was
-    /// planned is what `answer`, `answer_all` or `answer_text` answers to it (`AnswersAsked`), from the session
-    /// that the client was handed in with to the one that it has now. `underway`: each call goes on from there, of
-    /// `answer` if the answer is one that the order's source may give. `same` and `client`: the server and the
-    /// limit stay. `plan`, `plan_all` and `plan_text` plan what is asked, within the client's limit (`planned`, by
-    /// `PlansAsked`). Given up at any time: `stopped` of `ByHand::into_client`
+    /// As `ClientSession::by_hand` says
     pub fn ask_and_advance(&mut self) -> Result<ClientAdvance, AllocError>
         ensures stepped { IfOk result
             (AsksAndSteps self.old self.new) }
@@ -248,12 +238,7 @@ impl<'p, S: LocalSource> ByHand<'p, S> {
     ///
     /// # Headline
     ///
-    /// `answered` of the two that advance, by `Responds` of `server/specs/Hands.antt`: the answer to what was
-    /// planned is what `answer`, `answer_all` or `answer_text` answers to it (`AnswersAsked`), from the session
-    /// that the client was handed in with to the one that it has now. `underway`: each call goes on from there, of
-    /// `answer` if the answer is one that the order's source may give. `same` and `client`: the server and the
-    /// limit stay. `plan`, `plan_all` and `plan_text` plan what is asked, within the client's limit (`planned`, by
-    /// `PlansAsked`). Given up at any time: `stopped` of `ByHand::into_client`
+    /// As `ClientSession::by_hand` says
     pub fn answer(
         &mut self,
         number: usize,

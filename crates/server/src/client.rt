@@ -423,10 +423,7 @@ impl<S: Source> ClientSession<S> {
     ///
     /// # Headline
     ///
-    /// `answered`, by `AnswersRequest`: the request is refused for its first fault and the session is as it was; or
-    /// its plan was answered in that session, from `self.old` to `self.new`, with `Headline` (`AnswersPlan` of
-    /// `server/specs/Answers.antt`). Where the client has a limit, the text is the *Limited text*. Out of memory,
-    /// `stopped`, by `StopsRequest`
+    /// As `ClientSession::answer` says
     pub fn answer_with<R: Threads + Wait + Sync>(
         &mut self,
         workers: &Workers<'_, R>,
@@ -449,8 +446,7 @@ impl<S: Source> ClientSession<S> {
     ///
     /// # Headline
     ///
-    /// `answered`, by `AnswersArray`: each value has its refusal or its answer in its place, and all plans were
-    /// answered in that session with `SharedHeadline`; out of memory, `stopped`
+    /// As `ClientSession::answer_all` says
     pub fn answer_all_with<R: Threads + Wait + Sync>(
         &mut self,
         workers: &Workers<'_, R>,
@@ -473,8 +469,7 @@ impl<S: Source> ClientSession<S> {
     ///
     /// # Headline
     ///
-    /// `answered`, by `AnswersText`: the text is no request, or is answered by `AnswersRequest` or `AnswersArray`;
-    /// out of memory, `stopped`
+    /// As `ClientSession::answer_text` says
     pub fn answer_text_with<R: Threads + Wait + Sync>(
         &mut self,
         workers: &Workers<'_, R>,

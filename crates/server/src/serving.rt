@@ -67,9 +67,7 @@ pub fn serve<S: LocalSource, I: Read, W: Write>(
 ///
 /// # Headline
 ///
-/// the one clause, by `Serves` of `serving`: each line of what was read was answered as `ServesLine` says, from one
-/// state of the client to the next. The client's session starts again, and then the line is answered in it as a
-/// text is (`AnswersText`). So the log of the session that a line leaves has exactly what was asked for that line
+/// As `serve` says
 pub fn serve_with<S: Source, R: Threads + Wait + Sync, I: Read, W: Write>(
     alloc: Global,
     client: &mut ClientSession<S>,

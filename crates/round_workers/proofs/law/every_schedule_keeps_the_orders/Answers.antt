@@ -1,5 +1,0 @@
-use Rattle.round_workers.proofs.Cores.{conserved}
-use Rattle.round_workers.proofs.law.every_schedule_keeps_the_orders.Goals as goal
-
-pub returns : goal.returns
-returns c = conserved

@@ -1,4 +1,0 @@
-pub mod Core
-pub mod Desk
-pub mod Round
-pub mod Work

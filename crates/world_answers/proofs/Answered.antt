@@ -1,0 +1,203 @@
+-- Each plan is answered in a session of its world that is new: rounds can be made until nothing is missing.
+use Rattle.std.proofs.Common.{◌≡◌, ◌≢◌, ◌⊎◌, ◌≤◌, ◌<◌, ◌+◌, ℕ, zero, suc, List, [], ◌∷◌, All, map, length, inl, inr, sym, ◌∙◌, ap, subst, refl, Option, Some, None, arith}
+use Rattle.std.specs.Prelude.{slice_get}
+use Rattle.std.proofs.lemmas.List.{length-map}
+use Rattle.std.proofs.lemmas.List.Elements.{All-head, All-tail}
+use Rattle.load_memory.specs.Keys.{KeyOf}
+use Rattle.load_memory.specs.Outcomes.{ItemOf, OutcomeOf}
+use Rattle.load_memory.specs.Replies.{ReplyOf}
+use Rattle.load_queue.specs.Answers.{given, outcomes_of}
+use Rattle.load_queue.specs.Loaders.{LoaderOf}
+use Rattle.load_queue.specs.Orders.{OrderOf}
+use Rattle.csv_source.specs.Tables.{SourceOf, item_of_key}
+use Rattle.gq_bindings.specs.Tree as bindings
+use Rattle.execution.specs.Loads.{Load, read, AnswersMore}
+use Rattle.execution.specs.Program.{Program, tree, chain}
+use Rattle.execution.specs.Front.{front, keys_for}
+use Rattle.execution.specs.Completion.{AnsweredOf}
+use Rattle.execution.specs.Executed.{completed}
+use Rattle.execution.specs.Rounds.{rule_of, may_at, round_orders, orders_from, IsReply, AreReplies, without_failed, direct, RespectsCacheKeys, HoldsItems, AreLimited, HasLoaders}
+use Rattle.execution.specs.Sessions.{Forgot, AskedLoads}
+use Rattle.execution.proofs.Monotone.{exec-whole, front-open}
+use Rattle.execution.proofs.RoundLaws.{rounds-chain}
+use Rattle.gq_check.specs.Plans.{PlanOf}
+use Rattle.gq_check.specs.Planned.{IsPlan}
+use Rattle.plan_program.specs.PlanPrograms.{plan_program}
+use Rattle.load_rounds.specs.Sessions.{StateOf, state_of, rules_of, session_modes, after_step}
+use Rattle.load_rounds.specs.Calls.{RoundRan}
+use Rattle.execution.specs.Executes.{IsTextOf}
+use Rattle.load_rounds.specs.KeyByKey.{item_over}
+use Rattle.gq_resolve.specs.PlanLoads.{plan-loads}
+use Rattle.gq_resolve.specs.Within.{text_within}
+use Rattle.load_rounds.proofs.Following.{InRounds, in-none, in-more, in-all}
+use Rattle.load_rounds.proofs.Holding.{rounds-held}
+use Rattle.load_rounds.proofs.Numbering.{orders-below, orders-loads}
+use Rattle.world.specs.Worlds.{WorldOf, IsLimit, HasSources}
+use Rattle.world_answers.specs.Answers.{may_tell, IsAnsweredAnew}
+use Rattle.world_answers.specs.Services.{ServiceOf}
+use Rattle.world_answers.specs.Sessions.{loaders_over, session_over, IsOver}
+use Rattle.world_answers.proofs.Direct.{over-alike, over-held, answer-direct}
+use Rattle.world_answers.proofs.Loading.{length-over}
+use Rattle.world_answers.proofs.Restarting.{over-new}
+use Rattle.world_answers.proofs.Together.{respects-over, rounds-by-key}
+use Rattle.world_answers.proofs.Logs.{chain-more}
+
+there : {A : Type 0} (xs : List A) (a : ℕ) → a < length xs → (x : A) × (slice_get xs a ≡ Some x)
+there [] a h = absurd (omega (arith, h))
+there (x ∷ xs) zero h = (x, refl)
+there (x ∷ xs) (suc a) h = there xs a (omega (arith, h))
+
+none-or : {A : Type 0} (xs : List A) → (xs ≡ []) ⊎ (xs ≢ [])
+none-or [] = inl refl
+none-or (x ∷ xs) = inr (λ e. cc e)
+
+some-same : {A : Type 0} (x y : A) → Some x ≡ Some y → x ≡ y
+some-same x y e = cc e
+
+none-some : {A : Type 0} (y : A) → None ≡ Some y → ⊥
+none-some y e = cc e
+
+-- ---- the loaders of a world
+
+fits-limit : (limit : Option ℕ) → IsLimit limit → (n : ℕ) → limit ≡ Some n → 0 < n
+fits-limit None fits n e = absurd (none-some n e)
+fits-limit (Some m) fits n e = let same : m ≡ n = some-same m n e in let least = fits.0 in omega (arith, same, least)
+
+module _ (limit : Option ℕ) where
+  limited-over : ((n : ℕ) → limit ≡ Some n → 0 < n) → (lines : List bindings.LoaderOf) (sources : List SourceOf) → AreLimited (map rule_of (loaders_over limit lines sources))
+  limited-over fits [] sources = tt
+  limited-over fits (line ∷ lines) [] = tt
+  limited-over fits (line ∷ lines) (source ∷ sources) = (fits, limited-over fits lines sources)
+
+-- ---- what its sources answer
+
+reply-there : (loaders : List (LoaderOf SourceOf)) (o : OrderOf) → o.loader < length loaders → (r : ReplyOf) × IsReply (may_at may_tell loaders) o r
+reply-there loaders o lt =
+    let l = there loaders o.loader lt in (
+      record { loader = o.loader; keys = o.keys; outcomes = outcomes_of (length o.keys) (given (map (item_of_key l.0.source) o.keys)) },
+      record { loader = refl; keys = refl; answer = given (map (item_of_key l.0.source) o.keys); may_be = (l.0, l.1, refl); outcomes = refl },
+    )
+
+replies-there : (loaders : List (LoaderOf SourceOf)) (os : List OrderOf) → All (λ (o : OrderOf). o.loader < length loaders) os → (rs : List ReplyOf) × AreReplies (may_at may_tell loaders) os rs
+replies-there loaders [] h = ([], tt)
+replies-there loaders (o ∷ os) h =
+    let r = reply-there loaders o (All-head (λ (x : OrderOf). x.loader < length loaders) o os h) in
+    let rest = replies-there loaders os (All-tail (λ (x : OrderOf). x.loader < length loaders) o os h) in
+    (r.0 ∷ rest.0, (r.1, rest.1))
+
+orders-within : (cur : StateOf SourceOf) (loads : List Load) → All (λ (o : OrderOf). o.loader < length cur.loaders) (round_orders (rules_of cur) loads)
+orders-within cur loads =
+    let size = length-map cur.loaders rule_of in
+    let own : All (λ (o : OrderOf). o.loader < length cur.loaders) (orders_from 0 (rules_of cur) loads) =
+    rw (← orders-loads 0 (rules_of cur) loads) (orders-below 0 (length cur.loaders) (rules_of cur) (λ n. keys_for n loads) (omega (arith, size))) in
+    own
+
+round-there : (cur : StateOf SourceOf) (loads : List Load) → (new : StateOf SourceOf) × RoundRan may_tell cur new loads
+round-there cur loads =
+    let r = replies-there cur.loaders (round_orders (rules_of cur) loads) (orders-within cur loads) in
+    (after_step cur (AskedLoads loads r.0), record { replies = r.0; answered = r.1; after = refl })
+
+-- ---- rounds come to an end
+
+module _ (w : WorldOf) (has : HasSources w) where
+  abbrev ls : List (LoaderOf SourceOf)
+  ls = loaders_over w.limit w.bindings.loaders w.sources
+
+  abbrev old : StateOf SourceOf
+  old = state_of (session_over w)
+
+  over : IsOver w (session_over w)
+  over = over-new w has.each
+
+  abbrev item : ℕ → KeyOf → ItemOf
+  item = item_over item_of_key ls
+
+  pub limited : AreLimited (rules_of old)
+  limited = limited-over w.limit (fits-limit w.limit has.fits) w.bindings.loaders w.sources
+
+  respects : RespectsCacheKeys (session_modes old) item
+  respects = respects-over ls (over-alike w (session_over w) over)
+
+  -- says what needs the loaders of the bindings has them
+  pub over-loaders : (p : Program) → HasLoaders (length w.bindings.loaders) p → HasLoaders (length (rules_of old)) p
+  over-loaders p within = λ R l one.
+      let below = within R l one in
+      let size = length-map ls rule_of in
+      let own : length ls ≡ length w.bindings.loaders = length-over w.limit w.bindings.loaders w.sources has.each in
+      omega (arith, below, size, own)
+
+  module _ (p : Program) (own : HasLoaders (length (rules_of old)) p) where
+    few : (cur : StateOf SourceOf) (n : ℕ) → InRounds may_tell old cur p n → n ≤ chain p (direct item)
+    few cur n is =
+        let at : HoldsItems (session_modes old) item cur.memory =
+        rounds-held item (rules_of old) p respects (without_failed old.memory) is.log cur.memory (over-held w (session_over w) over (session_modes old) item) (rounds-by-key ls (rules_of old) p (without_failed old.memory) is.log cur.memory is.made.rounds) in
+        let more : AnswersMore (read (session_modes old) cur.memory) (direct item) = λ load o f. ap (λ (x : OutcomeOf). Some x) (sym (at load.loader load.key o f)) in
+        let a : length is.log ≤ chain p (read (session_modes old) cur.memory) = rounds-chain (may_at may_tell ls) (rules_of old) p (without_failed old.memory) is.log cur.memory limited own is.made.rounds in
+        let b : chain p (read (session_modes old) cur.memory) ≤ chain p (direct item) = chain-more p (read (session_modes old) cur.memory) (direct item) more in
+        let c = is.counted in
+        omega (arith, a, b, c)
+
+    -- nothing is missing any more
+    pub record Done : Type 0 where
+      pub last : StateOf SourceOf
+      pub rounds : ℕ
+      pub is : InRounds may_tell old last p rounds
+      pub none : front (session_modes last) p last.memory ≡ []
+
+    done : (left : ℕ) (cur : StateOf SourceOf) (n : ℕ) → InRounds may_tell old cur p n → chain p (direct item) < n + left → Done
+    done zero cur n is lt = let most = few cur n is in absurd (omega (arith, lt, most))
+    done (suc left) cur n is lt = go (none-or (front (session_modes cur) p cur.memory)) (λ new i. done left new (n + 1) i (omega (arith, lt)))
+      where
+        go : (front (session_modes cur) p cur.memory ≡ []) ⊎ (front (session_modes cur) p cur.memory ≢ []) → ((new : StateOf SourceOf) → InRounds may_tell old new p (n + 1) → Done) → Done
+        go (inl e) rest = record { last = cur; rounds = n; is = is; none = e }
+        go (inr some) rest =
+            let r = round-there cur (front (session_modes cur) p cur.memory) in
+            rest r.0 (in-more may_tell old cur r.0 p n (n + 1) is refl some r.1)
+
+    pub rounds-end : Done
+    rounds-end = done (suc (chain p (direct item))) (after_step old Forgot) 0 (in-none may_tell old (after_step old Forgot) p refl) (omega arith)
+
+-- ---- a plan is answered
+
+-- the text of an execution over what is known
+abbrev pub text_over : (AnsweredOf → List ℕ) → Program → StateOf SourceOf → List ℕ
+text_over text_of p last = text_of (completed (tree p (read (session_modes last) last.memory)))
+
+pub text-reported : (text_of : AnsweredOf → List ℕ) (p : Program) (last : StateOf SourceOf) → front (session_modes last) p last.memory ≡ [] → IsTextOf text_of p (read (session_modes last) last.memory) (text_over text_of p last)
+text-reported text_of p last none = record {
+  answered = completed (tree p (read (session_modes last) last.memory));
+  executed = exec-whole p (read (session_modes last) last.memory) ((front-open (session_modes last) p last.memory).0 none);
+  report = refl;
+}
+
+-- a plan over the bindings of a world needs no other loaders
+pub plan-within : (w : WorldOf) (plan : PlanOf) → plan.bindings ≡ w.bindings → HasLoaders (length w.bindings.loaders) (plan_program plan)
+plan-within w plan bound = subst (λ (b : bindings.BindingsOf). HasLoaders (length b.loaders) (plan_program plan)) bound (plan-loads plan)
+
+module _ (s : ServiceOf) (plan : PlanOf) (has : HasSources s.world) (bound : plan.bindings ≡ s.world.bindings) where
+  abbrev w : WorldOf
+  w = s.world
+
+  abbrev text_of : AnsweredOf → List ℕ
+  text_of = text_within s.most
+
+  abbrev p : Program
+  p = plan_program plan
+
+  enough : length plan.bindings.loaders ≤ length (loaders_over w.limit w.bindings.loaders w.sources)
+  enough =
+      let a = length-over w.limit w.bindings.loaders w.sources has.each in
+      let b : length plan.bindings.loaders ≡ length w.bindings.loaders = ap (λ (x : bindings.BindingsOf). length x.loaders) bound in
+      omega (arith, a, b)
+
+  pub plan-answered : IsPlan plan → (text : List ℕ) × IsAnsweredAnew s plan text
+  plan-answered valid =
+      let d = rounds-end w has p (over-loaders w has p (plan-within w plan bound)) in (
+        text_over text_of p d.last,
+        answer-direct s d.last plan (text_over text_of p d.last) d.rounds (record {
+          valid = valid;
+          begun = session_over w;
+          over = over-new w has.each;
+          headline = in-all may_tell (state_of (session_over w)) d.last p d.rounds (length plan.bindings.loaders) text_of (text_over text_of p d.last) d.is (limited w has) (plan-loads plan) enough d.none (text-reported text_of p d.last d.none);
+        }),
+      )

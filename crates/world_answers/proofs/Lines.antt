@@ -1,0 +1,269 @@
+-- Each line has an answer.
+use Rattle.std.proofs.Common.{◌≡◌, ◌≢◌, ◌<◌, ◌≤◌, ◌^◌, length, arith, cond, refl, sym, subst, ◌∙◌, ℕ, Bool, true, false, List, [], ◌∷◌, map, ◌⊎◌, Option, Some, None, Result, Ok, Err, inl, inr, IsUtf8}
+use Rattle.std.specs.Option.{option_map, option_and_then}
+use Rattle.std.specs.Prelude.{find, nat_lt, nat_le}
+use Rattle.std.specs.Str.{is_utf8}
+use Rattle.std.proofs.lemmas.Bool.{cases_Bool, true≢false}
+use Rattle.std.proofs.lemmas.Str.{IsUtf8-from_is_utf8, is_utf8-from_IsUtf8}
+use Rattle.serde_json.specs.Data.{Data}
+use Rattle.serde_json.specs.Find.{as_array}
+use Rattle.serde_json.specs.Read.{read}
+use Rattle.gq_parser.specs.declared.fault.ParseFault.{ParseFault}
+use Rattle.gq_parser.specs.declared.fault.ParseFault.TheVariants as parse
+use Rattle.gq_parser.specs.Fault.{IsDocumentOf}
+use Rattle.gq_parser.specs.Tree.{Document, VariableDefinition, Operation}
+use Rattle.schema_syntax.specs.Tree.{Definition}
+use Rattle.gq_schema.specs.Types.{tree_of}
+use Rattle.gq_variables.specs.Variables.{VariableOf}
+use Rattle.gq_variables.specs.Values as values
+use Rattle.rules_parts.specs.Listing.{parts_of}
+use Rattle.gq_check.specs.declared.fault.CheckFault.TheVariants as check
+use Rattle.gq_check.specs.declared.fault.PrepareFault.TheVariants as prepare
+use Rattle.gq_check.specs.Plans.{PlanOf}
+use Rattle.gq_check.specs.Prepared.{PreparedOf, FaultOf as Unprepared, no_such_operation, operation_needed, variables_not_object, bad_variable, is_operation, found_operation, chosen_operation, with_variables, prepared_operation, prepared}
+use Rattle.gq_check.specs.Verdict.{FaultOf, Breaks, TooComplex, TooDeep, NotServed, IsVerdict, IsValid}
+use Rattle.load_rounds.specs.SharedRounds.{ReportOf}
+use Rattle.request_line.specs.Requests.{RequestOf, asked, asked_each, most_requests, IsRequest, AreRequests, IsNoRequest}
+use Rattle.plan_requests.specs.declared.fault.RequestFault.{RequestFault}
+use Rattle.plan_requests.specs.declared.fault.RequestFault.TheVariants as fault
+use Rattle.plan_requests.specs.Requests.{IsRequestFault, is_want_of_memory, request_message, request_place}
+use Rattle.world.specs.Worlds.{HasSources}
+use Rattle.plan_requests.specs.Servers.{ServerOf}
+use Rattle.plan_requests.specs.Planning.{values_of, refusal_text, not_a_request, PlanValues}
+use Rattle.world_answers.specs.Answers.{IsAnsweredAnew, AnswersRequest, faulty, planned}
+use Rattle.server.specs.Arrays.{array_text, in_places}
+use Rattle.world_answers.specs.Arrays.{AnswersArray}
+use Rattle.world_answers.specs.Lines.{IsAnswer, no_request, request, several}
+use Rattle.world_answers.specs.Services.{ServiceOf, server_in}
+use Rattle.plan_requests.proofs.Values.{plans-bound}
+use Rattle.world_answers.proofs.Values.{array-answered}
+use Rattle.world_answers.specs.Requests.{IsPlanFor, IsRefusedOrAnswered, invalid, unprepared, answered}
+use Rattle.world_answers.proofs.Telling.{outcome-there}
+use Rattle.world_answers.proofs.Documents.{IsRead, text-read}
+use Rattle.world_answers.proofs.Each.{Each, Maybe, each-find}
+use Rattle.world_answers.proofs.Shared.{plans-answered}
+use Rattle.world_answers.proofs.Names.{DocumentNames}
+use Rattle.world_answers.proofs.Written.{IsWritten, document-written}
+use Rattle.world_answers.proofs.Strings.{IsSaid, said, said-name}
+use Rattle.world_answers.proofs.Json.{Fits, RequestFits, request-fits, requests-fit}
+use Rattle.world_answers.proofs.Parts.{VariableNames, OperationNames, schema-said, parts-named}
+use Rattle.world_answers.proofs.Rules.{FaultSaid, verdict-said}
+
+-- ---- what can't be prepared has a name that a string says
+
+abbrev PrepareSaid : Unprepared → Type 0
+PrepareSaid (no_such_operation n) = IsSaid n
+PrepareSaid operation_needed = Unit {0}
+PrepareSaid variables_not_object = Unit {0}
+PrepareSaid (bad_variable n) = IsSaid n
+
+abbrev OperationSaid : Result Operation Unprepared → Type 0
+OperationSaid (Ok o) = OperationNames o
+OperationSaid (Err f) = PrepareSaid f
+
+abbrev ValuesSaid : Result (List VariableOf) values.FaultOf → Type 0
+ValuesSaid (Ok vs) = Unit {0}
+ValuesSaid (Err values.not_object) = Unit {0}
+ValuesSaid (Err (values.bad_variable n)) = IsSaid n
+
+abbrev ResultSaid : Result PreparedOf Unprepared → Type 0
+ResultSaid (Ok p) = Unit {0}
+ResultSaid (Err f) = PrepareSaid f
+
+found-said : (n : List ℕ) (o : Option Operation) → Maybe OperationNames o → IsSaid n → OperationSaid (found_operation n o)
+found-said n None h said = said
+found-said n (Some o) h said = h
+
+chosen-said : (os : List Operation) (name : Option (List ℕ)) → Each OperationNames os → Maybe IsSaid name → OperationSaid (chosen_operation os name)
+chosen-said os (Some n) h said = found-said n (find (is_operation n) os) (each-find OperationNames (is_operation n) os h) said
+chosen-said [] None h said = tt
+chosen-said (o ∷ []) None h said = h.0
+chosen-said (o ∷ p ∷ os) None h said = tt
+
+before-said : (v : VariableOf) (r : Result (List VariableOf) values.FaultOf) → ValuesSaid r → ValuesSaid (values.before v r)
+before-said v (Ok vs) h = tt
+before-said v (Err values.not_object) h = tt
+before-said v (Err (values.bad_variable n)) h = h
+
+and-said : (n : List ℕ) (x : values.ValueOf) (r : Result (List VariableOf) values.FaultOf) → IsSaid n → ValuesSaid r → ValuesSaid (values.and_then n x r)
+and-said n (values.a_value i) r said h = before-said (record { name = n; value = i }) r h
+and-said n values.no_value r said h = h
+and-said n values.bad_value r said h = said
+
+module _ (defs : List Definition) (given : Data) where
+  values-said : (vs : List VariableDefinition) → Each VariableNames vs → ValuesSaid (values.values_of defs given vs)
+  values-said [] h = tt
+  values-said (v ∷ vs) h = and-said v.name (values.value_of defs given v) (values.values_of defs given vs) (said-name h.0.0) (values-said vs h.1)
+
+  coerced-said : (vs : List VariableDefinition) → Each VariableNames vs → ValuesSaid (values.coerced_variables defs vs given)
+  coerced-said vs h = go (values.gives_values given)
+    where
+      go : (b : Bool) → ValuesSaid (cond b (values.values_of defs given vs) (Err values.not_object))
+      go true = values-said vs h
+      go false = tt
+
+  with-said : (o : Operation) (r : Result (List VariableOf) values.FaultOf) → ValuesSaid r → ResultSaid (with_variables o r)
+  with-said o (Ok vs) h = tt
+  with-said o (Err values.not_object) h = tt
+  with-said o (Err (values.bad_variable n)) h = h
+
+  operation-said : (r : Result Operation Unprepared) → OperationSaid r → ResultSaid (prepared_operation defs given r)
+  operation-said (Ok o) h = with-said o (values.coerced_variables defs o.variables given) (coerced-said o.variables h.1)
+  operation-said (Err f) h = h
+
+  prepared-said : (os : List Operation) (name : Option (List ℕ)) → Each OperationNames os → Maybe IsSaid name → ResultSaid (prepared defs os name given)
+  prepared-said os name h said = operation-said (chosen_operation os name) (chosen-said os name h said)
+
+-- ---- a request
+
+some-fault : (f : ParseFault) → f ≢ parse.NoMemory → is_want_of_memory (fault.Parse f) ≡ false
+some-fault (parse.Lex f) some = refl
+some-fault (parse.Unexpected p) some = refl
+some-fault (parse.UnexpectedEnd p) some = refl
+some-fault (parse.TooDeep p) some = refl
+some-fault parse.NoMemory some = absurd (some refl)
+
+module _ (s : ServiceOf) (has : HasSources s.world) (r : RequestOf) (called : Maybe IsSaid r.operation_name) where
+  abbrev HasAnswer : Type 0
+  HasAnswer = (text : List ℕ) × AnswersRequest s r text
+
+  abbrev defs' : List Definition
+  defs' = tree_of s.world.definitions
+
+  at-fault : (f : RequestFault) → is_want_of_memory f ≡ false → IsRequestFault defs' r.query r.operation_name (values_of r.variables) f → HasAnswer
+  at-fault f some is = (refusal_text (request_message f) (request_place f), faulty {fault = f} (record { reported = some; faulty = is }) refl)
+
+  module _ (d : Document) (says : IsDocumentOf r.query d) where
+    of-invalid : (f : FaultOf) → FaultSaid f → IsVerdict defs' d (Some f) → HasAnswer
+    of-invalid (Breaks rule n p) said is =
+        at-fault (fault.Check (check.Rule rule said.0 p)) refl (record { document = d; says = says; fault = subst (λ m. IsVerdict defs' d (Some (Breaks rule m p))) (sym said.1) is })
+    of-invalid TooComplex said is = at-fault (fault.Check check.TooComplex) refl (record { document = d; says = says; fault = is })
+    of-invalid (TooDeep p) said is = at-fault (fault.Check (check.TooDeep p)) refl (record { document = d; says = says; fault = is })
+    of-invalid (NotServed n p) said is =
+        at-fault (fault.Check (check.NotServed said.0 p)) refl (record { document = d; says = says; fault = subst (λ m. IsVerdict defs' d (Some (NotServed m p))) (sym said.1) is })
+
+    abbrev want : Result PreparedOf Unprepared
+    want = prepared defs' d.operations r.operation_name (values_of r.variables)
+
+    of-unprepared : (f : Unprepared) → PrepareSaid f → IsValid defs' d → want ≡ Err f → HasAnswer
+    of-unprepared (no_such_operation n) said valid e =
+        at-fault (fault.Prepare (prepare.NoSuchOperation said.0)) refl (record { document = d; says = says; valid = valid; fault = subst (λ m. want ≡ Err (no_such_operation m)) (sym said.1) e })
+    of-unprepared operation_needed said valid e = at-fault (fault.Prepare prepare.OperationNeeded) refl (record { document = d; says = says; valid = valid; fault = e })
+    of-unprepared variables_not_object said valid e = at-fault (fault.Prepare prepare.VariablesNotObject) refl (record { document = d; says = says; valid = valid; fault = e })
+    of-unprepared (bad_variable n) said valid e =
+        at-fault (fault.Prepare (prepare.BadVariable n)) refl (record { document = d; says = says; valid = valid; fault = e })
+
+    of-plan : (plan : PlanOf) (text : List ℕ) → IsValid defs' d → IsPlanFor s.world d r.operation_name (values_of r.variables) plan → IsAnsweredAnew s plan text → HasAnswer
+    of-plan plan text valid is anew =
+        (text, planned {plan = plan} (record { definitions = is.definitions; bindings = is.bindings; planned = record { document = d; says = says; valid = valid; fragments = is.fragments; prepared = is.prepares } }) anew)
+
+    of-outcome : DocumentNames IsWritten d → IsRefusedOrAnswered s d r.operation_name (values_of r.variables) → HasAnswer
+    of-outcome names (invalid f is) = of-invalid f (verdict-said (parts_of defs' d) (parts-named defs' d (schema-said s.world.definitions) names) (Some f) is) is
+    of-outcome names (unprepared f valid e) = of-unprepared f (subst ResultSaid e (prepared-said defs' (values_of r.variables) d.operations r.operation_name names.operations called)) valid e
+    of-outcome names (answered {plan = plan} {text = text} valid is anew) = of-plan plan text valid is anew
+
+  of-query : IsRead r.query → HasAnswer
+  of-query (inl (d, says)) = of-outcome d says (document-written r.query d says) (outcome-there s has d r.operation_name (values_of r.variables))
+  of-query (inr (f, some, is)) = at-fault (fault.Parse f) (some-fault f some) is
+
+  pub request-answered : (text : List ℕ) × AnswersRequest s r text
+  request-answered = of-query (text-read r.query)
+
+-- ---- a line
+
+none-some : {X : Type 0} (x : X) → None ≡ Some x → ⊥
+none-some x e = cc e
+
+some-one : {X : Type 0} (x y : X) → Some x ≡ Some y → x ≡ y
+some-one x y e = cc e
+
+in_range : (low high n : ℕ) → ((low < n) × (n ≤ high)) ⊎ ((low < n) × (n ≤ high) → ⊥)
+in_range low high n = go (nat_lt low n) (nat_le n high) refl refl
+  where
+    go : (a b : Bool) → nat_lt low n ≡ a → nat_le n high ≡ b → ((low < n) × (n ≤ high)) ⊎ ((low < n) × (n ≤ high) → ⊥)
+    go true true e d = inl (grind arith, grind arith)
+    go false b e d = inr (λ h. grind arith)
+    go true false e d = inr (λ h. grind arith)
+
+-- the values of an array, each refused or planned
+record Values (s : ServerOf) (values : List (Option RequestOf)) : Type 0 where
+  refusals : List (Option (List ℕ))
+  plans : List PlanOf
+  are : PlanValues s values refusals plans
+
+module _ (s : ServiceOf) (has : HasSources s.world) where
+  abbrev ValueSaid : RequestOf → Type 0
+  ValueSaid r = Maybe IsSaid r.operation_name
+
+  next-value : (r : RequestOf) (text : List ℕ) (values : List (Option RequestOf)) → AnswersRequest s r text → Values (server_in s) values → Values (server_in s) (Some r ∷ values)
+  next-value r text values (faulty {fault = f} h e) rest = record { refusals = Some text ∷ rest.refusals; plans = rest.plans; are = (record { fault = f; faulty = h; report = e }, rest.are) }
+  next-value r text values (planned {plan = p} h anew) rest = record { refusals = None ∷ rest.refusals; plans = p ∷ rest.plans; are = (h, rest.are) }
+
+  values-there : (values : List (Option RequestOf)) → Each (Maybe ValueSaid) values → Values (server_in s) values
+  values-there [] said = record { refusals = []; plans = []; are = tt }
+  values-there (None ∷ values) said = let rest = values-there values said.1 in record { refusals = Some not_a_request ∷ rest.refusals; plans = rest.plans; are = (refl, rest.are) }
+  values-there (Some r ∷ values) said = let a = request-answered s has r said.0 in next-value r a.0 values a.1 (values-there values said.1)
+
+  array-there : (values : List (Option RequestOf)) → Each (Maybe ValueSaid) values → (text : List ℕ) × AnswersArray s values text
+  array-there values said =
+      let v = values-there values said in
+      let a = plans-answered s has v.plans (plans-bound (server_in s) values v.refusals v.plans v.are) in
+      let text = array_text (in_places v.refusals (map (λ (t : ReportOf). t.text) a.1)) in
+      (text, array-answered s values v.refusals v.plans a.1 a.0 text v.are a.2 refl)
+
+module _ (s : ServiceOf) (has : HasSources s.world) (line : List ℕ) where
+  abbrev Answered : Type 0
+  Answered = (text : List ℕ) × IsAnswer s line text
+
+  refused : IsNoRequest line → Answered
+  refused none = (not_a_request, no_request none refl)
+
+  abbrev array_in : Option (List (Option RequestOf))
+  array_in = option_map asked_each (option_and_then as_array (read line))
+
+  module _ (one : (r : RequestOf) → IsRequest line r → Maybe IsSaid r.operation_name) (each : (values : List (Option RequestOf)) → AreRequests line values → Each (Maybe (ValueSaid s has)) values) where
+    of-values : IsUtf8 line → ((r : RequestOf) → IsRequest line r → ⊥) → (values : List (Option RequestOf)) → array_in ≡ Some values → Answered
+    of-values utf8 none values e = elim (in_range 0 most_requests (length values)) [
+      | inl within ↦
+          let are : AreRequests line values = record { text = utf8; values = e; some = within.0; few = within.1 } in
+          let a = array-there s has values (each values are) in
+          (a.0, several {values = values} are a.1)
+      | inr outside ↦ refused (record {
+        not_one = none;
+        not_several = λ others are. let same : others ≡ values = some-one others values (sym are.values ∙ e) in outside (rw same at are.some, rw same at are.few);
+      })
+    ]
+
+    of-array : IsUtf8 line → ((r : RequestOf) → IsRequest line r → ⊥) → (o : Option (List (Option RequestOf))) → array_in ≡ o → Answered
+    of-array utf8 none None e = refused (record { not_one = none; not_several = λ values are. none-some values (sym e ∙ are.values) })
+    of-array utf8 none (Some values) e = of-values utf8 none values e
+
+    of-reading : IsUtf8 line → (o : Option RequestOf) → option_and_then asked (read line) ≡ o → Answered
+    of-reading utf8 None e = of-array utf8 (λ r is. none-some r (sym e ∙ is.members)) array_in refl
+    of-reading utf8 (Some r) e =
+        let is : IsRequest line r = record { text = utf8; members = e } in
+        let a = request-answered s has r (one r is) in
+        (a.0, request {r = r} is a.1)
+
+    line-answered : Answered
+    line-answered = elim (cases_Bool (is_utf8 line)) [
+      | inl text ↦ of-reading (IsUtf8-from_is_utf8 line text) (option_and_then asked (read line)) refl
+      | inr other ↦ refused (record {
+        not_one = λ r is. true≢false (sym (is_utf8-from_IsUtf8 line is.text) ∙ other);
+        not_several = λ values are. true≢false (sym (is_utf8-from_IsUtf8 line are.text) ∙ other);
+      })
+    ]
+
+  -- the name that it asks for, as a string
+  name-said : (name : Option (List ℕ)) → length line < 2 ^ 63 → Maybe (Fits (length line)) name → Maybe IsSaid name
+  name-said None short h = tt
+  name-said (Some n) short h = let le = h.short in said n (omega (arith, short, le)) h.utf8
+
+  names-said : (values : List (Option RequestOf)) → length line < 2 ^ 63 → Each (Maybe (RequestFits (length line))) values → Each (Maybe (ValueSaid s has)) values
+  names-said [] short h = tt
+  names-said (None ∷ values) short h = (tt, names-said values short h.1)
+  names-said (Some r ∷ values) short h = (name-said r.operation_name short h.0, names-said values short h.1)
+
+  pub line-there : length line < 2 ^ 63 → (text : List ℕ) × IsAnswer s line text
+  line-there short = line-answered (λ r is. name-said r.operation_name short (request-fits (length line) line r (omega arith) is))
+      (λ values are. names-said values short (requests-fit (length line) line values (omega arith) are))

@@ -1,0 +1,5 @@
+use Rattle.world_answers.proofs.Answered.{plan-answered}
+use Rattle.world_answers.proofs.existence.plans_are_answered.Goals as goal
+
+pub returns : goal.returns
+returns c = λ s plan has bound valid. plan-answered s plan has bound valid

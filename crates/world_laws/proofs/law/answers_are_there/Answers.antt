@@ -1,8 +1,0 @@
-use Rattle.world_laws.proofs.Logs.{direct-some, log-there}
-use Rattle.world_laws.proofs.law.answers_are_there.Goals as goal
-
-pub returns-clause-direct : goal.returns-clause-direct
-returns-clause-direct c = λ p item. direct-some item p
-
-pub returns-clause-log : goal.returns-clause-log
-returns-clause-log c = λ item rules p M by. log-there item rules p by.alike M by.held by.limited by.loaders

@@ -1,5 +1,0 @@
-use Rattle.world_laws.proofs.Verdicts.{verdict-there}
-use Rattle.world_laws.proofs.law.documents_have_verdicts.Goals as goal
-
-pub returns : goal.returns
-returns c = λ defs d. verdict-there defs d

@@ -1,5 +1,0 @@
-use Rattle.world_laws.proofs.Answered.{plan-answered}
-use Rattle.world_laws.proofs.law.plans_are_answered.Goals as goal
-
-pub returns : goal.returns
-returns c = λ s plan has bound valid. plan-answered s plan has bound valid
