@@ -25,6 +25,7 @@ FILES = CASES / "files"
 INPUT = "standard-input"
 MOST_SECONDS = 120
 MOST_WAIT = 20  # seconds until an answer is there
+MOST_LINES = 20_000  # that a run is given whose threads are counted
 NO_REQUEST = b'{"errors":[{"message":"not a request"}]}'
 
 
@@ -370,6 +371,36 @@ def report_turns(case: Case) -> str:
         process = subprocess.Popen([program(), *run.words], cwd=folder, stdin=pipe, stdout=pipe, stderr=subprocess.STDOUT, bufsize=0)
         told = "".join(in_turn(process, as_bytes(case.text).split(b"\n"), folder / "trace"))
         return f"{told}status {process.wait(MOST_SECONDS)}"
+
+
+@asks(r"most threads with \d+ workers")
+def report_threads(case: Case) -> str:
+    """The most threads that a run is seen to have while it answers the line again and again: it is looked at until it has one for each
+    worker, and then as often again."""
+    workers = int(case.asked.split()[3])
+    words = sample_words("--max-batch", "1", "--workers", str(workers))
+    line = as_bytes(case.text) + b"\n"
+    with laid(Run(words)) as (folder, _), TemporaryDirectory() as room:
+        lines = Path(room) / "lines"
+        lines.write_bytes(MOST_LINES * line)
+        with lines.open("rb") as given:
+            process = subprocess.Popen([program(), *words], cwd=folder, stdin=given, stdout=subprocess.DEVNULL, stderr=subprocess.DEVNULL)
+        try:
+            seen = [0]
+            while max(seen) < workers and process.poll() is None:
+                seen.append(threads_of(process.pid))
+            seen += [threads_of(process.pid) for _ in seen]
+        finally:
+            process.kill()
+            process.wait()
+        return str(max(seen))
+
+
+def threads_of(process: int) -> int:
+    try:
+        return len(os.listdir(f"/proc/{process}/task"))
+    except FileNotFoundError:
+        return 0
 
 
 # ---- request lines
