@@ -13,16 +13,18 @@
 #include <stdlib.h>
 #include <string.h>
 
-/* NEED_ROOM is a code beside those of rz_next: a round is out that needs as many words as word 1 says; `look` reads it then. */
-enum { HEAD = 8, NEED_ROOM = 3, MOST_ARGUMENTS = 4 };
+/* Codes beside those of the library. NEED_ROOM: a round is out that needs as many words as word 1 says; `look` reads it then. TEXT_TOO_LONG: a
+   text is longer than a string may be. Where an answer took more than KEPT_BYTES, the rest is given back. */
+enum { HEAD = 8, NEED_ROOM = 3, TEXT_TOO_LONG = -1000, MOST_ARGUMENTS = 4, KEPT_BYTES = 1 << 20 };
 
-/* What one environment (Node's main thread, or a worker) shares with its JavaScript. `bytes` is where texts are put together and taken apart. */
+/* What one environment (Node's main thread, or a worker) shares with its JavaScript. `bytes` is where texts are put together and taken apart.
+   `most_units` is how many UTF-16 units a string may have. */
 typedef struct {
     napi_ref array;
     uint32_t *words;
     size_t words_len;
     uint8_t *bytes;
-    size_t room;
+    size_t room, most_units;
 } border;
 
 /* A server or a client. `once`: the client is made to forget all that it knows as soon as its answer is read. `loads`: it was begun to load
@@ -68,6 +70,15 @@ static bool make_room(border *border, size_t bytes) {
     return true;
 }
 
+/* Gives back what a large answer took. */
+static void give_back(border *border) {
+    if (border->room <= KEPT_BYTES) return;
+    void *at = realloc(border->bytes, KEPT_BYTES);
+    if (!at) return;
+    border->bytes = at;
+    border->room = KEPT_BYTES;
+}
+
 /* Writes a string to the bytes from a place on, as UTF-8. */
 static bool put_text(napi_env env, border *border, napi_value value, size_t from, size_t *len) {
     size_t units, room = border->room - from;
@@ -105,17 +116,21 @@ static bool is_ascii(const uint8_t *bytes, size_t len) {
     return all < 0x80;
 }
 
-/* The first bytes as a string, and the ends of its texts in UTF-16 units. */
+static size_t units_of(const uint8_t *bytes, size_t len) {
+    size_t units = 0;
+    for (size_t i = 0; i < len; i++) units += (bytes[i] & 0xC0) == 0x80 ? 0 : bytes[i] < 0xF0 ? 1 : 2;
+    return units;
+}
+
+/* The first bytes as a string, and the ends of its texts in UTF-16 units; or TEXT_TOO_LONG. */
 static napi_value string_of(napi_env env, border *border, size_t len, uint32_t *ends, size_t count) {
-    napi_value string = NULL;
+    napi_value string;
     const char *bytes = (const char *)border->bytes;
-    if (is_ascii(border->bytes, len)) {
-        napi_create_string_latin1(env, bytes, len, &string);
-    } else {
-        to_units(border->bytes, ends, count);
-        napi_create_string_utf8(env, bytes, len, &string);
-    }
-    return string;
+    if (len > border->most_units && units_of(border->bytes, len) > border->most_units) return tell(border, TEXT_TOO_LONG);
+    bool ascii = is_ascii(border->bytes, len);
+    if (!ascii) to_units(border->bytes, ends, count);
+    napi_status status = (ascii ? napi_create_string_latin1 : napi_create_string_utf8)(env, bytes, len, &string);
+    return status == napi_ok ? string : tell(border, TEXT_TOO_LONG);
 }
 
 /* ---- The steps of a request, or of keys that are loaded. */
@@ -147,7 +162,9 @@ static napi_value read_answer(napi_env env, border *border, held *client, const 
     if (code < 0) return tell(border, code);
     border->words[1] = client->once ? (uint32_t)rz_restart(&client->handle) : RZ_DONE;
     tell(border, RZ_DONE);
-    return string_of(env, border, sizes->answer, NULL, 0);
+    napi_value answer = string_of(env, border, sizes->answer, NULL, 0);
+    give_back(border);
+    return answer;
 }
 
 /* The outcomes of loaded keys. The head has RZ_DONE and the numbers of keys, rows, texts and faults. After it come for each key how many rows it
@@ -172,7 +189,9 @@ static napi_value read_outcomes(napi_env env, border *border, rz_handle *client)
     words[3] = (uint32_t)sizes.texts;
     words[4] = (uint32_t)sizes.faults;
     tell(border, RZ_DONE);
-    return string_of(env, border, len, words + ends, texts);
+    napi_value outcomes = string_of(env, border, len, words + ends, texts);
+    give_back(border);
+    return outcomes;
 }
 
 static napi_value read_state(napi_env env, border *border, held *client, int32_t code) {
@@ -262,6 +281,7 @@ static napi_value fail(napi_env env, napi_callback_info info) {
 static napi_value cancel(napi_env env, napi_callback_info info) {
     call call;
     if (!arguments(env, info, &call, true)) return refused(env, "cancel");
+    give_back(call.border);
     return tell(call.border, rz_cancel(&call.held->handle));
 }
 
@@ -477,6 +497,24 @@ static napi_value share(napi_env env, napi_callback_info info) {
     return NULL;
 }
 
+/* limitTexts(units): no string has more UTF-16 units than this. */
+static napi_value limit_texts(napi_env env, napi_callback_info info) {
+    call call;
+    uint32_t most;
+    if (!arguments(env, info, &call, false) || napi_get_value_uint32(env, call.values[0], &most) != napi_ok) return refused(env, "limitTexts");
+    call.border->most_units = most;
+    return NULL;
+}
+
+/* room(): how many bytes the buffer of texts has. */
+static napi_value room(napi_env env, napi_callback_info info) {
+    call call;
+    napi_value number = NULL;
+    if (!arguments(env, info, &call, false)) return refused(env, "room");
+    napi_create_double(env, (double)call.border->room, &number);
+    return number;
+}
+
 static void free_border(napi_env env, void *data, void *hint) {
     (void)env, (void)hint;
     border *border = data;
@@ -488,12 +526,15 @@ NAPI_MODULE_INIT() {
     static const struct {
         const char *name;
         napi_callback call;
-    } calls[] = {{"share", share}, {"version", version}, {"codeName", code_name}, {"codeText", code_text}, {"open", open_server},
-                 {"loaders", read_loaders}, {"client", make_client}, {"close", close_held}, {"begin", begin}, {"beginRequest", begin_request},
-                 {"beginLoad", begin_load}, {"look", look}, {"reply", reply}, {"fail", fail}, {"cancel", cancel}, {"prime", prime}, {"clear", clear},
-                 {"clearAll", clear_all}, {"restart", restart}, {"limitAnswers", limit_answers}, {"log", read_log}};
+    } calls[] = {{"share", share}, {"limitTexts", limit_texts}, {"room", room}, {"version", version}, {"codeName", code_name},
+                 {"codeText", code_text}, {"open", open_server}, {"loaders", read_loaders}, {"client", make_client}, {"close", close_held},
+                 {"begin", begin}, {"beginRequest", begin_request}, {"beginLoad", begin_load}, {"look", look}, {"reply", reply}, {"fail", fail},
+                 {"cancel", cancel}, {"prime", prime}, {"clear", clear}, {"clearAll", clear_all}, {"restart", restart},
+                 {"limitAnswers", limit_answers}, {"log", read_log}};
+    if (rz_version() < RZ_VERSION || rz_version() >> 16 != RZ_VERSION >> 16) return refused(env, "the library is older or newer than rudzkvano.h");
     border *border = calloc(1, sizeof *border);
     if (!border || !make_room(border, 4096)) return refused(env, "out of memory");
+    border->most_units = INT32_MAX;
     if (napi_set_instance_data(env, border, free_border, NULL) != napi_ok) return refused(env, "out of memory");
     for (size_t i = 0; i < sizeof calls / sizeof *calls; i++) {
         napi_value function;

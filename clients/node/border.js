@@ -1,17 +1,24 @@
 // The JavaScript side of the border that addon.c describes: the words, which both sides hold.
 'use strict';
 
-const addon = require('./out/rudzkvano.node');
+const { constants } = require('node:buffer');
+const { loadAddon } = require('./load_addon.js');
+const { LoadFault, readFault } = require('./faults.js');
 
-/** How many words stand before the others. */
-const HEAD = 8;
+const addon = loadAddon();
+
+/** How many words stand before the others, how many there are at first, and how many stay where a request needed more. */
+const [HEAD, FIRST_WORDS, KEPT_WORDS] = [8, 1 << 12, 1 << 16];
 /** The codes of a step, where it isn't refused. */
 const [DONE, ROUND, WAITING, NEED_ROOM] = [0, 1, 2, 3];
+/** The code of the addon for a text that is longer than a string may be. */
+const TEXT_TOO_LONG = -1000;
 /** In the place of a number of rows: the batch failed, and above it: the key has a fault. In the place of a number of columns: those of the row before. */
 const [BATCH_FAULT, SAME_COLUMNS] = [0xfffffffe, 0xffffffff];
 
-const border = { words: new Uint32Array(4096) };
+const border = { words: new Uint32Array(FIRST_WORDS) };
 addon.share(border.words);
+addon.limitTexts(constants.MAX_STRING_LENGTH);
 
 /** A call of the library was refused. */
 class RudzkvanoError extends Error {
@@ -22,13 +29,10 @@ class RudzkvanoError extends Error {
   }
 }
 
-/** A key that was loaded has no rows, for this reason. `ofBatch`: its whole batch failed. */
-class LoadFault extends Error {
-  constructor(message, ofBatch) {
-    super(message);
-    this.name = 'LoadFault';
-    this.ofBatch = ofBatch;
-  }
+/** The error of a code that is a refusal. */
+function refusal(code) {
+  if (code === TEXT_TOO_LONG) return new RangeError('the text is longer than a string of V8 may be: the option maxAnswer limits answers');
+  return new RudzkvanoError(code);
 }
 
 /** Words for at least `count` numbers. What was there may be lost. */
@@ -38,6 +42,14 @@ function makeRoom(count) {
     addon.share(border.words);
   }
   return border.words;
+}
+
+/** Gives back the words that a large request needed. What was there is lost. */
+function giveBackWords() {
+  if (border.words.length > KEPT_WORDS) {
+    border.words = new Uint32Array(FIRST_WORDS);
+    addon.share(border.words);
+  }
 }
 
 /** The code that the last call left. */
@@ -53,7 +65,7 @@ function call(name, head, ...values) {
     makeRoom(border.words[1]);
     return call(name, head, ...values);
   }
-  if (code() < 0) throw new RudzkvanoError(code());
+  if (code() < 0) throw refusal(code());
   return returned;
 }
 
@@ -112,7 +124,7 @@ function readOutcomes(text) {
   const rows = readRows(cutter, HEAD + keys, count);
   let next = 0;
   return Array.from(border.words.slice(HEAD, HEAD + keys), (number) => {
-    if (number >= BATCH_FAULT) return new LoadFault(cutter.next(), number === BATCH_FAULT);
+    if (number >= BATCH_FAULT) return new LoadFault(readFault(cutter.next()), number === BATCH_FAULT);
     next += number;
     return rows.slice(next - number, next);
   });
@@ -144,5 +156,6 @@ function readLog(client, loader) {
 }
 
 module.exports = {
-  addon, border, call, code, makeRoom, readLoaders, readLog, readOutcomes, readRound, LoadFault, RudzkvanoError, DONE, HEAD, NEED_ROOM, ROUND, WAITING,
+  addon, border, call, code, giveBackWords, makeRoom, readLoaders, readLog, readOutcomes, readRound, refusal, RudzkvanoError, DONE, FIRST_WORDS,
+  HEAD, KEPT_WORDS, NEED_ROOM, ROUND, WAITING,
 };

@@ -10,18 +10,20 @@ export interface Arrays {
   rows: readonly (readonly Value[])[];
 }
 /** What is known of one key: its rows, its one row, none, or why there are none. */
-export type Item = readonly Row[] | Row | null | undefined | Error;
+export type Item<R extends Row = Row> = readonly R[] | R | null | undefined | Error;
 /** What a batch function returns: an item for each key, in order; or rows, which are sorted to the keys by the loader's columns. */
-export type Rows = readonly Item[] | Arrays;
+export type Rows<R extends Row = Row> = readonly Item<R>[] | Arrays;
 /** A key: a text, or a pair of texts of a loader by two columns. */
 export type Key = string | readonly [string, string];
 /**
- * Asks for all these keys at once: `string[]`, or `[string, string][]` of a loader by two columns, or none of a loader by no column, which wants
- * all rows. A thrown error, or a rejection, fails the batch.
+ * Asks for all these keys at once: texts, or pairs of them of a loader by two columns, or none of a loader by no column, which wants all rows. A
+ * thrown error, or a rejection, fails the batch.
  */
-export type BatchFunction = (keys: any) => Rows | PromiseLike<Rows>;
+export type BatchFunction<K extends Key = string, R extends Row = Row> = (keys: K[]) => Rows<R> | PromiseLike<Rows<R>>;
 /** Batch functions by the names of their loaders. */
-export type Loaders = { readonly [loader: string]: BatchFunction };
+export type Loaders<K extends Key = any, R extends Row = any> = { readonly [loader: string]: BatchFunction<K, R> };
+/** Batch functions, or what makes them for a request, of what is known of it. */
+export type LoadersFor<Context> = Loaders | ((context: Context) => Loaders | PromiseLike<Loaders>);
 
 export interface Request {
   query: string;
@@ -31,10 +33,12 @@ export interface Request {
 /** A request, its JSON text, or 1 to 16 requests that share their rounds. */
 export type Requests = Request | string | readonly Request[];
 
+export type Extensions = { readonly [name: string]: unknown };
 export interface ResponseError {
   message: string;
   locations?: { line: number; column: number }[];
   path?: (string | number)[];
+  extensions?: Extensions;
 }
 export interface Response<Data = { [name: string]: any }> {
   data?: Data | null;
@@ -67,6 +71,22 @@ export interface AnswerOptions {
   signal?: AbortSignal;
   /** Is called after each round. */
   onRound?(round: Round): void;
+  /**
+   * Is called with what a batch function threw, or returned for a key. What it returns is what callers read; where that is nothing, they read a
+   * PublicError as it is, and of other errors `internal error`. Without it they read the messages of all errors.
+   */
+  onError?(error: unknown, batch: { loader: string; keys: readonly Key[] }): string | { message: string; extensions?: Extensions } | void;
+  /**
+   * Answers an operation that asks for `__schema` or `__type` alone, which isn't in an array: what `require('graphql')` returns. Without it these
+   * are refused. graphql-js has no limits for a query, and `maxAnswer` holds for what it has answered.
+   */
+  introspection?: GraphQLLibrary;
+}
+/** What is used of graphql-js. */
+export interface GraphQLLibrary {
+  buildSchema(text: string): any;
+  parse(text: string): any;
+  graphqlSync(request: any): any;
 }
 export interface Options extends AnswerOptions {
   /** How many keys one batch may have, at most 65,535: of all loaders, or by loader. 0 is no limit. */
@@ -82,8 +102,14 @@ export class RudzkvanoError extends Error {
 /** A key that was loaded has no rows; the message says why. `ofBatch`: its whole batch failed. */
 export class LoadFault extends Error {
   readonly ofBatch: boolean;
+  readonly extensions?: Extensions;
 }
-/** A schema or its bindings are refused, by the fault S`number`. `line` and `column` are from 1, and 0 where it has none. */
+/** An error whose message and extensions are meant for callers. */
+export class PublicError extends Error {
+  constructor(message: string, options?: { extensions?: Extensions; cause?: unknown });
+  readonly extensions?: Extensions;
+}
+/** A schema or its bindings are refused, by the fault S`number`. `line` and `column` are from 1, and 0 where it has none. The message says why. */
 export class SchemaFault extends RudzkvanoError {
   readonly number: number;
   readonly line: number;
@@ -98,7 +124,7 @@ export class Server {
   /** Answers a request, and knows nothing of other requests. */
   answer<Data = { [name: string]: any }>(request: Request, loaders: Loaders, options?: Options): Promise<Response<Data>>;
   answer(requests: readonly Request[], loaders: Loaders, options?: Options): Promise<Response[]>;
-  answer(text: string, loaders: Loaders, options?: Options): Promise<Response | Response[]>;
+  answer(requests: Requests, loaders: Loaders, options?: Options): Promise<Response | Response[]>;
   /** The same, as the text of the response. */
   answerText(request: Requests, loaders: Loaders, options?: Options): Promise<string>;
   /** A client, which keeps what its requests load. */
@@ -112,7 +138,7 @@ export class Client {
   private constructor();
   answer<Data = { [name: string]: any }>(request: Request, options?: AnswerOptions): Promise<Response<Data>>;
   answer(requests: readonly Request[], options?: AnswerOptions): Promise<Response[]>;
-  answer(text: string, options?: AnswerOptions): Promise<Response | Response[]>;
+  answer(requests: Requests, options?: AnswerOptions): Promise<Response | Response[]>;
   answerText(request: Requests, options?: AnswerOptions): Promise<string>;
   /**
    * For each key its rows, in order, or a LoadFault. Keys that aren't known are asked for in one round, of equal keys only the first. Values are
@@ -136,3 +162,19 @@ export class Client {
   /** Frees what the client holds. A request that is being answered is given up. */
   close(): void;
 }
+
+export interface ExecutionArguments<Context = any> {
+  /** The text of a document, or what graphql-js parsed it to. */
+  document: string | { readonly loc?: { readonly source: { readonly body: string } } };
+  variableValues?: { readonly [variable: string]: unknown } | null;
+  operationName?: string | null;
+  contextValue?: Context;
+  /** Of no use: the schema is the server's. */
+  schema?: unknown;
+}
+/** An `execute` as that of graphql-js. `loaders` are the batch functions, or a function that makes them of the contextValue. */
+export function executor<Context = any>(
+  server: Server,
+  loaders: LoadersFor<Context>,
+  options?: Options,
+): (request: ExecutionArguments<Context>) => Promise<Response>;

@@ -4,20 +4,26 @@
 //     const { data, errors } = await server.answer({ query, variables }, { userById: (ids) => selectUsers(ids) });
 'use strict';
 
-const { addon, border, call, code, readLoaders, readLog, HEAD, LoadFault, RudzkvanoError } = require('./border.js');
-const { writeItem, writeTexts } = require('./rows.js');
+const { addon, border, call, code, readLoaders, readLog, HEAD, RudzkvanoError } = require('./border.js');
+const { executor } = require('./execute.js');
+const { LoadFault, PublicError } = require('./faults.js');
+const { Introspection } = require('./introspection.js');
+const { writeItem, writeKeys } = require('./rows.js');
 const { Run } = require('./run.js');
+const { sentenceOn } = require('./schema_fault.js');
 
 const BAD_SCHEMA = -4;
+/** More keys than any limit of a batch may have. */
+const MOST_WORD = 0xffffffff;
 /** How many clients a server keeps between requests. Each has the documents of the queries that it has read. */
 const MOST_IDLE = 16;
 
 /** A schema or its bindings are refused: by the fault S`number`, at this line and column, which are 0 where it has none. */
 class SchemaFault extends RudzkvanoError {
-  constructor([number, line, column, inBindings]) {
+  constructor([number, line, column, inBindings], texts) {
     super(BAD_SCHEMA);
-    this.message = `S${number} at ${inBindings ? 'bindings' : 'schema'}:${line}:${column}`;
     Object.assign(this, { number, line, column, inBindings: inBindings === 1 });
+    this.message = `S${number} at ${inBindings ? 'bindings' : 'schema'}:${line}:${column}: ${sentenceOn(this, texts)}`;
   }
 }
 
@@ -27,9 +33,25 @@ function countOf(value, what) {
   return value;
 }
 
+/** A limit of keys, as a word. One that no word holds is refused as others that are too large. */
+function limitOf(maxBatch) {
+  return Math.min(countOf(maxBatch, 'maxBatch'), MOST_WORD);
+}
+
+/** Ends a promise, with an error or with what is read of a result. */
+function settle(resolve, reject, error, result, read) {
+  if (result === undefined) return reject(error);
+  try {
+    return resolve(read(result));
+  } catch (why) {
+    return reject(why);
+  }
+}
+
 /** A schema with its bindings. */
 class Server {
   #handle;
+  #introspection;
   #byName;
   #idle = [];
   #closed = false;
@@ -38,8 +60,9 @@ class Server {
 
   constructor({ schema, bindings }) {
     this.#handle = addon.open(schema, bindings);
-    if (code() === BAD_SCHEMA) throw new SchemaFault(border.words.subarray(1, 5));
+    if (code() === BAD_SCHEMA) throw new SchemaFault(border.words.subarray(1, 5), { schema, bindings });
     if (code() < 0) throw new RudzkvanoError(code());
+    this.#introspection = new Introspection(schema);
     this.loaders = Object.freeze(readLoaders(this.#handle));
     this.#byName = new Map(this.loaders.map((loader) => [loader.name, loader]));
   }
@@ -58,7 +81,7 @@ class Server {
   client(loaders = {}, options = {}) {
     this.#check(loaders);
     const handle = this.#open(this.#limits(options.maxBatch), false);
-    return new Client(handle, this.loaders, loaders, options);
+    return new Client(handle, this.loaders, this.#introspection, loaders, options);
   }
 
   /** Frees what the server holds. Its clients, and the requests that are being answered, go on. */
@@ -71,11 +94,12 @@ class Server {
   #answer(request, functions = {}, options = {}, read) {
     return new Promise((resolve, reject) => {
       this.#check(functions);
+      const introspected = this.#introspection.answerText(request, options);
+      if (introspected !== undefined) return resolve(read(introspected));
       const client = this.#take(this.#limits(options.maxBatch), countOf(options.maxAnswer, 'maxAnswer'));
       const run = new Run(client.handle, this.loaders, functions, options, (error, text) => {
         this.#giveBack(client, run.forgot);
-        if (text === undefined) reject(error);
-        else resolve(read(text));
+        settle(resolve, reject, error, text, read);
       });
       run.start(request);
     });
@@ -93,9 +117,9 @@ class Server {
   /** For each loader how many keys one batch may have; or no element. */
   #limits(maxBatch) {
     if (maxBatch === undefined) return [];
-    if (typeof maxBatch !== 'object') return this.loaders.map(() => countOf(maxBatch, 'maxBatch'));
+    if (typeof maxBatch !== 'object') return this.loaders.map(() => limitOf(maxBatch));
     for (const name in maxBatch) if (!this.#byName.has(name)) throw new TypeError(`the bindings have no loader ${name}`);
-    return this.loaders.map(({ name }) => countOf(maxBatch[name], 'maxBatch'));
+    return this.loaders.map(({ name }) => limitOf(maxBatch[name]));
   }
 
   #open(limits, once) {
@@ -127,13 +151,15 @@ class Server {
 class Client {
   #handle;
   #loaders;
+  #introspection;
   #functions;
   #options;
   #run;
 
-  constructor(handle, loaders, functions, options) {
+  constructor(handle, loaders, introspection, functions, options) {
     this.#handle = handle;
     this.#loaders = loaders;
+    this.#introspection = introspection;
     this.#functions = functions;
     this.#options = options;
     call('limitAnswers', [], handle, countOf(options.maxAnswer, 'maxAnswer'));
@@ -170,7 +196,7 @@ class Client {
   clear(loader, key) {
     const of = this.#loader(loader);
     const texts = this.#texts(of, key);
-    const text = writeTexts(texts, '', HEAD);
+    const text = writeKeys(texts, HEAD);
     call('clear', [of.number, texts.length, 0, 0, 0, text.length, 0], this.#handle, text, '');
     return border.words[1] === 1;
   }
@@ -196,8 +222,9 @@ class Client {
     addon.close(this.#handle);
   }
 
-  #answer(request, options, read) {
-    return this.#do(options, read, (run) => run.start(request));
+  async #answer(request, options, read) {
+    const introspected = this.#introspection.answerText(request, { ...this.#options, ...options });
+    return introspected === undefined ? this.#do(options, read, (run) => run.start(request)) : read(introspected);
   }
 
   /** Has a run begin something, and reads its result. */
@@ -206,8 +233,7 @@ class Client {
       if (this.#run) throw new Error('the client is answering another request');
       const run = new Run(this.#handle, this.#loaders, this.#functions, { ...this.#options, ...options }, (error, result) => {
         this.#run = undefined;
-        if (result === undefined) reject(error);
-        else resolve(read(result));
+        settle(resolve, reject, error, result, read);
       });
       this.#run = run;
       begin(run);
@@ -228,4 +254,4 @@ class Client {
   }
 }
 
-module.exports = { Client, LoadFault, RudzkvanoError, SchemaFault, Server };
+module.exports = { Client, LoadFault, PublicError, RudzkvanoError, SchemaFault, Server, executor };

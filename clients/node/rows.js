@@ -3,7 +3,9 @@
 
 const { inspect } = require('node:util');
 const { isDate, isNativeError } = require('node:util/types');
-const { HEAD, border, makeRoom } = require('./border.js');
+const { border, makeRoom, FIRST_WORDS, HEAD, KEPT_WORDS } = require('./border.js');
+const { plainText } = require('./faults.js');
+const { separated, wellFormed } = require('./text.js');
 
 /** In the place of a number of rows: the key has a fault. */
 const KEY_FAULT = 0xffffffff;
@@ -43,7 +45,7 @@ function isRow(element) {
 
 /** One text for a key, which is a text or a pair, so that the texts of two keys are the same where the keys are. */
 function keyText(loader, key) {
-  const text = typeof key === 'string' ? key : JSON.stringify(key);
+  const text = typeof key === 'string' ? key : JSON.stringify(key.map(wellFormed));
   return loader.folds ? text.replace(/[A-Z]/g, (letter) => letter.toLowerCase()) : text;
 }
 
@@ -83,7 +85,7 @@ function grouped(loader, keys, rows, keysOfRows) {
   const counts = filled(asked.length, 0);
   const places = new Map(asked.map((key, place) => [key, place]));
   const found = keysOfRows.map((key) => {
-    const place = places.get(key);
+    const place = places.get(key) ?? places.get(wellFormed(key));
     if (place === undefined) throw new RangeError(`loader ${loader.name}: a row of the key ${inspect(key)}, which wasn't asked for`);
     counts[place]++;
     return place;
@@ -95,13 +97,15 @@ function grouped(loader, keys, rows, keysOfRows) {
   return { rows: sorted, counts, faults: [] };
 }
 
-/** The reply of elements that are aligned with the keys: an array of rows, one row, nothing, or an error. */
-function aligned(loader, keys, elements) {
+/** The reply of elements that are aligned with the keys: an array of rows, one row, nothing, or an error, of which `faultOf` makes a text. */
+function aligned(loader, keys, elements, faultOf) {
   if (elements.length !== keys.length) {
     throw new RangeError(`loader ${loader.name}: ${elements.length} items for ${keys.length} keys, which aren't all rows with its columns`);
   }
   const [rows, counts, faults] = [[], [], []];
+  let next = 0;
   for (const element of elements) {
+    const key = keys[next++];
     if (element === null || element === undefined) {
       counts.push(0);
     } else if (Array.isArray(element)) {
@@ -109,7 +113,7 @@ function aligned(loader, keys, elements) {
       for (const row of element) rows.push(row);
     } else if (isFault(element)) {
       counts.push(KEY_FAULT);
-      faults.push(String(element.message));
+      faults.push(faultOf(element, [key]));
     } else {
       counts.push(1);
       rows.push(element);
@@ -131,15 +135,32 @@ function ofArrays(loader, keys, { columns, rows }) {
   return { columns, ...grouped(loader, keys, rows, keysOfRows) };
 }
 
-function replyOf(loader, keys, returned) {
+function replyOf(loader, keys, returned, faultOf) {
   if (Array.isArray(returned?.columns) && Array.isArray(returned.rows)) return ofArrays(loader, keys, returned);
   if (!Array.isArray(returned)) throw new TypeError(`loader ${loader.name}: its function returned ${typeName(returned)}, and no array`);
   if (loader.columns.length === 0) return { rows: returned, counts: [returned.length], faults: [] };
   const keysOfRows = keysOf(loader, returned, loader.columns, isRow);
-  return keysOfRows ? grouped(loader, keys, returned, keysOfRows) : aligned(loader, keys, returned);
+  return keysOfRows ? grouped(loader, keys, returned, keysOfRows) : aligned(loader, keys, returned, faultOf);
 }
 
 // ---- Its texts.
+
+/** Words for a reply, or undefined while one is put together. */
+let spare = new Uint32Array(FIRST_WORDS);
+
+/**
+ * Has `write` fill so many words, which are its own: a getter of a row may begin another request, which uses the words of the border. Returns what
+ * it returned.
+ */
+function withWords(count, write) {
+  const words = spare?.length >= count ? spare : new Uint32Array(Math.max(count, FIRST_WORDS));
+  spare = undefined;
+  try {
+    return write(words);
+  } finally {
+    spare = words.length > KEPT_WORDS ? undefined : words;
+  }
+}
 
 function namesIn(row) {
   const names = [];
@@ -147,11 +168,14 @@ function namesIn(row) {
   return names;
 }
 
+function checkRow(loader, row) {
+  if (!isRow(row)) throw new TypeError(`loader ${loader.name}: a row of type ${typeName(row)}`);
+}
+
 /** Adds the members of rows to a text, and their ends to the words from a place on. Returns undefined where not all rows have these columns. */
-function writeRows(loader, columns, rows, text, place) {
-  const { words } = border;
+function writeRows(loader, columns, rows, text, words, place) {
   for (const row of rows) {
-    if (!isRow(row)) throw new TypeError(`loader ${loader.name}: a row of type ${typeName(row)}`);
+    checkRow(loader, row);
     let column = 0;
     for (const name in row) {
       if (name !== columns[column++]) return undefined;
@@ -164,8 +188,7 @@ function writeRows(loader, columns, rows, text, place) {
   return text;
 }
 
-function writeArrays(loader, columns, rows, text, place) {
-  const { words } = border;
+function writeArrays(loader, columns, rows, text, words, place) {
   for (const row of rows) {
     for (let column = 0; column < columns.length; column++) {
       text += textOf(row[column], loader, columns[column]);
@@ -175,34 +198,44 @@ function writeArrays(loader, columns, rows, text, place) {
   return text;
 }
 
-function writeTexts(texts, text, place) {
+function writeTexts(texts, text, words, place) {
   for (const it of texts) {
     text += it;
-    border.words[place++] = text.length;
+    words[place++] = text.length;
   }
   return text;
+}
+
+/** A reply whose rows are arrays, in which each row has the columns of all. */
+function widened(loader, reply) {
+  for (const row of reply.rows) checkRow(loader, row);
+  const columns = [...new Set(reply.rows.flatMap(namesIn))];
+  return { ...reply, columns, rows: reply.rows.map((row) => columns.map((name) => row[name])) };
 }
 
 /** Leaves the ends of a reply's texts among the words, from a place on. Returns its texts, and how many columns and texts there are. */
 function write(loader, reply, place) {
   const { rows, faults } = reply;
   const columns = reply.columns ?? namesIn(rows[0]);
-  const fields = place + columns.length;
-  const end = fields + columns.length * rows.length;
-  makeRoom(end + faults.length);
-  const names = writeTexts(columns, '', place);
-  const text = (reply.columns ? writeArrays : writeRows)(loader, columns, rows, names, fields);
-  if (text === undefined) {
-    const all = [...new Set(rows.flatMap(namesIn))];
-    return write(loader, { ...reply, columns: all, rows: rows.map((row) => all.map((name) => row[name])) }, place);
-  }
+  const end = columns.length * (1 + rows.length);
+  const texts = end + faults.length;
+  const text = withWords(texts, (words) => {
+    const names = writeTexts(columns, '', words, 0);
+    const fields = (reply.columns ? writeArrays : writeRows)(loader, columns, rows, names, words, columns.length);
+    if (fields === undefined) return undefined;
+    const all = separated(writeTexts(faults, fields, words, end), words, 0, texts);
+    const shared = makeRoom(place + texts);
+    for (let i = 0; i < texts; i++) shared[place + i] = words[i];
+    return all;
+  });
+  if (text === undefined) return write(loader, widened(loader, reply), place);
   if (rows.length > 0 && columns.length === 0) throw new TypeError(`loader ${loader.name}: a row has no columns`);
-  return { text: writeTexts(faults, text, end), columns: columns.length, texts: end + faults.length - place };
+  return { text, columns: columns.length, texts };
 }
 
 /** Leaves what a batch function returned among the words, but for the order's number, and returns its texts. */
-function writeReply(loader, keys, returned) {
-  const reply = replyOf(loader, keys, returned);
+function writeReply(loader, keys, returned, faultOf) {
+  const reply = replyOf(loader, keys, returned, faultOf);
   const { counts } = reply;
   const { text, columns, texts } = write(loader, reply, HEAD + counts.length);
   const { words } = border;
@@ -214,14 +247,20 @@ function writeReply(loader, keys, returned) {
   return text;
 }
 
+/** Leaves texts, and how many there are of each key, among the words, from a place on. Returns them as one. */
+function writeKeys(texts, place) {
+  const words = makeRoom(place + texts.length);
+  return separated(writeTexts(texts, '', words, place), words, place, place + texts.length);
+}
+
 /** Leaves a key and what is to be known of it among the words, and returns the texts of both. */
 function writeItem(loader, key, item) {
   const arrays = Array.isArray(item?.columns) && Array.isArray(item.rows);
-  const reply = arrays ? { ...item, counts: [item.rows.length], faults: [] } : aligned(loader, [key], [item]);
+  const reply = arrays ? { ...item, counts: [item.rows.length], faults: [] } : aligned(loader, [key], [item], plainText);
   const { text, columns, texts } = write(loader, reply, HEAD + key.length);
-  const keyText = writeTexts(key, '', HEAD);
+  const keyText = writeKeys(key, HEAD);
   border.words.set([loader.number, key.length, columns, reply.counts[0], texts, keyText.length, text.length]);
   return [keyText, text];
 }
 
-module.exports = { writeItem, writeReply, writeTexts };
+module.exports = { writeItem, writeKeys, writeReply };

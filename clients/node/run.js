@@ -1,32 +1,35 @@
 // One request that is being answered, or keys that are loaded: from each step of the library to the next, with the batches in between.
 'use strict';
 
-const { inspect } = require('node:util');
-const { addon, border, code, makeRoom, readOutcomes, readRound, RudzkvanoError, DONE, HEAD, NEED_ROOM, ROUND, WAITING } = require('./border.js');
-const { writeReply, writeTexts } = require('./rows.js');
+const {
+  addon, border, code, giveBackWords, makeRoom, readOutcomes, readRound, refusal, DONE, HEAD, NEED_ROOM, ROUND, WAITING,
+} = require('./border.js');
+const { faultText, messageOf, plainText, shownBy, withExtensions } = require('./faults.js');
+const { writeKeys, writeReply } = require('./rows.js');
+const { jsonOf } = require('./text.js');
 
-/** The text of why a batch failed. */
-function faultText(why) {
-  if (why instanceof Error) return String(why.message);
-  return typeof why === 'string' ? why : inspect(why);
-}
-
-/** Begins the answer to a request, and goes on. */
-function begin(handle, request) {
-  if (typeof request === 'string') return addon.begin(handle, request);
+/** The step that begins the answer to a request, and goes on. */
+function requestStep(request) {
+  if (typeof request === 'string') return (handle) => addon.begin(handle, request);
   const { query, operationName, variables } = request;
   const operation = operationName ?? '';
-  if (typeof query !== 'string' || typeof operation !== 'string' || operationName === '') return addon.begin(handle, JSON.stringify(request));
-  return addon.beginRequest(handle, query, operation, variables === undefined || variables === null ? '' : JSON.stringify(variables));
+  if (typeof query !== 'string' || typeof operation !== 'string' || operationName === '') {
+    const line = jsonOf(request, 'a request');
+    return (handle) => addon.begin(handle, line);
+  }
+  const values = variables === undefined || variables === null ? '' : jsonOf(variables, 'variables');
+  return (handle) => addon.beginRequest(handle, query, operation, values);
 }
 
-/** Begins to load keys, which are arrays of texts, and goes on. */
-function beginLoad(handle, loader, keys) {
+/** The step that begins to load keys, which are arrays of texts, and goes on. */
+function loadStep(loader, keys) {
   const texts = keys.flat();
-  makeRoom(HEAD + keys.length + texts.length).fill(loader.columns.length, HEAD, HEAD + keys.length);
-  const text = writeTexts(texts, '', HEAD + keys.length);
-  border.words.set([loader.number, keys.length, texts.length, text.length]);
-  return addon.beginLoad(handle, text);
+  return (handle) => {
+    const text = writeKeys(texts, HEAD + keys.length);
+    border.words.fill(loader.columns.length, HEAD, HEAD + keys.length);
+    border.words.set([loader.number, keys.length, texts.length, text.length]);
+    return addon.beginLoad(handle, text);
+  };
 }
 
 class Run {
@@ -34,11 +37,12 @@ class Run {
    * `functions` are the batch functions by name. `ended` is called once: with an error, or with undefined and the answer's text or the outcomes
    * of what was loaded, as `{ outcomes }`.
    */
-  constructor(handle, loaders, functions, { signal, onRound }, ended) {
+  constructor(handle, loaders, functions, { signal, onRound, onError }, ended) {
     this.handle = handle;
     this.loaders = loaders;
     this.functions = functions;
     this.onRound = onRound;
+    this.onError = onError;
     this.ended = ended;
     this.signal = signal;
     this.abort = signal && (() => this.stop(signal.reason));
@@ -54,21 +58,25 @@ class Run {
 
   /** Begins to answer a request. */
   start(request) {
-    this.begin(() => begin(this.handle, request));
+    this.begin(() => requestStep(request));
   }
 
   /** Begins to load keys of a loader. */
   startLoad(loader, keys) {
     this.loads = true;
-    this.begin(() => beginLoad(this.handle, loader, keys));
+    this.begin(() => loadStep(loader, keys));
   }
 
   /** Makes the first step, and goes on. */
-  begin(step) {
+  begin(firstStep) {
     try {
       this.signal?.throwIfAborted();
+      // a getter of the request may stop it
+      const step = firstStep();
+      this.signal?.throwIfAborted();
+      if (this.over) return;
       this.signal?.addEventListener('abort', this.abort);
-      this.go(this.left(step()));
+      this.go(this.left(step(this.handle)));
     } catch (error) {
       this.stop(error);
     }
@@ -80,7 +88,7 @@ class Run {
       case DONE:
         if (this.loads) return { outcomes: readOutcomes(text) };
         this.forgot = border.words[1] === DONE;
-        return text;
+        return withExtensions(text);
       case ROUND:
         return readRound(this.loaders, text);
       case WAITING:
@@ -89,7 +97,7 @@ class Run {
         makeRoom(border.words[1]);
         return this.left(addon.look(this.handle));
       default:
-        throw new RudzkvanoError(code());
+        throw refusal(code());
     }
   }
 
@@ -142,10 +150,12 @@ class Run {
     if (this.over) return undefined;
     let text;
     try {
-      text = writeReply(order.loader, order.keys, returned);
+      text = writeReply(order.loader, order.keys, returned, (error, keys) => this.faultOf(error, order.loader, keys));
     } catch (why) {
       return this.fail(order, why);
     }
+    // a getter of a row, or a hook, may have stopped the request
+    if (this.over) return undefined;
     border.words[0] = order.number;
     return this.told(order, this.left(addon.reply(this.handle, text)));
   }
@@ -153,10 +163,22 @@ class Run {
   /** Tells the library that a batch failed. */
   fail(order, why) {
     if (this.over) return undefined;
-    const text = faultText(why);
-    if (this.batches) this.batches[order.number].failed = text;
+    if (this.batches) this.batches[order.number].failed = messageOf(why);
+    const text = this.faultOf(why, order.loader, order.keys.slice());
+    if (this.over) return undefined;
     border.words[0] = order.number;
     return this.told(order, this.left(addon.fail(this.handle, text)));
+  }
+
+  /** The text for the library of an error that a batch function threw, or returned for a key. */
+  faultOf(error, loader, keys) {
+    if (!this.onError) return plainText(error);
+    try {
+      return faultText(shownBy(this.onError(error, { loader: loader.name, keys }), error));
+    } catch (why) {
+      this.stop(why);
+      return '';
+    }
   }
 
   /** Tells `onRound` of the round, where this was its last order. Returns what was left. */
@@ -179,6 +201,7 @@ class Run {
   end(error, result) {
     this.over = true;
     this.signal?.removeEventListener('abort', this.abort);
+    giveBackWords();
     this.ended(error, result);
   }
 }

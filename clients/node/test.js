@@ -7,6 +7,9 @@
 
 require('./test/answers.js');
 require('./test/faults.js');
+require('./test/errors.js');
 require('./test/clients.js');
+require('./test/limits.js');
+require('./test/introspection.js');
 require('./test/http.js');
 require('./test/load.js');

@@ -1,0 +1,62 @@
+// Texts that are too long for a string, and the memory of large requests.
+'use strict';
+
+const assert = require('node:assert/strict');
+const { constants } = require('node:buffer');
+const { describe, it } = require('node:test');
+const { addon, border } = require('../border.js');
+const { openWorld } = require('./tables.js');
+
+const { server } = openWorld();
+const users = (name) => ({ userById: async (ids) => ids.map((id) => ({ id, name })) });
+const query = '{user(id:1){name}}';
+const TOO_LONG = { name: 'RangeError', message: /longer than a string of V8 may be: the option maxAnswer/ };
+
+/** Does something while no string may have more units than this. */
+async function limited(units, does) {
+  addon.limitTexts(units);
+  try {
+    await does();
+  } finally {
+    addon.limitTexts(constants.MAX_STRING_LENGTH);
+  }
+}
+
+describe('a text that is longer than a string may be', () => {
+  it('rejects the answer', () =>
+    limited(1000, async () => {
+      await assert.rejects(server.answerText({ query }, users('a'.repeat(1000))), TOO_LONG);
+      await assert.rejects(server.answer({ query }, users('é'.repeat(1000))), TOO_LONG);
+      assert.deepEqual(await server.answer({ query }, users('é'.repeat(900))), { data: { user: { name: 'é'.repeat(900) } } });
+      assert.deepEqual(await server.answer({ query }, users('b')), { data: { user: { name: 'b' } } });
+    }));
+
+  it('rejects a request whose keys are too long together, and loaded keys', () =>
+    limited(1000, async () => {
+      const client = server.client(users('a'.repeat(600)));
+      await assert.rejects(client.loadMany('userById', [1, 2]), TOO_LONG);
+      await assert.rejects(client.loadMany('userById', ['3'.repeat(2000)]), TOO_LONG);
+      await assert.rejects(client.answer({ query: `{user(id:"${'4'.repeat(2000)}"){name}}` }), TOO_LONG);
+      assert.throws(() => client.log('userById'), TOO_LONG);
+      assert.equal((await client.loadMany('userById', [1]))[0][0].id, '1');
+      client.close();
+    }));
+});
+
+describe('what a large request needed', () => {
+  const query = '{users{id name}}';
+  const loaders = { allUsers: () => Array.from({ length: 100_000 }, (_, i) => ({ id: i, name: 'a'.repeat(50) })) };
+  const assertSmall = () => assert.deepEqual([addon.room() <= 1 << 20, border.words.length <= 1 << 16], [true, true]);
+
+  it('is given back', async () => {
+    const full = { onRound: () => { throw new Error('full'); } };
+    assert.ok((await server.answerText({ query }, loaders)).length > 5_000_000);
+    assertSmall();
+    await assert.rejects(server.answer({ query }, loaders, full), { message: 'full' });
+    assertSmall();
+    const client = server.client(loaders);
+    assert.equal((await client.loadMany('allUsers', [undefined]))[0].length, 100_000);
+    assertSmall();
+    client.close();
+  });
+});
