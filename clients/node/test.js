@@ -12,4 +12,5 @@ require('./test/clients.js');
 require('./test/limits.js');
 require('./test/introspection.js');
 require('./test/http.js');
+require('./test/pack.js');
 require('./test/load.js');
