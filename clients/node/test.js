@@ -12,5 +12,6 @@ require('./test/clients.js');
 require('./test/limits.js');
 require('./test/introspection.js');
 require('./test/http.js');
+require('./test/types.js');
 require('./test/pack.js');
 require('./test/load.js');
