@@ -7,7 +7,9 @@
 """
 
 from .client import Client, Progress, Query
-from .library import Library, LoadFault, Refused, RudzkvanoError, SchemaFault
+from .errors import OnError, PublicError
+from .http import HTTPError
+from .library import Library, LoadFault, Refused, RudzkvanoError, SchemaFault, WrongLibrary
 from .loaders import Batch, BatchFunction, Keys, Loaded, Loader, Loaders, Order, Ran, Returned, Round
 from .server import Options, Server
 
@@ -15,15 +17,18 @@ __all__ = [
     "Batch",
     "BatchFunction",
     "Client",
+    "HTTPError",
     "Keys",
     "Library",
     "LoadFault",
     "Loaded",
     "Loader",
     "Loaders",
+    "OnError",
     "Options",
     "Order",
     "Progress",
+    "PublicError",
     "Query",
     "Ran",
     "Refused",
@@ -32,4 +37,5 @@ __all__ = [
     "RudzkvanoError",
     "SchemaFault",
     "Server",
+    "WrongLibrary",
 ]

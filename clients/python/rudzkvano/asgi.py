@@ -6,9 +6,11 @@
 from __future__ import annotations
 
 from collections.abc import Awaitable, Callable
+from dataclasses import replace
 from typing import TYPE_CHECKING, Any
 
-from .http import MAX_BODY, HttpFault, HttpRequest, HttpResponse, LoadersOf, loaders_for, read_request, too_long
+from .http import MAX_BODY, HttpFault, HttpRequest, HttpResponse, HTTPError, LoadersOf, loaders_for, read_head, read_request, too_long, with_logging
+from .limits import checked_limit
 from .server import Options, Server
 
 if TYPE_CHECKING:
@@ -19,16 +21,20 @@ Send = Callable[[Any], Awaitable[None]]
 
 
 async def read_scope(scope: Any, receive: Receive, max_body: int = MAX_BODY) -> HttpRequest:
-    """The request that a scope has, or HttpFault."""
-    body, more = b"", True
+    """The request that a scope has, or HttpFault. The body of one that is refused by its head isn't read."""
+    content_type, accept, length = (_header(scope, name) for name in (b"content-type", b"accept", b"content-length"))
+    request = HttpRequest(scope["method"], scope["query_string"].decode("latin-1"), content_type, accept, content_length=length)
+    head = read_head(request, max_body)
+    if request.method != "POST":
+        return request
+    parts, size, more = [], 0, True
     while more:
         message = await receive()
-        body += message.get("body", b"")
-        more = message.get("more_body", False)
-        if len(body) > max_body:
-            raise too_long(max_body)
-    content_type, accept = (_header(scope, name) for name in (b"content-type", b"accept"))
-    return HttpRequest(scope["method"], scope["query_string"].decode("latin-1"), content_type, accept, body)
+        parts.append(message.get("body", b""))
+        size, more = size + len(parts[-1]), message.get("more_body", False)
+        if size > max_body:
+            raise too_long(max_body, head.media_type)
+    return replace(request, body=b"".join(parts))
 
 
 def _header(scope: Any, wanted: bytes) -> str:
@@ -38,20 +44,28 @@ def _header(scope: Any, wanted: bytes) -> str:
 def application(server: Server, loaders: LoadersOf, *, max_body: int = MAX_BODY, **options: Unpack[Options]) -> Callable[..., Awaitable[None]]:
     """Answers by these batch functions; or by those that `loaders` makes of the scope, for each request."""
 
+    checked_limit("max_body", max_body)
+    options = with_logging(options)
+
     async def answered(scope: Any, receive: Receive) -> HttpResponse:
         try:
             asked = read_request(await read_scope(scope, receive, max_body))
         except HttpFault as fault:
             return fault.response
-        functions = loaders_for(loaders, scope)
+        try:
+            functions = loaders_for(loaders, scope)
+            if isinstance(functions, Awaitable):
+                functions = await functions
+        except HTTPError as error:
+            return asked.refusal(error)
         return asked.response(await server.answer_text_async(asked.request, functions, **options))
 
     async def serve(scope: Any, receive: Receive, send: Send) -> None:
         if scope["type"] != "http":
             raise ValueError(f"this application serves http, and not {scope['type']}")
         response = await answered(scope, receive)
-        headers = [(name.lower().encode(), value.encode()) for name, value in response.headers]
+        headers = [(name.lower().encode("latin-1"), value.encode("latin-1")) for name, value in response.headers]
         await send({"type": "http.response.start", "status": response.status, "headers": headers})
-        await send({"type": "http.response.body", "body": response.body})
+        await send({"type": "http.response.body", "body": b"" if scope["method"] == "HEAD" else response.body})
 
     return serve

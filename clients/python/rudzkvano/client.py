@@ -11,17 +11,22 @@ from enum import IntEnum
 from functools import wraps
 from itertools import chain
 from time import perf_counter
-from typing import Any, Concatenate, ParamSpec, TypeAlias, TypeVar, Union
+from types import MappingProxyType
+from typing import Any, Concatenate, NamedTuple, ParamSpec, TypeAlias, TypeVar, Union
 
+from .errors import OnError, edit_errors, fault_text, has_extensions, message_of, parted
 from .library import BUSY, Held, Library, buffer_of, cut, flat, words
+from .limits import checked_limit
 from .loaders import Batch, Keys, Loaded, Loader, Loaders, OnRound, Order, Ran, Round
-from .rows import Reply, fault_text, item_of, outcomes_of, reply_of, text_of
+from .rows import Reply, item_of, outcomes_of, reply_of, text_of
 
 # The text of a query; a request with `query`, `variables` and `operationName`; 1 to 16 of these, which share their rounds; or JSON text of those.
 Query: TypeAlias = Union[str, Mapping[str, Any], Sequence[Mapping[str, Any]], bytes]
 Variables: TypeAlias = Union[Mapping[str, Any], None]
-# what a batch function returned, or the text by which the batch failed; and after how many seconds
-_Outcome: TypeAlias = tuple[Union[Reply, str], float]
+# what a batch function returned, or the error by which the batch failed; and after how many seconds
+_Outcome: TypeAlias = tuple[Union[Reply, Exception], float]
+# tells the answer to a query that another library answers, or None
+Introspect: TypeAlias = Callable[[Query, Variables, Union[str, None]], Union[str, None]]
 
 
 class Progress(IntEnum):
@@ -50,6 +55,15 @@ def _alone(call: Callable[Concatenate[Client, _P], _T]) -> Callable[Concatenate[
     return alone
 
 
+class Asks(NamedTuple):
+    """By what a client asks: the batch functions by the names of their loaders, and what is told of rounds and errors."""
+
+    functions: Loaders = MappingProxyType({})
+    on_round: OnRound | None = None
+    on_error: OnError | None = None
+    introspect: Introspect | None = None
+
+
 class Client(Held):
     """A memory of what the loaders returned; `Server.client` makes one. It does one thing at a time.
 
@@ -61,17 +75,19 @@ class Client(Held):
     def __init__(self, library: Library, loaders: Sequence[Loader], limits: tuple[int, ...]) -> None:
         super().__init__(library)
         self._calls, self._loaders, self._limits = library.calls, loaders, limits
-        self._functions: Loaders = {}
-        self._on_round: OnRound | None = None
+        self._asks = Asks()
         self._max_answer: int | None = None
+        # columns that were left out of a reply, with the order and the reason
+        self._unread: dict[str, tuple[Order, Exception]] = {}
+        self._has_extensions = False
         self._sizes = array("Q", bytes(48))
         self._sizes_at = self._sizes.buffer_info()[0]
         self._words, self._bytes = words(0), array("B")
         self._make_room(64, 512)
 
-    def _ask_by(self, functions: Loaders, max_answer: int | None, on_round: OnRound | None) -> None:
+    def _ask_by(self, asks: Asks, max_answer: int | None) -> None:
         """Asks by these functions from now on."""
-        self._functions, self._on_round = functions, on_round
+        self._asks = asks
         if max_answer != self._max_answer:
             self.limit_answers(max_answer)
 
@@ -87,11 +103,15 @@ class Client(Held):
 
     def answer_text(self, query: Query, variables: Variables = None, operation_name: str | None = None) -> str:
         """The text of the response."""
+        if (text := self._introspected(query, variables, operation_name)) is not None:
+            return text
         self._start(query, variables, operation_name)
         return self._finish(self._text)
 
     async def answer_text_async(self, query: Query, variables: Variables = None, operation_name: str | None = None) -> str:
         """The text of the response, with batch functions that may be coroutines."""
+        if (text := self._introspected(query, variables, operation_name)) is not None:
+            return text
         self._start(query, variables, operation_name)
         return await self._finish_async(self._text)
 
@@ -136,6 +156,15 @@ class Client(Held):
         finally:
             self._lock.release()
 
+    def _introspected(self, query: Query, variables: Variables, operation_name: str | None) -> str | None:
+        """The answer to a query that is answered without this client."""
+        if self._asks.introspect is None:
+            return None
+        text = self._asks.introspect(query, variables, operation_name)
+        if text is not None and self._max_answer is not None and len(text.encode()) > self._max_answer:
+            return '{"errors":[{"message":"answer too long"}]}'
+        return text
+
     def _start_load(self, loader: str, keys: Iterable[Any]) -> None:
         """Takes the client, and begins a load."""
         self._take_alone()
@@ -171,7 +200,7 @@ class Client(Held):
             returned = self._asked(order)
             reply = None if hasattr(returned, "__await__") else reply_of(order.loader, order.keys, returned)
         except Exception as error:
-            return fault_text(error), perf_counter() - start
+            return error, perf_counter() - start
         if reply is not None:
             return reply, perf_counter() - start
         if isinstance(returned, Coroutine):
@@ -187,19 +216,20 @@ class Client(Held):
                 returned = await returned
             return reply_of(order.loader, order.keys, returned), perf_counter() - start
         except Exception as error:
-            return fault_text(error), perf_counter() - start
+            return error, perf_counter() - start
 
     async def _run_together(self, orders: list[Order]) -> list[_Outcome]:
         tasks = [asyncio.ensure_future(self._run_async(order)) for order in orders]
         try:
-            return await asyncio.gather(*tasks)
+            outcomes: list[_Outcome] = await asyncio.gather(*tasks)
+            return outcomes
         except BaseException:
             for task in tasks:
                 task.cancel()
             raise
 
     def _asked(self, order: Order) -> Any:
-        function = self._functions.get(order.loader.name)
+        function = self._asks.functions.get(order.loader.name)
         if function is None:
             raise LookupError(f"no function for loader {order.loader.name}")
         return function(order.keys)
@@ -207,14 +237,22 @@ class Client(Held):
     def _end_round(self, number: int, orders: list[Order], outcomes: list[_Outcome]) -> None:
         """Takes what the batches of a round returned, and tells of it."""
         for order, (reply, _) in zip(orders, outcomes):
-            if isinstance(reply, str):
-                self._fail(order, reply)
+            if isinstance(reply, Exception):
+                self._fail(order, self._fault_text(reply, order.loader, order.keys))
             else:
-                self._take(order.number, reply)
-        if self._on_round is not None:
+                self._take(order, reply)
+        if self._asks.on_round is not None:
             told = zip(orders, outcomes)
-            batches = [Ran(it.loader.name, it.keys, seconds * 1000, reply if isinstance(reply, str) else None) for it, (reply, seconds) in told]
-            self._on_round(Round(number, batches))
+            batches = [Ran(it.loader.name, it.keys, seconds * 1000, _failed(reply)) for it, (reply, seconds) in told]
+            self._asks.on_round(Round(number, batches))
+
+    def _fault_text(self, error: Exception, loader: Loader, keys: Keys) -> str:
+        text = fault_text(error, loader.name, keys, self._asks.on_error)
+        self._has_extensions = self._has_extensions or has_extensions(text)
+        return text
+
+    def _with_faults(self, loader: Loader, reply: Reply) -> Reply:
+        return reply.with_faults([self._fault_text(error, loader, [key]) for key, error in reply.faults]) if reply.faults else reply
 
     # ---- Rounds by hand.
 
@@ -279,11 +317,13 @@ class Client(Held):
 
     def _reply(self, order: Order, returned: Any) -> None:
         """Takes the reply to an order: what a batch function returns."""
-        self._take(order.number, reply_of(order.loader, order.keys, returned))
+        self._take(order, reply_of(order.loader, order.keys, returned))
 
-    def _take(self, order: int, reply: Reply) -> None:
-        columns, rows, ends, data = reply
-        self._call(self._calls.rz_take_rows, order, columns, *buffer_of(rows), *buffer_of(ends), data, len(data))
+    def _take(self, order: Order, reply: Reply) -> None:
+        columns, rows, ends, data, _, unread = self._with_faults(order.loader, reply)
+        self._call(self._calls.rz_take_rows, order.number, columns, *buffer_of(rows), *buffer_of(ends), data, len(data))
+        for column, error in unread.items():
+            self._unread[column] = order, error
 
     def _fail(self, order: Order, text: str) -> None:
         """Takes it that the batch of an order failed as a whole."""
@@ -294,7 +334,22 @@ class Client(Held):
         """The text of the answer."""
         data = array("B", bytes(self._read_sizes()[4]))
         self._call(self._calls.rz_answer, *buffer_of(data))
-        return str(data, "utf-8")
+        text = str(data, "utf-8")
+        if not self._unread and not self._has_extensions:
+            return text
+        reasons: dict[str, str] = {}
+        return edit_errors(text, lambda error: self._edit_error(error, reasons))
+
+    def _edit_error(self, error: dict[str, Any], reasons: dict[str, str]) -> None:
+        """Parts an error's message from its extensions. Of a column that was left out it says why: `reasons` are those that were told."""
+        message = error["message"]
+        column = message.removeprefix("no column ")
+        if column != message and column in self._unread:
+            order, why = self._unread[column]
+            message = reasons[column] = reasons.get(column) or self._fault_text(why, order.loader, order.keys)
+        error["message"], extensions = parted(message)
+        if extensions:
+            error["extensions"] = extensions
 
     def _outcomes(self) -> list[Loaded]:
         """For each key that was loaded its rows, or a `LoadFault`."""
@@ -337,23 +392,23 @@ class Client(Held):
     def _restart(self) -> None:
         """Forgets all keys, logs and rounds. The documents of queries are kept."""
         self._call(self._calls.rz_restart)
+        self._unread.clear()
 
     restart = _alone(_restart)
 
     @_alone
     def limit_answers(self, most: int | None) -> None:
         """From now on an answer has at most `most` bytes; None is no limit."""
-        if most is not None and most < 1:
-            raise ValueError(f"an answer of at most {most} bytes")
-        self._call(self._calls.rz_limit_answers, most or 0)
+        self._call(self._calls.rz_limit_answers, 0 if most is None else checked_limit("max_answer", most))
         self._max_answer = most
 
     @_alone
     def prime(self, loader: str, key: Any, rows: Any) -> bool:
         """Knows these rows of a key, unless something is known of it: rows, one row, None or an error. Returns whether they were added."""
         asked, primed = self._loader(loader), words(1)
-        columns, counts, row_ends, data = item_of(asked, rows)
-        key_ends, key_data = flat(_key_texts(asked, key))
+        texts = _key_texts(asked, key)
+        columns, counts, row_ends, data, _, _ = self._with_faults(asked, item_of(asked, _key_of(texts), rows))
+        key_ends, key_data = flat(texts)
         row_texts = *buffer_of(row_ends), data, len(data)
         key_buffers = *buffer_of(key_ends), key_data, len(key_data)
         self._call(self._calls.rz_prime, asked.number, *key_buffers, columns, counts[0], *row_texts, primed.buffer_info()[0])
@@ -398,6 +453,10 @@ class Client(Held):
         raise ValueError(f"the bindings have no loader {name}")
 
 
+def _failed(reply: Reply | Exception) -> str | None:
+    return message_of(reply) if isinstance(reply, Exception) else None
+
+
 def _json(value: object) -> str:
     return json.dumps(value, allow_nan=False)
 
@@ -417,6 +476,10 @@ def _keys(loaders: list[Loader], counts: list[int], texts: list[str]) -> list[Ke
             found.append(list(zip(part[::2], part[1::2])))
         start = end
     return found
+
+
+def _key_of(texts: list[str]) -> Any:
+    return tuple(texts) if len(texts) == 2 else "".join(texts)
 
 
 def _key_texts(loader: Loader, key: Any) -> list[str]:

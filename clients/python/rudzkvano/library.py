@@ -7,12 +7,14 @@ import os
 import threading
 import weakref
 from array import array
-from collections.abc import Callable
+from collections.abc import Callable, Mapping
 from ctypes import addressof, c_char_p, c_int32, c_size_t, c_uint32, c_void_p
 from itertools import accumulate
 from pathlib import Path
-from typing import TypeVar
+from typing import Any, TypeVar
 
+# The version of clients/c/rudzkvano.h that this package calls: 65536 * major + 256 * minor + patch.
+HEADER_VERSION = 65792
 BUSY = -7
 BAD_SCHEMA = -4
 KEY_FAULT = 0xFFFFFFFF
@@ -69,21 +71,26 @@ class Refused(RudzkvanoError):
         self.code, self.name, self.text = code, name, text
 
 
-class SchemaFault(Refused):
-    """A schema or its bindings are refused: by the fault S`number`, at this line and column, which are 0 where it has none."""
+class WrongLibrary(RudzkvanoError):
+    """A shared object is no library of Rudzkvano, or one of a version that doesn't go with this package."""
 
-    def __init__(self, refused: Refused, number: int, line: int, column: int, in_bindings: bool) -> None:
+
+class SchemaFault(Refused):
+    """A schema or its bindings are refused: by the fault S`number`, at this line and column, which are 0 where it has none. `reason` says in words
+    what is wrong."""
+
+    def __init__(self, refused: Refused, number: int, line: int, column: int, in_bindings: bool, reason: str) -> None:
         super().__init__(refused.code, refused.name, refused.text)
-        self.args = (f"S{number} at {'bindings' if in_bindings else 'schema'}:{line}:{column}",)
-        self.number, self.line, self.column, self.in_bindings = number, line, column, in_bindings
+        self.args = (f"S{number} at {'bindings' if in_bindings else 'schema'}:{line}:{column}: {reason}",)
+        self.number, self.line, self.column, self.in_bindings, self.reason = number, line, column, in_bindings, reason
 
 
 class LoadFault(RudzkvanoError):
-    """A key that was loaded has no rows, for this reason; `of_batch` says that its whole batch failed."""
+    """A key that was loaded has no rows, for this reason; `of_batch` says that its whole batch failed. `extensions` are those of a PublicError."""
 
-    def __init__(self, text: str, of_batch: bool) -> None:
+    def __init__(self, text: str, of_batch: bool, extensions: Mapping[str, Any] | None = None) -> None:
         super().__init__(text)
-        self.text, self.of_batch = text, of_batch
+        self.text, self.of_batch, self.extensions = text, of_batch, extensions
 
 
 class Library:
@@ -91,8 +98,12 @@ class Library:
     else where the repository builds it."""
 
     def __init__(self, path: str | os.PathLike[str] | None = None) -> None:
-        self.calls = ctypes.CDLL(os.fspath(path or _default_path()))
+        found = os.fspath(path or _default_path())
+        self.calls = ctypes.CDLL(found)
+        if not hasattr(self.calls, "rz_version"):
+            raise WrongLibrary(f"{found} is no library of Rudzkvano")
         self.calls.rz_version.restype = c_uint32
+        _check_version(found, self.calls.rz_version())
         self.calls.rz_close.restype = None
         self.calls.rz_close.argtypes = (c_void_p,)
         for name in ("rz_code_name", "rz_code_text"):
@@ -102,8 +113,7 @@ class Library:
             getattr(self.calls, name).argtypes = sum((_ARGUMENTS[kind] for kind in kinds), ())
 
     def version(self) -> tuple[int, int, int]:
-        version = self.calls.rz_version()
-        return version >> 16, version >> 8 & 0xFF, version & 0xFF
+        return _parts(self.calls.rz_version())
 
     def refused(self, code: int) -> Refused:
         """The error of a code."""
@@ -113,6 +123,18 @@ class Library:
         words = ctypes.create_string_buffer(256)
         length = getattr(self.calls, call)(code, addressof(words), 256)
         return words.raw[:length].decode()
+
+
+def _check_version(path: str, version: int) -> None:
+    """A library goes with the header if it has the same major number, and the same rest or a larger one."""
+    wanted, found = _parts(HEADER_VERSION), _parts(version)
+    if found[0] != wanted[0] or found < wanted:
+        told, needed = (".".join(map(str, parts)) for parts in (found, wanted))
+        raise WrongLibrary(f"{path} is version {told} of the library, and this package needs {needed} or a later {wanted[0]}.x")
+
+
+def _parts(version: int) -> tuple[int, int, int]:
+    return version >> 16, version >> 8 & 0xFF, version & 0xFF
 
 
 def _default_path() -> str | Path:
@@ -132,7 +154,7 @@ def _close(library: Library, lock: threading.Lock, handle: c_void_p) -> None:
         library.calls.rz_close(addressof(handle))
 
 
-_Any = TypeVar("_Any", bound="Held")
+_Held = TypeVar("_Held", bound="Held")
 
 
 class Held:
@@ -160,7 +182,7 @@ class Held:
         """Frees what is held. Further calls are refused by RZ_BAD_HANDLE."""
         self._closing()
 
-    def __enter__(self: _Any) -> _Any:
+    def __enter__(self: _Held) -> _Held:
         return self
 
     def __exit__(self, *_: object) -> None:

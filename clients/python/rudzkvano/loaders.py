@@ -14,7 +14,8 @@ Value: TypeAlias = Union[str, int, float, bool, Decimal, date, UUID, None]
 
 
 class Row(Protocol):
-    """A row by name: a dict, a `sqlite3.Row`, or another object that has its columns as `keys()`."""
+    """A row by name: a dict, a `sqlite3.Row`, or another object that has its columns as `keys()`. A named tuple is a row too, and so is one of
+    SQLAlchemy."""
 
     def keys(self) -> Iterable[str]: ...
 

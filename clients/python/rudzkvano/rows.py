@@ -10,15 +10,35 @@ from functools import lru_cache
 from itertools import chain, islice
 from operator import itemgetter
 from string import ascii_lowercase, ascii_uppercase
-from types import NoneType
+from types import MappingProxyType, NoneType
 from typing import Any, NamedTuple, TypeAlias
 from uuid import UUID
 
+from .errors import parted
 from .library import BATCH_FAULT, KEY_FAULT, SAME_COLUMNS, LoadFault, flat
 from .loaders import Keys, Loaded, Loader
 
-# the reply to a batch: how many columns, for each key the number of its rows, where each text ends, and their bytes
-Reply: TypeAlias = tuple[int, "array[int]", "array[int]", bytes]
+_NOTHING: Mapping[str, Exception] = MappingProxyType({})
+
+
+class Reply(NamedTuple):
+    """The reply to a batch: how many columns, for each key the number of its rows, where each text ends, and their bytes.
+
+    `faults` are the errors of keys, each with its key. Their texts are those that come last, and aren't there before `with_faults` adds them.
+    `unread` are the columns that are left out, since a value in them has no text, each with the reason.
+    """
+
+    columns: int
+    rows: array[int]
+    ends: array[int]
+    data: bytes
+    faults: Sequence[tuple[Any, Exception]] = ()
+    unread: Mapping[str, Exception] = _NOTHING
+
+    def with_faults(self, texts: list[str]) -> Reply:
+        ends, data = flat(texts)
+        size = len(self.data)
+        return self._replace(ends=self.ends + array("I", [size + end for end in ends]), data=self.data + data, faults=())
 
 
 class _Shape(NamedTuple):
@@ -45,18 +65,17 @@ def reply_of(loader: Loader, keys: Keys, returned: Any) -> Reply:
     return _grouped(loader, keys, table)
 
 
-def item_of(loader: Loader, item: Any) -> Reply:
-    """The reply of one key: its rows, one row, None, or the error that is its fault."""
+def item_of(loader: Loader, key: Any, item: Any) -> Reply:
+    """The reply of this key: its rows, one row, None, or the error that is its fault. Raises TypeError for a value that has no text."""
     table = _as_table(loader, item)
     if table is None:
-        return _aligned(loader, [""], [item])
-    shape, values = table
-    return _flat_reply(loader, shape.columns, [len(values) // len(shape.columns)], _texts_of(loader, shape.columns, values))
-
-
-def fault_text(error: BaseException) -> str:
-    """The text of a fault: the message of the error, without what UTF-8 can't hold."""
-    return (str(error) or type(error).__name__).encode(errors="replace").decode()
+        reply = _aligned(loader, [key], [item])
+    else:
+        shape, values = table
+        reply = _flat_reply(loader, [len(values) // len(shape.columns)], _texts_of(loader, shape.columns, values))
+    for error in reply.unread.values():
+        raise error
+    return reply
 
 
 # ---- Values.
@@ -66,6 +85,12 @@ def _float_text(value: float) -> str:
     if value - value != 0:
         raise ValueError(f"{value} has no text")
     return str(int(value)) if value.is_integer() and abs(value) < 1e21 else float.__repr__(value)
+
+
+def _decimal_text(value: Decimal) -> str:
+    if not value.is_finite():
+        raise ValueError(f"{value} has no text")
+    return format(value, "f")
 
 
 def _date_text(value: date) -> str:
@@ -78,7 +103,7 @@ _TEXTS: dict[type, Callable[[Any], str]] = {
     bool: lambda value: "true" if value else "false",
     int: int.__repr__,
     float: _float_text,
-    Decimal: lambda value: format(value, "f"),
+    Decimal: _decimal_text,
     datetime: _date_text,
     date: _date_text,
     UUID: UUID.__str__,
@@ -96,24 +121,40 @@ def text_of(value: Any) -> str:
     return convert(value)
 
 
-def _texts_of(loader: Loader, columns: Sequence[str], values: list[Any]) -> list[str]:
+class _Texts(NamedTuple):
+    """The texts of rows, row after row, in these columns. `unread` are the columns that are left out."""
+
+    columns: Sequence[str]
+    texts: list[str]
+    unread: Mapping[str, Exception] = _NOTHING
+
+
+def _texts_of(loader: Loader, columns: Sequence[str], values: list[Any]) -> _Texts:
     """The texts of values, row after row."""
     kinds = set(map(type, values))
     if kinds <= _STRINGS:
-        return values
+        return _Texts(columns, values)
     if kinds <= _STRINGS_AND_NUMBERS:
-        return list(map(str, values))
+        return _Texts(columns, list(map(str, values)))
     try:
-        return [value if type(value) is str else _TEXTS[type(value)](value) for value in values]
+        return _Texts(columns, [value if type(value) is str else _TEXTS[type(value)](value) for value in values])
     except (KeyError, ValueError):
-        return [_named_text(loader, columns[place % len(columns)], value) for place, value in enumerate(values)]
+        return _column_by_column(loader, columns, values)
 
 
-def _named_text(loader: Loader, column: str, value: Any) -> str:
-    try:
-        return text_of(value)
-    except (TypeError, ValueError) as error:
-        raise TypeError(f"loader {loader.name}, column {column}: {error}") from None
+def _column_by_column(loader: Loader, columns: Sequence[str], values: list[Any]) -> _Texts:
+    """The texts of values, without the columns that have a value of no text."""
+    read: list[tuple[str, list[str]]] = []
+    unread: dict[str, Exception] = {}
+    for place, column in enumerate(columns):
+        try:
+            read.append((column, list(map(text_of, values[place :: len(columns)]))))
+        except (TypeError, ValueError) as error:
+            unread[column] = TypeError(f"loader {loader.name}, column {column}: {error}")
+    if not read:
+        raise next(iter(unread.values()))
+    names, texts = zip(*read)
+    return _Texts(names, list(chain.from_iterable(zip(*texts))), unread)
 
 
 # ---- Rows.
@@ -124,10 +165,18 @@ _DICTS, _LISTS, _DICT_OR_NONE = frozenset({dict}), frozenset({list}), frozenset(
 def _as_table(loader: Loader, returned: Any) -> _Table | None:
     """What a cursor has, or the names of columns with rows; or none."""
     if hasattr(returned, "fetchall"):
-        if returned.description is None:
-            raise TypeError(f"loader {loader.name}: the cursor has run no query")
-        return _joined(loader, [column[0] for column in returned.description], returned.fetchall())
+        columns = _columns_of(loader, returned)
+        return None if columns is None else _joined(loader, columns, returned.fetchall())
     return _joined(loader, returned[0], list(returned[1])) if _is_table(returned) else None
+
+
+def _columns_of(loader: Loader, cursor: Any) -> list[str] | None:
+    """The columns of a cursor of the DB-API, or of a result of SQLAlchemy; or none, where it has no rows of columns."""
+    if not hasattr(cursor, "description"):
+        return list(cursor.keys()) if hasattr(cursor, "keys") else None
+    if cursor.description is None:
+        raise TypeError(f"loader {loader.name}: the cursor has run no query")
+    return [column[0] for column in cursor.description]
 
 
 def _is_table(returned: Any) -> bool:
@@ -156,7 +205,19 @@ def _as_list(loader: Loader, returned: Any) -> list[Any]:
 
 
 def _is_row_type(kind: type) -> bool:
-    return kind is dict or hasattr(kind, "keys")
+    return kind is dict or hasattr(kind, "keys") or _is_named_tuple(kind)
+
+
+def _is_named_tuple(kind: type) -> bool:
+    """Whether this is a named tuple, or a row of SQLAlchemy."""
+    return hasattr(kind, "_fields") or hasattr(kind, "_mapping")
+
+
+def _by_name(row: Any) -> Any:
+    """A row that is asked by name."""
+    if hasattr(row, "_mapping"):
+        return row._mapping
+    return dict(zip(row._fields, row)) if hasattr(row, "_fields") else row
 
 
 def _with_keys(loader: Loader, items: list[Any]) -> _Table | None:
@@ -186,6 +247,8 @@ _NO_SHAPE = _Shape((), tuple, None)
 
 def _fields(loader: Loader, rows: Sequence[Any]) -> _Table:
     """Rows by name. A row has None in a column that only others have."""
+    if any(map(_is_named_tuple, set(map(type, rows)) - _DICTS)):
+        rows = list(map(_by_name, rows))
     columns = tuple(rows[0].keys())
     if columns and (len(rows) == 1 or set(map(len, rows)) == {len(columns)}):
         shape = _shape(loader.columns, columns)
@@ -214,48 +277,96 @@ def _folded(key: Any) -> Any:
 def _grouped(loader: Loader, keys: Keys, table: _Table) -> Reply:
     """The reply of rows in any order, which have their keys in the columns of the loader."""
     (columns, _, key_places), values = table
-    texts = _texts_of(loader, columns, values)
-    if not loader.columns or not texts:
-        return _flat_reply(loader, columns, [len(texts) // max(len(columns), 1)] * max(len(keys), 1), texts)
+    read = _texts_of(loader, columns, values)
+    if not loader.columns or not values:
+        return _flat_reply(loader, [len(values) // max(len(columns), 1)] * max(len(keys), 1), read)
     if key_places is None:
         raise ValueError(f"loader {loader.name}: its rows haven't all its columns")
-    parts = [texts[place :: len(columns)] for place in key_places]
+    if read.unread:
+        key_places = _places_in(read, loader.columns)
+    parts = [read.texts[place :: len(read.columns)] for place in key_places]
     asked, found = list[Any](keys), parts[0] if len(parts) == 1 else list[Any](zip(*parts))
     if loader.folds:
         asked, found = list(map(_folded, asked)), list(map(_folded, found))
     if found == asked:
-        return _flat_reply(loader, columns, [1] * len(keys), texts)
-    groups: dict[Any, list[Sequence[str]]] = {key: [] for key in asked}
-    for key, row in zip(found, zip(*[iter(texts)] * len(columns))):
-        if key not in groups:
-            raise ValueError(f"loader {loader.name}: a row of the key {key!r}, which wasn't asked for")
-        groups[key].append(row)
-    rows = chain.from_iterable(groups.values())
-    return _flat_reply(loader, columns, list(map(len, groups.values())), list(chain.from_iterable(rows)))
+        return _flat_reply(loader, [1] * len(keys), read)
+    return _sorted(loader, dict(zip(asked, keys)), found, read)
+
+
+def _places_in(read: _Texts, columns: Sequence[str]) -> list[int]:
+    """Where these columns are, of which none may have been left out."""
+    for column in columns:
+        if column in read.unread:
+            raise read.unread[column]
+    return [read.columns.index(column) for column in columns]
+
+
+def _sorted(loader: Loader, keys: Mapping[Any, Any], found: list[Any], read: _Texts) -> Reply:
+    """The reply of rows that have these keys, in the order of the keys that were asked for."""
+    groups: dict[Any, list[Sequence[str]]] = {key: [] for key in keys}
+    others: dict[Any, None] = {}
+    for key, row in zip(found, zip(*[iter(read.texts)] * len(read.columns))):
+        if key in groups:
+            groups[key].append(row)
+        else:
+            others[key] = None
+    read = read._replace(texts=list(chain.from_iterable(chain.from_iterable(groups.values()))))
+    if not others:
+        return _flat_reply(loader, list(map(len, groups.values())), read)
+    faults = _faults_of_casts(loader, {key: keys[key] for key, rows in groups.items() if not rows}, others)
+    counts = [KEY_FAULT if key in faults else len(rows) for key, rows in groups.items()]
+    return _flat_reply(loader, counts, read, [(keys[key], faults[key]) for key in groups if key in faults])
+
+
+def _faults_of_casts(loader: Loader, without_rows: Mapping[Any, Any], others: Iterable[Any]) -> dict[Any, Exception]:
+    """The faults of keys for which there are rows of other keys, since the database takes both for the same, as 1 and 01."""
+    alike: dict[Any, list[Any]] = {}
+    for key in without_rows:
+        alike.setdefault(_as_cast(key), []).append(key)
+    faults: dict[Any, Exception] = {}
+    for other in others:
+        if _as_cast(other) not in alike:
+            raise ValueError(f"loader {loader.name}: a row of the key {other!r}, which wasn't asked for")
+        for key in alike[_as_cast(other)]:
+            faults[key] = ValueError(f"loader {loader.name}: a row of the key {other!r} for the key {without_rows[key]!r}")
+    return faults
+
+
+def _as_cast(key: Any) -> Any:
+    """What is the same for texts that a database may take for the same: a number, or a text without case and blanks around it."""
+    if isinstance(key, tuple):
+        return tuple(map(_as_cast, key))
+    text = key.strip()
+    try:
+        number = Decimal(text)
+    except ArithmeticError:
+        return text.casefold()
+    return number if number.is_finite() else text.casefold()
 
 
 def _aligned(loader: Loader, keys: Keys, items: list[Any]) -> Reply:
     """The reply of an item for each key: its rows, one row, None, or the error that is its fault."""
     if len(items) != len(keys):
         raise ValueError(f"loader {loader.name}: {len(items)} items for {len(keys)} keys, which aren't all rows with its columns")
-    kinds, faults = set(map(type, items)), list[str]()
+    kinds, faults = set(map(type, items)), list[tuple[Any, Exception]]()
     if kinds <= _DICT_OR_NONE:
         rows, counts = [item for item in items if item is not None], [0 if item is None else 1 for item in items]
     elif kinds == _LISTS:
         rows, counts = list(chain.from_iterable(items)), [len(item) for item in items]
     else:
-        rows, counts, faults = _one_by_one(loader, items)
+        rows, counts = _one_by_one(loader, items)
+        faults = [(key, item) for key, item in zip(keys, items) if isinstance(item, Exception)]
     for kind in set(map(type, rows)):
         if not _is_row_type(kind):
             raise TypeError(f"loader {loader.name}: a row of type {kind.__name__}")
     shape, values = _fields(loader, rows) if rows else (_NO_SHAPE, [])
-    return _flat_reply(loader, shape.columns, counts, _texts_of(loader, shape.columns, values) + faults)
+    return _flat_reply(loader, counts, _texts_of(loader, shape.columns, values), faults)
 
 
-def _one_by_one(loader: Loader, items: list[Any]) -> tuple[list[Any], list[int], list[str]]:
-    """All rows, how many each key has, and the faults."""
+def _one_by_one(loader: Loader, items: list[Any]) -> tuple[list[Any], list[int]]:
+    """All rows, and how many each key has."""
     rows: list[Any] = []
-    counts, faults = [], []
+    counts: list[int] = []
     for item in items:
         if item is None:
             counts.append(0)
@@ -267,18 +378,17 @@ def _one_by_one(loader: Loader, items: list[Any]) -> tuple[list[Any], list[int],
             rows.extend(item)
         elif isinstance(item, Exception):
             counts.append(KEY_FAULT)
-            faults.append(fault_text(item))
         else:
             raise TypeError(f"loader {loader.name}: an item of type {type(item).__name__}")
-    return rows, counts, faults
+    return rows, counts
 
 
-def _flat_reply(loader: Loader, columns: Sequence[str], counts: list[int], texts: list[str]) -> Reply:
+def _flat_reply(loader: Loader, counts: list[int], read: _Texts, faults: Sequence[tuple[Any, Exception]] = ()) -> Reply:
     try:
-        ends, data = flat([*columns, *texts])
+        ends, data = flat([*read.columns, *read.texts])
     except TypeError:
         raise TypeError(f"loader {loader.name}: the name of a column is no text") from None
-    return len(columns), array("I", counts), ends, data
+    return Reply(len(read.columns), array("I", counts), ends, data, faults, read.unread)
 
 
 # ---- The rows of loaded keys.
@@ -286,8 +396,12 @@ def _flat_reply(loader: Loader, columns: Sequence[str], counts: list[int], texts
 
 def outcomes_of(counts: list[int], widths: list[int], texts: list[str], faults: list[str]) -> list[Loaded]:
     """The rows of each key, or its fault, of what `rz_loaded` copies."""
-    rows, reasons = _rows_of(widths, texts), iter(faults)
-    return [list(islice(rows, count)) if count < BATCH_FAULT else LoadFault(next(reasons), count == BATCH_FAULT) for count in counts]
+    rows, reasons = _rows_of(widths, texts), map(parted, faults)
+    return [list(islice(rows, count)) if count < BATCH_FAULT else _fault(count, *next(reasons)) for count in counts]
+
+
+def _fault(count: int, text: str, extensions: dict[str, Any] | None) -> LoadFault:
+    return LoadFault(text, count == BATCH_FAULT, extensions)
 
 
 def _rows_of(widths: list[int], texts: list[str]) -> Iterator[dict[str, str | None]]:

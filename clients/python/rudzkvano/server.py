@@ -6,29 +6,41 @@ import json
 import os
 from array import array
 from collections.abc import Mapping
+from threading import Lock
 from typing import TYPE_CHECKING, Any, TypeAlias, TypedDict, Union
 
-from .client import Client, Query, Variables
+from .client import Asks, Client, Introspect, Query, Variables
+from .errors import OnError
+from .introspection import GraphQL, Introspection
 from .library import BAD_SCHEMA, Held, Library, Refused, SchemaFault, buffer_of, cut, words
+from .limits import checked_limit
 from .loaders import Loader, Loaders, OnRound
+from .schema_faults import reason_of
 
 if TYPE_CHECKING:
     from typing_extensions import Unpack
 
 # how many clients that are answering nothing a server keeps: each keeps the documents of its queries
 _KEPT_CLIENTS = 16
-
+_NOTHING = Asks()
 
 MaxBatch: TypeAlias = Union[int, Mapping[str, int], None]
 
 
-class Options(TypedDict, total=False):
+class _AskOptions(TypedDict, total=False):
+    on_round: Union[OnRound, None]
+    on_error: Union[OnError, None]
+    introspection: Union[GraphQL, None]
+
+
+class Options(_AskOptions, total=False):
     """`max_batch`: the greatest number of keys in one batch, for all loaders or by their names, 1 to 65,535. `max_answer`: the greatest number of
-    bytes in an answer. `on_round`: what is called after each round. Each may be None."""
+    bytes in an answer. `on_round`: what is called after each round. `on_error`: what is called with each error of a batch function, and says what
+    callers are told of it. `introspection`: the module `graphql` of graphql-core, which answers operations that ask for `__schema` or `__type`
+    alone. Each may be None."""
 
     max_batch: MaxBatch
     max_answer: Union[int, None]
-    on_round: Union[OnRound, None]
 
 
 class Server(Held):
@@ -44,10 +56,15 @@ class Server(Held):
             if refused.code != BAD_SCHEMA:
                 raise
             line, column, rest = fault
-            raise SchemaFault(refused, rest & 0xFFFFFFFF, line, column, bool(rest >> 32)) from None
+            place = rest & 0xFFFFFFFF, line, column, bool(rest >> 32)
+            raise SchemaFault(refused, *place, reason_of(*place, schema, bindings)) from None
         self.loaders = self._read_loaders()
         self._names = frozenset(loader.name for loader in self.loaders)
-        self._idle: dict[tuple[int, ...], list[Client]] = {}
+        self._schema = schema
+        self._introspection: Introspection | None = None
+        # those that ended last stand last
+        self._idle: list[Client] = []
+        self._idle_lock = Lock()
 
     def _read_loaders(self) -> tuple[Loader, ...]:
         sizes = array("Q", bytes(16))
@@ -120,35 +137,51 @@ class Server(Held):
     def close(self) -> None:
         """Frees the server. Its clients go on."""
         super().close()
-        for clients in self._idle.values():
-            while clients:
-                clients.pop().close()
+        with self._idle_lock:
+            idle, self._idle = self._idle, []
+        for client in idle:
+            client.close()
 
-    def _made(self, loaders: Loaders, max_batch: MaxBatch = None, max_answer: int | None = None, on_round: OnRound | None = None) -> Client:
-        self._check(loaders)
-        client = self._new_client(self._limits(max_batch))
-        client._ask_by(loaders, max_answer, on_round)
+    def _made(self, loaders: Loaders, max_batch: MaxBatch = None, max_answer: int | None = None, **asks: Unpack[_AskOptions]) -> Client:
+        functions, limits = self._asks(loaders, **asks), self._limits(max_batch)
+        client = self._new_client(limits)
+        client._ask_by(functions, max_answer)
         return client
 
-    def _lent(self, loaders: Loaders, max_batch: MaxBatch = None, max_answer: int | None = None, on_round: OnRound | None = None) -> Client:
+    def _lent(self, loaders: Loaders, max_batch: MaxBatch = None, max_answer: int | None = None, **asks: Unpack[_AskOptions]) -> Client:
         """A client that knows nothing, for one request. It may have answered others before, and keeps the documents of their queries."""
-        self._check(loaders)
-        limits = self._limits(max_batch)
-        try:
-            client = self._idle[limits].pop()
-        except (KeyError, IndexError):
-            client = self._new_client(limits)
-        client._ask_by(loaders, max_answer, on_round)
+        functions, limits = self._asks(loaders, **asks), self._limits(max_batch)
+        client = self._taken(limits) or self._new_client(limits)
+        client._ask_by(functions, max_answer)
         return client
+
+    def _taken(self, limits: tuple[int, ...]) -> Client | None:
+        """An idle client with these limits."""
+        with self._idle_lock:
+            for place in reversed(range(len(self._idle))):
+                if self._idle[place]._limits == limits:
+                    return self._idle.pop(place)
+        return None
 
     def _take_back(self, client: Client) -> None:
-        idle = self._idle.setdefault(client._limits, [])
-        if len(idle) < _KEPT_CLIENTS and not self.closed:
-            client._restart()
-            client._ask_by({}, client._max_answer, None)
-            idle.append(client)
-        else:
-            client.close()
+        """Has a client stand by, in place of the one that has stood by longest where there are enough."""
+        client._restart()
+        client._ask_by(_NOTHING, client._max_answer)
+        with self._idle_lock:
+            self._idle.append(client)
+            ended = self._idle.pop(0) if len(self._idle) > _KEPT_CLIENTS or self.closed else None
+        if ended is not None:
+            ended.close()
+
+    def _asks(self, loaders: Loaders, on_round: OnRound | None = None, on_error: OnError | None = None, introspection: GraphQL | None = None) -> Asks:
+        self._check(loaders)
+        return Asks(loaders, on_round, on_error, self._introspect(introspection) if introspection else None)
+
+    def _introspect(self, graphql: GraphQL) -> Introspect:
+        """What answers introspection by this module."""
+        if self._introspection is None or self._introspection.graphql is not graphql:
+            self._introspection = Introspection(graphql, self._schema)
+        return self._introspection.answer
 
     def _check(self, loaders: Mapping[str, Any]) -> None:
         if not self._names.issuperset(loaders):
@@ -161,8 +194,7 @@ class Server(Held):
         by_name = max_batch if isinstance(max_batch, Mapping) else dict.fromkeys(self._names, max_batch)
         self._check(by_name)
         for name, limit in by_name.items():
-            if not 1 <= limit <= 65535:
-                raise ValueError(f"max_batch of loader {name} is {limit}, and not 1 to 65,535")
+            checked_limit(f"max_batch of loader {name}", limit, 65535)
         return tuple(by_name.get(loader.name, 0) for loader in self.loaders)
 
     def _new_client(self, limits: tuple[int, ...]) -> Client:

@@ -3,20 +3,72 @@
 import asyncio
 import os
 import random
+import re
+import shutil
 import subprocess
 import sys
+import tempfile
 import threading
 import unittest
 from concurrent.futures import ThreadPoolExecutor
+from decimal import Decimal
 from pathlib import Path
 from typing import Any
 
 import worlds
-from rudzkvano import Client, Library, LoadFault, Progress, Refused, SchemaFault, Server
+from rudzkvano import Client, Library, LoadFault, Progress, PublicError, Refused, SchemaFault, Server, WrongLibrary
+from rudzkvano.library import HEADER_VERSION
 
 ADA = {"data": {"user": {"name": "Ada"}}}
 USER, BEST = "{user(id:1){name}}", "{users{best{name}} user(id:3){name}}"
 MISSING_NAME = "query($i:ID!){user(id:$i){name}}"
+
+
+QUERY_TYPE = "type Query { a: Int }"
+# schemas, and why they are refused
+REASONS = [
+    ("type Query { a: Int", "the text ends too early"),
+    ("type Query { a: Int é }", '"é" can\'t stand here'),
+    ("type Query { a: Int }}", '"}" can\'t stand here'),
+    ("type Query { a: Int a: Int }", '"a" is defined twice'),
+    (f"{QUERY_TYPE}\n# Query {{\n{QUERY_TYPE}", '"Query" is defined twice'),
+    (f'"""a type {{ of {{ nothing"""\r\n{QUERY_TYPE}\rtype B {{ b: C }}', 'there is no type "C"'),
+    ("type A { a: Int }", 'there is neither a type "Query" nor a "schema" that names the root type'),
+    ("type Query { __a: Int }", 'the name "__a" begins with two underscores'),
+    (
+        "interface I { b: Int } type Query implements I { a: Int }",
+        'the type "Query" lacks a field or an argument of "I", or has it with another type',
+    ),
+    ("scalar Date", '"scalar Date" isn\'t served'),
+    ("type Query { a: Int @old(reason: 1) }", 'the directive "@old" isn\'t served'),
+    ("type Query { a: Float }", '"Float" isn\'t served'),
+    ("type Query { a(b: Query): Int }", '"Query" is a type of another kind than is needed here'),
+    ('type Query { a(b: Int = "x y"): Int }', 'the default "x y" isn\'t of the type of its argument'),
+]
+# lines of the bindings, other lines in their place, and why these are refused
+VERSION, FRIEND, POSTS = "bindings 1\n", "field User.best one userById column best\n", "field User.posts many postsByAuthor column id\n"
+USER_BY_ID, ALL_USERS = "field Query.user one userById arg id\n", "loader allUsers users\n"
+REASONS_IN_BINDINGS = [
+    (VERSION, "", 'the first line is "bindings 1" or "bindings 2", and not "loader userById users by id"'),
+    (VERSION, "# bindings 1\nbindings 9\n", 'the first line is "bindings 1" or "bindings 2", and not "bindings 9"'),
+    (POSTS, "", 'there is no line for the field "User.posts"'),
+    (POSTS, f"#{POSTS}", 'there is no line for the field "User.posts"'),
+    (POSTS, "fields\n", 'a line begins with "loader" or "field", and not "fields"'),
+    (POSTS, " \n", "a line of spaces alone, or with a space before its #, is none"),
+    (POSTS, " # x\n", "a line of spaces alone, or with a space before its #, is none"),
+    (POSTS, FRIEND, 'there is another line for "User.best" before'),
+    (POSTS, POSTS.replace("User.posts", "posts"), '"posts" is no field, as "Query.user" is one'),
+    (POSTS, POSTS.replace("posts", "past"), 'the type "User" has no field "past"'),
+    (POSTS, POSTS.replace("User.", "Users."), 'the schema has no type "Users"'),
+    (POSTS, POSTS.replace("many", "some"), '"some" is none of the forms column, one, many, each, via'),
+    (POSTS, POSTS.replace("postsBy", "postBy"), 'there is no loader "postByAuthor" before'),
+    (POSTS, POSTS.replace("column id", "arg id"), '"User.posts" has no argument "id"'),
+    (POSTS, POSTS.replace("many", "one"), 'the form "one" with this key doesn\'t fit the type of "User.posts" and the loader'),
+    (POSTS, "field User.posts column posts\n", 'the form "column" with this key doesn\'t fit the type of "User.posts" and the loader'),
+    (USER_BY_ID, "field Query.user one userById column id\n", '"Query.user" is a field of the root, which has no columns'),
+    (ALL_USERS, "loader userById users\n", 'there is another loader "userById" before'),
+    (ALL_USERS, "loader allUsers users with id\n", 'a loader is "loader NAME TABLE", or "loader NAME TABLE by COLUMN"'),
+]
 
 
 def failed(message: str) -> dict[str, Any]:
@@ -40,9 +92,9 @@ class Refusals(Calls):
     def test_a_refused_schema(self) -> None:
         world = worlds.WORLDS["examples"]
         faults = [
-            ("type Query { a: Nope }", world.bindings, (3, 1, 17, False), "S3 at schema:1:17"),
-            ("type Query {\n  a: [[Int]]\n}", world.bindings, (7, 2, 7, False), "S7 at schema:2:7"),
-            (world.schema, "bindings 1\nloader", (8, 2, 0, True), "S8 at bindings:2:0"),
+            ("type Query { a: Nope }", world.bindings, (3, 1, 17, False), 'S3 at schema:1:17: there is no type "Nope"'),
+            ("type Query {\n  a: [[Int]]\n}", world.bindings, (7, 2, 7, False), "S7 at schema:2:7: a list of lists isn't served"),
+            (world.schema, "bindings 1\nno", (8, 2, 0, True), 'S8 at bindings:2:0: a line begins with "loader" or "field", and not "no"'),
         ]
         for schema, bindings, wanted, text in faults:
             with self.subTest(text), self.assertRaises(SchemaFault) as raised:
@@ -50,6 +102,19 @@ class Refusals(Calls):
             fault = raised.exception
             self.assertEqual((fault.number, fault.line, fault.column, fault.in_bindings), wanted)
             self.assertEqual((str(fault), fault.name), (text, "RZ_BAD_SCHEMA"))
+            self.assertEqual(fault.reason, text.partition(": ")[2])
+
+    def test_the_reason_of_a_refused_schema(self) -> None:
+        for schema, reason in REASONS:
+            with self.subTest(schema), self.assertRaises(SchemaFault) as raised:
+                Server(schema, "bindings 1\n")
+            self.assertEqual(raised.exception.reason, reason)
+        world = worlds.WORLDS["examples"]
+        for line, other, reason in REASONS_IN_BINDINGS:
+            with self.subTest(line=line, other=other), self.assertRaises(SchemaFault) as raised:
+                self.assertIn(line, world.bindings)
+                Server(world.schema, world.bindings.replace(line, other))
+            self.assertEqual(raised.exception.reason, reason)
 
     def test_names_of_loaders(self) -> None:
         calls: list[Any] = [
@@ -67,8 +132,17 @@ class Refusals(Calls):
         for limit in (0, -1, 65536):
             with self.assertRaises(ValueError):
                 self.server.answer(USER, self.functions, max_batch=limit)
-        with self.assertRaises(ValueError):
-            self.server.answer(USER, self.functions, max_answer=0)
+        no_limits: list[Any] = [0, -1, float("nan"), float("inf"), 1.5]
+        for limit in no_limits:
+            with self.assertRaisesRegex(ValueError, "^max_batch of loader [A-Za-z]* is .*, and not 1 to 65,535$"):
+                self.server.answer(USER, self.functions, max_batch=limit)
+            with self.assertRaisesRegex(ValueError, "^max_answer is .*, and not 1 to [0-9,]*$"):
+                self.server.answer(USER, self.functions, max_answer=limit)
+            with self.assertRaises(ValueError):
+                self.server.client({}).limit_answers(limit)
+        for key in (float("nan"), float("-inf"), Decimal("nan")):
+            with self.assertRaisesRegex(ValueError, "has no text$"):
+                self.server.client({}).clear("userById", key)
         with self.assertRaises(TypeError):
             self.server.answer(USER, self.functions, max_batches=1)  # type: ignore[call-arg]
         with self.assertRaises(TypeError):
@@ -107,6 +181,43 @@ class Refusals(Calls):
         for variables in ({"RUDZKVANO_LIBRARY": "/nowhere/lib.so"}, {"RUDZKVANO_LIBRARY": str(Path(path) / "no.so")}):
             run = subprocess.run([sys.executable, "-c", program], env={**os.environ, **variables, "PYTHONPATH": path}, capture_output=True, text=True)
             self.assertIn(variables["RUDZKVANO_LIBRARY"], run.stderr)
+
+    def test_the_version_is_that_of_the_header(self) -> None:
+        header = worlds.read(worlds.REPOSITORY / "clients/c/rudzkvano.h")
+        self.assertEqual(re.findall(r"define RZ_VERSION (\d+)u", header), [str(HEADER_VERSION)])
+        self.assertGreaterEqual(Library().version(), (HEADER_VERSION >> 16, HEADER_VERSION >> 8 & 255, HEADER_VERSION & 255))
+
+    @unittest.skipUnless(shutil.which("cc"), "there is no C compiler, so libraries of other versions aren't tried")
+    def test_a_library_of_another_version(self) -> None:
+        needs = "of the library, and this package needs 1.1.0 or a later 1.x"
+        cases = [
+            ("unsigned rz_version(void) { return 65536; }", f"is version 1.0.0 {needs}"),
+            ("unsigned rz_version(void) { return 65791; }", f"is version 1.0.255 {needs}"),
+            ("unsigned rz_version(void) { return 131072; }", f"is version 2.0.0 {needs}"),
+            ("int other;", "is no library of Rudzkvano"),
+        ]
+        with tempfile.TemporaryDirectory() as folder:
+            for number, (text, why) in enumerate(cases):
+                path = f"{folder}/{number}.so"
+                subprocess.run(["cc", "-shared", "-fPIC", "-x", "c", "-", "-o", path], input=text.encode(), check=True)
+                with self.assertRaises(WrongLibrary) as raised:
+                    Library(path)
+                self.assertEqual(str(raised.exception), f"{path} {why}")
+
+    def test_idle_clients_are_bounded_in_all(self) -> None:
+        asked: list[Any] = []
+        functions = {"userById": worlds.noted(asked, self.functions["userById"])}
+        for limit in range(1, 100):
+            self.assertEqual(self.server.answer(USER, functions, max_batch=limit), ADA)
+        self.assertEqual(len(self.server._idle), 16)
+        kept = list(self.server._idle)
+        self.server.answer(USER, functions, max_batch=99)
+        self.assertEqual(self.server._idle, kept, "the one with these limits is taken again")
+        self.server.answer(USER, functions, max_batch=90)
+        self.assertIs(self.server._idle[-1], kept[6])
+        self.assertEqual(len(asked), 101)
+        self.server.close()
+        self.assertTrue(all(client.closed for client in kept))
 
 
 class Faults(Calls):
@@ -150,6 +261,113 @@ class Faults(Calls):
         self.assertEqual(self.server.answer('{user(id:"\ud800"){name}}', {}), {"errors": [{"message": "not a request"}]})
         self.assertEqual(self.server.answer(USER, {}, None, "\ud800"), {"errors": [{"message": "not a request"}]})
         self.assertEqual(self.server.answer(USER, {}, None, ""), self.server.answer({"query": USER, "operationName": ""}, {}))
+
+
+class Errors(Calls):
+    """What is told of errors: to the hook `on_error`, and to callers."""
+
+    def asks(self, error: Exception) -> Any:
+        """A function that fails for the key 9, and has an error for 8."""
+
+        def ask(keys: Any) -> Any:
+            if "9" in keys:
+                raise error
+            return [error if key == "8" else {"id": key, "name": "Ada"} for key in keys]
+
+        return {"userById": ask}
+
+    def told(self, response: Any) -> list[Any]:
+        return [(error["message"], error.get("extensions"), error["path"]) for error in response.get("errors", [])]
+
+    def both(self, query: Any, functions: Any, **options: Any) -> Any:
+        """The response, which is the same where it is awaited."""
+        found = self.server.answer(query, functions, **options)
+        self.assertEqual(asyncio.run(self.server.answer_async(query, functions, **options)), found)
+        return found
+
+    def test_without_a_hook_all_messages_are_told(self) -> None:
+        query = "{a:user(id:9){name} b:user(id:8){name}}"
+        for error, message, extensions in [
+            (OSError("down"), "down", None),
+            (PublicError("no", {"é": [1]}), "no", {"é": [1]}),
+            (PublicError("no"), "no", None),
+        ]:
+            found = self.both(query, self.asks(error), max_batch=1)
+            self.assertEqual(self.told(found), [(message, extensions, ["a"]), (message, extensions, ["b"])])
+
+    def test_the_hook_gets_errors_and_says_what_is_told(self) -> None:
+        down, public = OSError("down"), PublicError("gone", {"code": 1})
+        answers: list[tuple[Exception, Any, tuple[str, Any]]] = [
+            (down, None, ("internal error", None)),
+            (down, "sorry", ("sorry", None)),
+            (down, "", ("", None)),
+            (down, public, ("gone", {"code": 1})),
+            (down, "\ud800", ("?", None)),
+            (public, None, ("gone", {"code": 1})),
+            (public, "sorry", ("sorry", None)),
+        ]
+        for error, answer, (message, extensions) in answers:
+            calls: list[Any] = []
+
+            def hook(error: Exception, loader: str, keys: Any) -> Any:
+                calls.append((error, loader, keys))
+                return answer
+
+            with self.subTest(error=error, answer=answer):
+                found = self.both("{a:user(id:9){name} b:user(id:8){name}}", self.asks(error), max_batch=1, on_error=hook)
+                self.assertEqual(self.told(found), [(message, extensions, ["a"]), (message, extensions, ["b"])])
+                self.assertEqual(calls, [(error, "userById", ["9"]), (error, "userById", ["8"])] * 2)
+
+    def test_the_hook_gets_what_this_package_refuses(self) -> None:
+        calls: list[Any] = []
+        functions: list[Any] = [{}, {"userById": lambda keys: 5}, {"userById": lambda keys: [{"id": 1, "name": [1]}]}]
+        for each in functions:
+            found = self.server.answer(USER, each, on_error=lambda *given: calls.append(given))
+            self.assertEqual([message for message, _, _ in self.told(found)], ["internal error"])
+        wanted = ["no function for loader userById", "loader userById: its function returned int, and no list"]
+        wanted.append("loader userById, column name: a value of type list has no text")
+        self.assertEqual([(str(error), loader, keys) for error, loader, keys in calls], [(it, "userById", ["1"]) for it in wanted])
+
+    def test_extensions_stand_in_their_own_errors(self) -> None:
+        def asks(keys: Any) -> Any:
+            return [PublicError("no", {"key": key}) if key in "123" else {"id": key, "name": f'"no","key":{key}'} for key in keys]
+
+        queries: list[Any] = [
+            {"query": "{usersByIds(ids:[1,4,2]){name}}"},
+            {"query": "{user(id:4){name}}"},
+            {"query": "{user(id:3){name}}"},
+            {"query": "{"},
+        ]
+        many, right, one, wrong = self.both(queries, {"userById": asks})
+        self.assertEqual(self.told(many), [("no", {"key": "1"}, ["usersByIds", 0]), ("no", {"key": "2"}, ["usersByIds", 2])])
+        self.assertEqual(many["data"], {"usersByIds": [None, {"name": '"no","key":4'}, None]})
+        self.assertEqual((right, self.told(one)), ({"data": {"user": {"name": '"no","key":4'}}}, [("no", {"key": "3"}, ["user"])]))
+        self.assertEqual(wrong["errors"][0]["message"], "unexpected end")
+
+    def test_extensions_are_known_with_their_faults(self) -> None:
+        with self.server.client(self.asks(PublicError("no", {"code": 1})), max_batch=1) as client:
+            for _ in range(2):
+                self.assertEqual(self.told(client.answer("{user(id:8){name}}")), [("no", {"code": 1}, ["user"])])
+            faults = client.load_many("userById", [8, 9])
+            wanted = [("no", "no", False, {"code": 1}), ("no", "no", True, {"code": 1})]
+            self.assertEqual([(str(it), it.text, it.of_batch, it.extensions) for it in faults if isinstance(it, LoadFault)], wanted)
+            self.assertTrue(client.prime("userById", 7, PublicError("seven", {"code": 7})))
+            self.assertEqual(self.told(client.answer("{user(id:7){name}}")), [("seven", {"code": 7}, ["user"])])
+            self.assertEqual(client.answer(USER), ADA)
+
+    def test_an_error_of_the_hook_goes_on(self) -> None:
+        def hook(error: Exception, loader: str, keys: Any) -> Any:
+            raise ZeroDivisionError
+
+        for query in ("{user(id:9){name}}", "{user(id:8){name}}"):
+            with self.assertRaises(ZeroDivisionError):
+                self.server.answer(query, self.asks(OSError("down")), on_error=hook)
+        self.assertEqual(self.server.answer(USER, self.functions, on_error=hook), ADA)
+
+    def test_rounds_tell_the_error_itself(self) -> None:
+        rounds: list[Any] = []
+        self.server.answer("{user(id:9){name}}", self.asks(PublicError("down", {"code": 1})), on_round=rounds.append, on_error=lambda *_: "sorry")
+        self.assertEqual([ran.failed for ran in rounds[0].batches], ["down"])
 
 
 class Options(Calls):

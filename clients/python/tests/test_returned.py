@@ -3,10 +3,12 @@
 import sqlite3
 import unittest
 import uuid
+from collections.abc import Mapping
 from datetime import date, datetime, timedelta, timezone
 from decimal import Decimal
 from enum import Enum, IntEnum
-from typing import Any
+from types import MappingProxyType
+from typing import Any, NamedTuple
 
 import worlds
 from rudzkvano import Server
@@ -34,12 +36,65 @@ class Size(IntEnum):
     SMALL = 3
 
 
+class Item(NamedTuple):
+    id: Any
+    text: Any
+
+
 class Cursor:
     """A cursor of the DB-API."""
 
     def __init__(self, columns: list[str] | None, rows: list[Any]) -> None:
         self.description = None if columns is None else [(column, None, None, None, None, None, None) for column in columns]
         self.fetchall = lambda: rows
+
+
+class AlchemyRow(tuple[Any, ...]):
+    """Has the shape of a row of SQLAlchemy: a tuple, with the names of its columns as `_fields`, and itself by name as `_mapping`."""
+
+    _columns: tuple[str, ...]
+
+    def __new__(cls, **members: Any) -> "AlchemyRow":
+        row = super().__new__(cls, members.values())
+        row._columns = tuple(members)
+        return row
+
+    @property
+    def _fields(self) -> tuple[str, ...]:
+        return self._columns
+
+    @property
+    def _mapping(self) -> Mapping[str, Any]:
+        return MappingProxyType(dict(zip(self._columns, self)))
+
+
+class AlchemyResult:
+    """Has the shape of a result of SQLAlchemy: `keys` and `fetchall`, without the `description` of the DB-API. `mappings` are its rows by name."""
+
+    def __init__(self, columns: list[str], rows: list[Any]) -> None:
+        self._columns, self._rows = columns, rows
+
+    def keys(self) -> list[str]:
+        return self._columns
+
+    def fetchall(self) -> list[Any]:
+        return self._rows
+
+    def mappings(self) -> "AlchemyResult":
+        return AlchemyResult(self.keys(), [row._mapping for row in self.fetchall()])
+
+    def scalars(self) -> Any:
+        return Scalars(row[0] for row in self.fetchall())
+
+    def __iter__(self) -> Any:
+        return iter(self.fetchall())
+
+
+class Scalars(list[Any]):
+    """The first values of such rows."""
+
+    def fetchall(self) -> Any:
+        return self
 
 
 VALUES: list[tuple[Any, str | None]] = [
@@ -69,10 +124,16 @@ NO_VALUES: list[tuple[Any, str]] = [
     ([1], "a value of type list has no text"),
     ({"a": 1}, "a value of type dict has no text"),
     (object(), "a value of type object has no text"),
+    (memoryview(b"x"), "a value of type memoryview has no text"),
     (float("nan"), "nan has no text"),
     (float("inf"), "inf has no text"),
+    (Decimal("nan"), "NaN has no text"),
+    (Decimal("snan"), "sNaN has no text"),
+    (Decimal("-inf"), "-Infinity has no text"),
 ]
 ONE, TWO = {"id": 1, "text": "one"}, {"id": 2, "text": "two"}
+ONE_OF_ALCHEMY, TWO_OF_ALCHEMY = AlchemyRow(id=1, text="one"), AlchemyRow(id=2, text="two")
+ALCHEMY = AlchemyResult(["id", "text"], [TWO_OF_ALCHEMY, ONE_OF_ALCHEMY])
 NOT_ASKED = "loader itemById: a row of the key '3', which wasn't asked for"
 # what itemById returns for the keys 1 and 2, and the texts of both, or the fault of the batch
 RETURNED: list[tuple[Any, list[str | None] | str]] = [
@@ -101,6 +162,19 @@ RETURNED: list[tuple[Any, list[str | None] | str]] = [
     (Cursor(["id", "text"], [(2, "two"), (1, "one")]), ["one", "two"]),
     (Cursor(["id", "text"], [TWO, ONE]), ["one", "two"]),
     (Cursor(["id", "text"], []), [None, None]),
+    ([TWO_OF_ALCHEMY, ONE_OF_ALCHEMY], ["one", "two"]),
+    ([None, TWO_OF_ALCHEMY], [None, "two"]),
+    ([[ONE_OF_ALCHEMY], []], ["one", None]),
+    ([(ONE_OF_ALCHEMY,), TWO_OF_ALCHEMY], ["one", "two"]),
+    ([AlchemyRow(text="one"), AlchemyRow(text="two")], ["one", "two"]),
+    ([ONE_OF_ALCHEMY, TWO], ["one", "two"]),
+    (ALCHEMY, ["one", "two"]),
+    (ALCHEMY.mappings(), ["one", "two"]),
+    (ALCHEMY.mappings().fetchall(), ["one", "two"]),
+    (AlchemyResult(["id", "text"], []), [None, None]),
+    (ALCHEMY.scalars(), "loader itemById: an item of type int"),
+    ([Item(2, "two"), Item(1, "one")], ["one", "two"]),
+    ([Item(1, "one"), None], ["one", None]),
     ([{"id": 3, "text": "three"}], NOT_ASKED),
     ([ONE, {"id": 3, "text": "three"}], NOT_ASKED),
     ((["id", "text"], [(3, "three")]), NOT_ASKED),
@@ -163,6 +237,51 @@ class Returned(unittest.TestCase):
                 else:
                     self.assertNotIn("errors", found)
                     self.assertEqual([item and item["text"] for item in found["data"]["items"]], wanted)
+
+    def test_a_column_that_is_not_used_may_have_any_value(self) -> None:
+        for value, why in NO_VALUES:
+            rows: list[Any] = [{"id": 1, "text": "one", "other": value, "blob": value}, {"id": 2, "text": "two", "other": "x", "blob": None}]
+            table: Any = (["text", "other", "id"], [("one", value, 1), ("two", "x", 2)])
+            for returned in (rows, [rows[0], [rows[1]]], table, Cursor(table[0], table[1])):
+                with self.subTest(value=value, returned=returned):
+                    found = self.answer("{items(ids:[1,2]){text}}", itemById=lambda keys: returned)
+                    self.assertEqual(found, {"data": {"items": [{"text": "one"}, {"text": "two"}]}})
+                    found = self.answer("{items(ids:[1,2]){text other}}", itemById=lambda keys: returned)
+                    self.assertEqual({error["message"] for error in found["errors"]}, {f"loader itemById, column other: {why}"})
+                    self.assertEqual(found["data"]["items"], [{"text": "one", "other": None}, {"text": "two", "other": None}])
+            found = self.answer("{items(ids:[1,2]){text}}", itemById=lambda keys: [{"id": value, "text": "one"}])
+            self.assertEqual({error["message"] for error in found["errors"]}, {f"loader itemById, column id: {why}"})
+        requests: list[Any] = [{"query": "{item(id:1){text}}"}, {"query": "{item(id:1){other}}"}]
+        plain, wrong = self.server.answer(requests, {"itemById": lambda keys: [{"id": 1, "text": "one", "other": [1]}]})
+        self.assertEqual((plain, wrong["data"]), ({"data": {"item": {"text": "one"}}}, {"item": {"other": None}}))
+        self.assertEqual(wrong["errors"][0]["message"], "loader itemById, column other: a value of type list has no text")
+        with self.server.client({"itemById": lambda keys: [{"id": 1, "text": "one", "other": [1]}]}) as client:
+            self.assertEqual(client.load_many("itemById", [1]), [[{"id": "1", "text": "one"}]])
+
+    def test_what_a_database_casts(self) -> None:
+        database = sqlite3.connect(":memory:")
+        self.addCleanup(database.close)
+        database.executescript("create table items (id integer, text); insert into items values (1, 'one'), (2, 'two')")
+
+        def by_id(keys: Any) -> Any:
+            return database.execute(f"select * from items where id in ({', '.join('?' * len(keys))})", keys)
+
+        cases = [
+            (["01", "2"], [None, "two"], ["loader itemById: a row of the key '1' for the key '01'"]),
+            (["2", "1.0", "01"], ["two", None, None], [f"loader itemById: a row of the key '1' for the key '{key}'" for key in ("1.0", "01")]),
+            (["1", "01"], ["one", None], []),
+        ]
+        for keys, texts, messages in cases:
+            found = self.server.answer("query($ids:[ID!]!){items(ids:$ids){text}}", {"itemById": by_id}, {"ids": keys})
+            self.assertEqual([item and item["text"] for item in found["data"]["items"]], texts)
+            self.assertEqual([error["message"] for error in found.get("errors", [])], messages)
+        row = {"id": 1, "name": "ada", "a": "1", "b": "X", "text": "one"}
+        found = self.answer('{p:pair(a:"1",b:"x "){text} q:pair(a:1,b:"X"){text} r:pair(a:"01",b:"X"){text}}', itemByBoth=lambda keys: [row])
+        self.assertEqual(found, {"data": {"p": None, "q": {"text": "one"}, "r": None}})
+        found = self.answer('{p:pair(a:"01",b:"x "){text}}', itemByBoth=lambda keys: [row])
+        self.assertEqual(found["errors"][0]["message"], "loader itemByBoth: a row of the key ('1', 'X') for the key ('01', 'x ')")
+        found = self.answer('{of(name:"ADA "){text}}', itemsByName=lambda keys: [row])
+        self.assertEqual(found["errors"][0]["message"], "loader itemsByName: a row of the key 'ada' for the key 'ADA '")
 
     def test_the_fault_of_a_key(self) -> None:
         for item in ([ONE], ONE):
