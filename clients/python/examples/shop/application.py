@@ -24,7 +24,7 @@ if TYPE_CHECKING:
     from _typeshed.wsgi import StartResponse, WSGIApplication, WSGIEnvironment
 
 ROUNDS = "application/vnd.rudzkvano.rounds+json"
-# The longest answer, in bytes. The schema has cycles, so a short query can ask for any number of rows.
+# The longest answer and the longest body of a request, in bytes. The schema has cycles, so a short query can ask for any number of rows.
 MOST_BYTES = 4_194_304
 
 HERE = Path(__file__).resolve().parent
@@ -58,17 +58,20 @@ class Recorder:
 def application(database: Database) -> WSGIApplication:
     server = Server(SCHEMA.read_text("utf-8"), BINDINGS.read_text("utf-8"))
     files = {path: (file.read_bytes(), media_type) for path, (file, media_type) in FILES.items()}
-    plain = wsgi.application(server, batch_functions(database, server.loaders), max_batch=MOST_KEYS, max_answer=MOST_BYTES)
+    limits: Any = {"max_batch": MOST_KEYS, "max_answer": MOST_BYTES, "max_body": MOST_BYTES}
+    plain = wsgi.application(server, batch_functions(database, server.loaders), **limits)
 
     def serve_rounds(environ: WSGIEnvironment, start_response: StartResponse) -> Iterable[bytes]:
         recorder = Recorder(database, server.loaders)
-        answer = wsgi.application(server, recorder.functions, on_round=recorder.take_round, max_batch=MOST_KEYS, max_answer=MOST_BYTES)
-        status, headers, text = run(answer, {**environ, "HTTP_ACCEPT": "application/graphql-response+json"})
+        answer = wsgi.application(server, recorder.functions, on_round=recorder.take_round, **limits)
+        method = environ["REQUEST_METHOD"]
+        asked = {**environ, "REQUEST_METHOD": "GET" if method == "HEAD" else method, "HTTP_ACCEPT": "application/graphql-response+json"}
+        status, headers, text = run(answer, asked)
         # the response is an object: the extensions become its last member
         text = text[:-1] + b',"extensions":' + json.dumps({"rounds": recorder.rounds}, separators=(",", ":")).encode() + b"}"
         replaced = {"Content-Type": ROUNDS, "Content-Length": str(len(text))}
         start_response(status, [(name, replaced.get(name, value)) for name, value in headers])
-        return [text]
+        return [] if method == "HEAD" else [text]
 
     def serve_file(environ: WSGIEnvironment, start_response: StartResponse) -> Iterable[bytes]:
         text, media_type = files[environ["PATH_INFO"]]

@@ -17,12 +17,14 @@ import subprocess
 import sys
 import unittest
 from concurrent.futures import ThreadPoolExecutor
+from contextlib import closing
 from datetime import date
 from http.client import HTTPConnection
 from pathlib import Path
-from socket import create_connection
+from socket import SO_RCVBUF, SOL_SOCKET, create_connection
 from tempfile import TemporaryDirectory
 from threading import Thread
+from time import monotonic, sleep
 from typing import Any
 from wsgiref.util import setup_testing_defaults
 from wsgiref.validate import validator
@@ -33,7 +35,7 @@ sys.path.append(str(HERE.parents[1]))
 import data  # noqa: E402
 from application import BINDINGS, FILES, ROUNDS, SCHEMA, application, run  # noqa: E402
 from database import Database, postgres, sqlite  # noqa: E402
-from http_server import ThreadingServer  # noqa: E402
+from http_server import LONGEST_BODY, Limits, ThreadingServer  # noqa: E402
 
 PROGRAM = Path(os.environ.get("RUDZKVANO_QUERY_CLI", HERE.parents[3] / "crates/query_cli/out/query_cli"))
 EXAMPLES = {example["name"]: example for example in json.loads((HERE / "examples.json").read_text("utf-8"))}
@@ -111,7 +113,8 @@ class Shop:
         self.database, self.serve = database, validator(application(database))
 
     def ask(self, path: str, method: str = "GET", body: bytes = b"", accept: str = "") -> tuple[int, dict[str, str], bytes]:
-        environ: dict[str, Any] = {"REQUEST_METHOD": method, "SCRIPT_NAME": "", "PATH_INFO": path, "QUERY_STRING": "", "HTTP_ACCEPT": accept}
+        path, _, query = path.partition("?")
+        environ: dict[str, Any] = {"REQUEST_METHOD": method, "SCRIPT_NAME": "", "PATH_INFO": path, "QUERY_STRING": query, "HTTP_ACCEPT": accept}
         environ |= {"CONTENT_TYPE": "application/json", "CONTENT_LENGTH": str(len(body)), "wsgi.input": io.BytesIO(body)}
         setup_testing_defaults(environ)
         status, headers, text = run(self.serve, environ)
@@ -299,27 +302,106 @@ class TestServing(unittest.TestCase):
         self.assertEqual(self.shop.ask("/graphql", "PUT")[0], 405)
 
     def test_a_batch_that_fails(self) -> None:
-        answer = self.shop.answer({"query": "{customer(id: 1) {id} orders(ids: [1, 2]) {id}}"}, ROUNDS)
-        self.assertEqual([error["message"] for error in answer["errors"]], [f"no such table: {name}" for name in ("customers", "orders", "orders")])
+        with self.assertLogs("rudzkvano") as logged:
+            answer = self.shop.answer({"query": "{customer(id: 1) {id} orders(ids: [1, 2]) {id}}"}, ROUNDS)
+        self.assertEqual([error["message"] for error in answer["errors"]], ["internal error"] * 3)
+        self.assertEqual([f"no such table: {name}" in text for name, text in zip(("customers", "orders"), logged.output)], [True, True])
         (round,) = answer["extensions"]["rounds"]
         self.assertEqual([batch["failed"] for batch in round], ["no such table: customers", "no such table: orders"])
+
+    def test_a_head_with_rounds(self) -> None:
+        wanted = self.shop.ask("/graphql?query={a}", "GET", accept=ROUNDS)
+        self.assertIn(b'"extensions":{"rounds":[]}', wanted[2])
+        self.assertEqual(self.shop.ask("/graphql?query={a}", "HEAD", accept=ROUNDS), (wanted[0], wanted[1], b""))
+
+    def test_a_long_body(self) -> None:
+        body = json.dumps({"query": "{__typename}"}).encode()
+        for size, status in ((LONGEST_BODY, 200), (LONGEST_BODY + 1, 413)):
+            self.assertEqual(self.shop.ask("/graphql", "POST", body.ljust(size))[0], status)
+
+
+GET, POST = b"GET /next HTTP/1.1\r\nHost: a\r\n\r\n", b"POST /a HTTP/1.1\r\nHost: a\r\n"
+CHUNKED = POST + b"Transfer-Encoding: chunked\r\n"
+# requests that are refused, with the status, and after each a request that isn't answered
+REFUSED: list[tuple[bytes, int]] = [
+    (POST + b"Content-Length: 4\r\nContent-Length: 4\r\n\r\nbody", 400),
+    (POST + b"Content-Length: 4\r\ncontent-length: 0\r\n\r\nbody", 400),
+    (POST + b"Content-Length: 4, 4\r\n\r\nbody", 400),
+    (POST + b"Content-Length: 0\r\nTransfer-Encoding: chunked\r\n\r\n0\r\n\r\n", 400),
+    (POST + b"Transfer-Encoding: gzip, chunked\r\n\r\n0\r\n\r\n", 501),
+    (POST + b"Transfer-Encoding: identity\r\n\r\n", 501),
+    (CHUNKED + b"Transfer-Encoding: chunked\r\n\r\n0\r\n\r\n", 400),
+    (POST.replace(b"1.1", b"1.0") + b"Transfer-Encoding: chunked\r\n\r\n0\r\n\r\n", 400),
+    (POST + b"Content-Length : 4\r\n\r\nbody", 400),
+    (POST + b"Content-Length\r\n\r\n", 400),
+    (POST + b"X: 1\r\n Content-Length: 4\r\n\r\n", 400),
+    (POST + b": 1\r\n\r\n", 400),
+    (POST + b"X: \x00\r\n\r\n", 400),
+    (POST + b"X: 1\nContent-Length: 0\r\n\r\n", 400),
+    (POST + b"X: 1\rContent-Length: 0\r\n\r\n", 400),
+    (POST + b"\nX: 1\r\n\r\n", 400),
+    (POST + b"Host: b\r\n\r\n", 400),
+    (b"POST /a HTTP/1.1\r\nContent-Length: 0\r\n\r\n", 400),
+    (b"POST /a\r\n", 400),
+    (b"POST /a HTTP/2.0\r\nHost: a\r\n\r\n", 400),
+    (b"POST  /a HTTP/1.1\r\nHost: a\r\n\r\n", 400),
+    (b"POST /a b HTTP/1.1\r\nHost: a\r\n\r\n", 400),
+    (b"\r\n", 400),
+    (b"OPTIONS * HTTP/1.1\r\nHost: a\r\n\r\n", 400),
+    (b"GET a HTTP/1.1\r\nHost: a\r\n\r\n", 400),
+    (CHUNKED + b"\r\n4 \r\nbody\r\n0\r\n\r\n", 400),
+    (CHUNKED + b"\r\n0x4\r\nbody\r\n0\r\n\r\n", 400),
+    (CHUNKED + b"\r\n-4\r\nbody\r\n0\r\n\r\n", 400),
+    (CHUNKED + b"\r\n4\nbody\r\n0\r\n\r\n", 400),
+    (CHUNKED + b"\r\n3\r\nbody\r\n0\r\n\r\n", 400),
+    (CHUNKED + b"\r\n4\r\nbody0\r\n\r\n", 400),
+    (CHUNKED + b"\r\n4;" + b"x" * 300 + b"\r\nbody\r\n0\r\n\r\n", 400),
+    (CHUNKED + b"\r\n0\r\nno trailer\r\n\r\n", 400),
+    (CHUNKED + b"\r\n%x\r\n" % (LONGEST_BODY + 1), 413),
+    (CHUNKED + b"\r\n" + b"200000\r\n" + b" " * 0x200000 + b"\r\n200001\r\n", 413),
+    (POST + b"Content-Length: %d\r\n\r\n" % (LONGEST_BODY + 1), 413),
+    (POST + b"Content-Length: " + b"9" * 19 + b"\r\n\r\n", 413),
+    (POST + b"Content-Length: -1\r\n\r\n", 400),
+    (POST + b"Content-Length: 0x4\r\n\r\n", 400),
+    (POST + b"Content-Length: \r\n\r\n", 400),
+    (POST + b"Content-Length: " + b"9" * 5000 + b"\r\n\r\n", 400),
+    (POST + b"X: " + b"x" * 70_000, 431),
+    (POST + b"X: " + b"x" * 70_000 + b"\r\n\r\n", 431),
+    (POST + b"X: y\r\n" * 20_000, 431),
+    (b"GET /" + b"x" * 70_000, 431),
+]
+# requests that are answered, and what the application says of them
+ANSWERED_REQUESTS: list[tuple[bytes, bytes]] = [
+    (POST + b"Content-Length: 4\r\n\r\nbody", b"POST /a body"),
+    (POST + b"content-length:4 \t\r\nX:\r\n\r\nbody", b"POST /a body"),
+    (POST + b"Content-Length: " + b"0" * 5000 + b"4\r\n\r\nbody", b"POST /a body"),
+    (POST + b"\r\n", b"POST /a "),
+    (CHUNKED + b"\r\n2\r\nbo\r\n02;x=y\r\ndy\r\n0\r\n\r\n", b"POST /a body"),
+    (CHUNKED.replace(b"chunked", b"Chunked") + b"\r\nA\r\n0123456789\r\n000\r\nX: y\r\n\r\n", b"POST /a 0123456789"),
+    (CHUNKED + b"\r\n" + b"1\r\nx\r\n" * 1000 + b"0\r\n\r\n", b"POST /a " + b"x" * 1000),
+    (b"GET http://a:80/b?c HTTP/1.1\r\nHost: a\r\n\r\n", b"GET /b "),
+]
 
 
 class TestHttp(unittest.TestCase):
     """The server of the standard library, over a network."""
 
     def setUp(self) -> None:
-        self.bodies: list[bytes] = []
-        server = ThreadingServer(("127.0.0.1", 0), validator(self.echo))
-        Thread(target=server.serve_forever, daemon=True).start()
-        self.addCleanup(server.server_close)
-        self.addCleanup(server.shutdown)
-        self.connection = HTTPConnection("127.0.0.1", server.server_port, timeout=10)
+        self.environs: list[Any] = []
+        self.serve(Limits())
+
+    def serve(self, limits: Limits) -> None:
+        """Starts a server with these limits."""
+        self.server = ThreadingServer(("127.0.0.1", 0), validator(self.echo), limits)
+        Thread(target=self.server.serve_forever, args=[0.01], daemon=True).start()
+        self.addCleanup(self.server.server_close)
+        self.addCleanup(self.server.shutdown)
+        self.connection = HTTPConnection("127.0.0.1", self.server.server_port, timeout=10)
         self.addCleanup(self.connection.close)
 
     def echo(self, environ: Any, start_response: Any) -> list[bytes]:
         """Says by which method it was asked, and for what."""
-        self.assertTrue(environ["wsgi.multithread"])
+        self.environs.append(environ)
         text = f"{environ['REQUEST_METHOD']} {environ['PATH_INFO']} ".encode() + environ["wsgi.input"].read(int(environ["CONTENT_LENGTH"] or 0))
         start_response("200 OK", [("Content-Type", "text/plain"), ("Content-Length", str(len(text)))])
         return [] if environ["REQUEST_METHOD"] == "HEAD" else [text]
@@ -329,25 +411,115 @@ class TestHttp(unittest.TestCase):
         response = self.connection.getresponse()
         return response.status, response.read()
 
+    def connect(self) -> Any:
+        return closing(create_connection(("127.0.0.1", self.server.server_port), timeout=10))
+
+    def all_of(self, request: bytes) -> bytes:
+        """What comes back until the connection ends."""
+        with self.connect() as socket:
+            socket.sendall(request)
+            return bytes().join(iter(lambda: bytes(socket.recv(65_536)), b""))
+
     def test_a_connection_stays_open(self) -> None:
         self.assertEqual(self.ask("GET", "/a"), (200, b"GET /a "))
         socket = self.connection.sock
         self.assertEqual(self.ask("POST", "/b", b"body"), (200, b"POST /b body"))
         self.assertEqual(self.ask("HEAD", "/c"), (200, b""))
-        self.assertEqual(self.ask("PUT", "/d", b"more"), (200, b"PUT /d more"))
+        self.assertEqual(self.ask("PUT", "/d", iter([b"mo", b"re"])), (200, b"PUT /d more"))
         self.assertIs(self.connection.sock, socket)
 
     def test_a_body_that_waits(self) -> None:
-        with create_connection(("127.0.0.1", self.connection.port), timeout=10) as socket:
+        with self.connect() as socket:
             socket.sendall(b"POST /a HTTP/1.1\r\nHost: a\r\nExpect: 100-continue\r\nContent-Length: 4\r\n\r\n")
             self.assertEqual(socket.recv(100), b"HTTP/1.1 100 Continue\r\n\r\n")
             socket.sendall(b"body")
             self.assertTrue(socket.recv(1_000).endswith(b"POST /a body"))
 
-    def test_bodies_that_are_not_read(self) -> None:
-        for status, headers in (411, {"Transfer-Encoding": "chunked"}), (411, {"Content-Length": "-1"}), (413, {"Content-Length": str(2**32)}):
-            self.assertEqual(self.ask("POST", "/", headers=headers)[0], status)
-            self.assertEqual(self.ask("GET", "/next"), (200, b"GET /next "))
+    def test_requests_that_follow_each_other(self) -> None:
+        last = b"GET /last HTTP/1.1\r\nHost: a\r\nConnection: x, Close\r\n\r\n"
+        for request, wanted in ANSWERED_REQUESTS:
+            with self.subTest(request[:100]):
+                found = self.all_of(request + GET + last + GET)
+                bodies = [part.split(b"\r\n\r\n", 1)[1] for part in found.split(b"HTTP/1.1 200 OK")[1:]]
+                self.assertEqual(bodies, [wanted, b"GET /next ", b"GET /last "])
+        found = self.all_of(GET.replace(b"1.1", b"1.0") + GET)
+        self.assertEqual(found.count(b"GET /next"), 1)
+
+    def test_what_can_be_read_as_two_requests_is_refused(self) -> None:
+        for request, status in REFUSED:
+            with self.subTest(request[:100]):
+                found = self.all_of(request + GET)
+                self.assertTrue(found.startswith(b"HTTP/1.1 %d " % status), found[:100])
+                self.assertEqual((found.count(b"HTTP/1.1 "), self.environs), (1, []))
+
+    def test_headers_are_told(self) -> None:
+        headers = b"Host: a\r\nX: 1\r\nX-Y: 2\r\nX_Y: 3\r\nx: \xe9\r\nCookie: a\r\nCookie: b\r\nConnection: close\r\n"
+        self.all_of(b"GET /%C3%A9?a=%20b HTTP/1.1\r\n" + headers + b"\r\n")
+        (environ,) = self.environs
+        told = {name: environ[name] for name in ("PATH_INFO", "QUERY_STRING", "HTTP_HOST", "HTTP_X", "HTTP_X_Y", "HTTP_COOKIE")}
+        wanted = {"PATH_INFO": "/Ã©", "QUERY_STRING": "a=%20b", "HTTP_HOST": "a", "HTTP_X": "1, é", "HTTP_X_Y": "2", "HTTP_COOKIE": "a; b"}
+        self.assertEqual((told, environ["wsgi.multithread"]), (wanted, True))
+
+    def test_connections_are_limited(self) -> None:
+        self.serve(Limits(connections=2))
+        with self.connect() as first, self.connect() as second:
+            for socket in (first, second):
+                socket.sendall(GET)
+                self.assertTrue(socket.recv(1_000).startswith(b"HTTP/1.1 200"))
+            with self.connect() as third:
+                self.assertTrue(third.recv(1_000).startswith(b"HTTP/1.1 503"))
+        for _ in range(100):
+            if self.all_of(GET.replace(b"Host", b"Connection: close\r\nHost")).startswith(b"HTTP/1.1 200"):
+                break
+            sleep(0.05)
+        else:
+            self.fail("a connection isn't taken after two have ended")
+
+    def test_slow_connections_end(self) -> None:
+        """However often they send a byte."""
+        self.serve(Limits(first=0.3, idle=0.3, head=0.3, body=0.3))
+        slow = [
+            (b"", b""),
+            (GET, b""),
+            (b"", b"G"),
+            (b"GET /", b"x"),
+            (POST, b"X"),
+            (POST + b"Content-Length: 1000\r\n\r\n", b"x"),
+            (CHUNKED + b"\r\n", b"0"),
+        ]
+        for start, byte in slow:
+            with self.subTest(start=start, byte=byte), self.connect() as socket:
+                socket.sendall(start)
+                socket.settimeout(0.05)
+                begun, found = monotonic(), b""
+                while monotonic() - begun < 5:
+                    try:
+                        if byte:
+                            socket.sendall(byte)
+                        received = socket.recv(1_000)
+                    except TimeoutError:
+                        continue
+                    except ConnectionError:
+                        break
+                    found += received
+                    if not received:
+                        break
+                self.assertLess(monotonic() - begun, 4)
+                self.assertEqual((b" 200 " in found, b" 408 " in found), (start == GET, byte != b""))
+
+    def test_a_caller_that_does_not_read(self) -> None:
+        self.serve(Limits(response=0.3))
+        body = b"x" * LONGEST_BODY
+        with self.connect() as socket:
+            socket.setsockopt(SOL_SOCKET, SO_RCVBUF, 4096)
+            request = POST + b"Content-Length: %d\r\n\r\n" % len(body) + body
+            socket.settimeout(0.5)
+            try:
+                for _ in range(10):
+                    socket.sendall(request)
+                self.fail("the server takes requests of one who doesn't read")
+            except OSError:
+                pass
 
 
 if __name__ == "__main__":
