@@ -6,6 +6,7 @@ import (
 	"fmt"
 	"math"
 	"reflect"
+	"regexp"
 	"strconv"
 	"strings"
 	"time"
@@ -209,6 +210,7 @@ func group(loader *Loader, keys []Key, rows Rows) ([]Item, error) {
 	for number, key := range keys {
 		numbers[loader.compared(key)] = number
 	}
+	var others []Key
 	for _, row := range rows.Rows {
 		if err := loader.check(rows.Columns, row); err != nil {
 			return nil, err
@@ -217,13 +219,54 @@ func group(loader *Loader, keys []Key, rows Rows) ([]Item, error) {
 		if err != nil {
 			return nil, err
 		}
-		number, found := numbers[loader.compared(key)]
-		if !found {
-			return nil, loader.misfit("a row of the key '%s', which wasn't asked for", strings.Join(key[:len(loader.Columns)], "', '"))
+		if number, found := numbers[loader.compared(key)]; found {
+			items[number].Rows = append(items[number].Rows, row)
+		} else {
+			others = append(others, key)
 		}
-		items[number].Rows = append(items[number].Rows, row)
 	}
-	return items, nil
+	return items, loader.faultCasts(keys, items, others)
+}
+
+// faultCasts gives a fault to each key for which there are rows of another key, since the database takes both for the same, as 1 and 01.
+func (l *Loader) faultCasts(keys []Key, items []Item, others []Key) error {
+	if others == nil {
+		return nil
+	}
+	alike := map[Key][]int{}
+	for number, key := range keys {
+		if items[number].Rows == nil {
+			alike[asCast(key)] = append(alike[asCast(key)], number)
+		}
+	}
+	for _, other := range others {
+		numbers, found := alike[asCast(other)]
+		if !found {
+			return l.misfit("a row of the key %s, which wasn't asked for", l.quoted(other))
+		}
+		for _, number := range numbers {
+			items[number].Err = l.misfit("a row of the key %s for the key %s", l.quoted(other), l.quoted(keys[number]))
+		}
+	}
+	return nil
+}
+
+func (l *Loader) quoted(key Key) string {
+	return "'" + strings.Join(key[:len(l.Columns)], "', '") + "'"
+}
+
+var numberParts = regexp.MustCompile(`^([+-]?)0*([0-9]*)(?:\.([0-9]*?)0*)?$`)
+
+// asCast has what is the same for texts that a database may take for the same: a number, or a text without case and blanks around it.
+func asCast(key Key) Key {
+	for part, text := range key {
+		text = strings.ToLower(strings.TrimSpace(text))
+		if parts := numberParts.FindStringSubmatch(text); parts != nil && strings.ContainsAny(text, "0123456789") {
+			text = strings.TrimPrefix(parts[1], "+") + "0" + parts[2] + "." + parts[3]
+		}
+		key[part] = text
+	}
+	return key
 }
 
 // keyOf has the key that a row belongs to.
@@ -258,8 +301,8 @@ func (l *Loader) compared(key Key) Key {
 	return key
 }
 
-// textOf has the text of a value: of strings, numbers, booleans, times (ISO 8601, UTC) and what a driver.Valuer gives of these, and behind
-// pointers. Nil is the empty text, and so null.
+// textOf has the text of a value: of strings, bytes in UTF-8, numbers, booleans, times (ISO 8601, UTC) and what a driver.Valuer gives of these,
+// and behind pointers. Nil is the empty text, and so null.
 func textOf(value any) (string, error) {
 	switch value := value.(type) {
 	case string:
@@ -283,7 +326,7 @@ func textOf(value any) (string, error) {
 	case of.CanUint():
 		return strconv.FormatUint(of.Uint(), 10), nil
 	case of.CanFloat():
-		return decimal(of.Float(), of.Type().Bits()), nil
+		return decimal(of.Float(), of.Type().Bits())
 	}
 	if valuer, is := value.(driver.Valuer); is {
 		inner, err := valuer.Value()
@@ -292,17 +335,23 @@ func textOf(value any) (string, error) {
 		}
 		return textOf(inner)
 	}
-	if of.Kind() == reflect.Pointer {
+	switch {
+	case of.Kind() == reflect.Pointer:
 		return textOf(of.Elem().Interface())
+	case of.Kind() == reflect.Slice && of.Type().Elem().Kind() == reflect.Uint8:
+		return textOf(string(of.Bytes()))
 	}
 	return "", fmt.Errorf("a value of type %T has no text", value)
 }
 
-// decimal has the shortest text of a number, with an exponent where it is very large or very small.
-func decimal(number float64, bits int) string {
+// decimal has the shortest text of a number, with an exponent where it is very large or very small. NaN and infinities have none.
+func decimal(number float64, bits int) (string, error) {
+	if math.IsNaN(number) || math.IsInf(number, 0) {
+		return "", fmt.Errorf("%v has no text", number)
+	}
 	format := byte('f')
 	if size := math.Abs(number); size >= 1e21 || size < 1e-6 && size != 0 {
 		format = 'e'
 	}
-	return strconv.FormatFloat(number, format, -1, bits)
+	return strconv.FormatFloat(number, format, -1, bits), nil
 }

@@ -246,8 +246,25 @@ type Server struct {
 	idle []*memory
 }
 
+// checkVersion refuses a library that doesn't go with the header that this package is compiled with: one of another major number, or an older one.
+func checkVersion(library uint32) error {
+	const header = uint32(C.RZ_VERSION)
+	if library>>16 == header>>16 && library >= header {
+		return nil
+	}
+	return fmt.Errorf("librudzkvano_c.so is version %s of the library, and this package needs %s or a later %d.x", versionText(library),
+		versionText(header), header>>16)
+}
+
+func versionText(version uint32) string {
+	return fmt.Sprintf("%d.%d.%d", version>>16, version>>8&0xFF, version&0xFF)
+}
+
 // Open reads a schema and its bindings. The error is a *SchemaFault where they are refused.
 func Open(schema, bindings string) (*Server, error) {
+	if err := checkVersion(uint32(C.rz_version())); err != nil {
+		return nil, err
+	}
 	server := &Server{handle: newHandle()}
 	var fault C.rz_fault
 	schemaBytes, bindingsBytes := []byte(schema), []byte(bindings)
@@ -379,6 +396,9 @@ func (s *Server) limits(options *Options) ([]uint32, error) {
 	limits := make([]uint32, len(s.loaders))
 	if options == nil {
 		return limits, nil
+	}
+	if options.MaxAnswer < 0 {
+		return nil, fmt.Errorf("MaxAnswer is %d, and not 0 or more", options.MaxAnswer)
 	}
 	for number := range limits {
 		limits[number] = limit(options.MaxBatch)

@@ -5,8 +5,10 @@ import (
 	"context"
 	"database/sql"
 	"encoding/csv"
+	"encoding/json"
 	"errors"
 	"fmt"
+	"math"
 	"math/rand"
 	"os"
 	"os/exec"
@@ -252,9 +254,11 @@ func TestABatchThatFailsIsAFaultOfItsKeysAlone(t *testing.T) {
 		{rows: Rows{Columns: columns, Rows: [][]any{{9, "Eve"}}}, message: "loader userById: a row of the key '9', which wasn't asked for"},
 		{rows: Rows{Columns: columns, Rows: [][]any{{nil, nil}}}, message: "loader userById: a row of the key '', which wasn't asked for"},
 		{
-			rows:    Rows{Columns: columns, Rows: [][]any{{1, []byte("Ada")}}},
-			message: "loader userById, column name: a value of type []uint8 has no text",
+			rows:    Rows{Columns: columns, Rows: [][]any{{1, []int{7}}}},
+			message: "loader userById, column name: a value of type []int has no text",
 		},
+		{rows: Rows{Columns: columns, Rows: [][]any{{1, math.NaN()}}}, message: "loader userById, column name: NaN has no text"},
+		{rows: Rows{Columns: columns, Rows: [][]any{{1, []byte("\xff")}}}, message: "loader userById, column name: a text isn't UTF-8"},
 		{rows: Rows{Columns: columns, Items: []Item{{Rows: [][]any{{1, "\xff"}}}}}, message: "loader userById, column name: a text isn't UTF-8"},
 	}
 	world := readWorld("")
@@ -279,6 +283,37 @@ func TestABatchThatFailsIsAFaultOfItsKeysAlone(t *testing.T) {
 	}
 }
 
+func TestWhatADatabaseCastsIsAFaultOfItsKey(t *testing.T) {
+	loader := &Loader{Name: "one", Columns: []string{"id"}}
+	pairs := &Loader{Name: "two", Columns: []string{"id", "name"}}
+	columns := []string{"id", "name"}
+	cases := []struct {
+		loader *Loader
+		keys   []Key
+		row    []any
+		faults []string
+	}{
+		{loader, []Key{{"01"}, {"2"}}, []any{1, ""}, []string{"loader one: a row of the key '1' for the key '01'", ""}},
+		{loader, []Key{{" 1.0"}, {"2"}, {"+1"}}, []any{1, ""},
+			[]string{"loader one: a row of the key '1' for the key ' 1.0'", "", "loader one: a row of the key '1' for the key '+1'"}},
+		{loader, []Key{{"ADA "}, {"2"}}, []any{"Ada", ""}, []string{"loader one: a row of the key 'Ada' for the key 'ADA '", ""}},
+		{loader, []Key{{"-0.50"}, {"2"}}, []any{-0.5, ""}, []string{"loader one: a row of the key '-0.5' for the key '-0.50'", ""}},
+		{pairs, []Key{{"01", "x"}, {"2", "y"}}, []any{1, "X"}, []string{"loader two: a row of the key '1', 'X' for the key '01', 'x'", ""}},
+	}
+	for _, each := range cases {
+		items := must(group(each.loader, each.keys, Rows{Columns: columns, Rows: [][]any{each.row, {"2", "y"}}}))
+		for number, fault := range each.faults {
+			got := ""
+			if items[number].Err != nil {
+				got = items[number].Err.Error()
+			}
+			expect(t, each.keys[number], got, fault)
+		}
+	}
+	_, err := group(loader, []Key{{"-1"}, {"."}, {""}}, Rows{Columns: columns, Rows: [][]any{{1, ""}}})
+	expect(t, "another number", err.Error(), "loader one: a row of the key '1', which wasn't asked for")
+}
+
 func TestALoaderThatFoldsComparesKeysWithoutTheirCase(t *testing.T) {
 	bindings := strings.Replace(read("bindings.txt"), "userById users by id", "userById users by name fold", 1)
 	server := must(Open(read("schema.graphql"), bindings))
@@ -299,10 +334,32 @@ func TestValuesBecomeTexts(t *testing.T) {
 	}{
 		{nil, ""}, {none, ""}, {&name, "Ada"}, {"é", "é"}, {true, "true"}, {id(-7), "-7"}, {uint64(1<<64 - 1), "18446744073709551615"},
 		{1.5, "1.5"}, {1e6, "1000000"}, {float32(0.1), "0.1"}, {1e21, "1e+21"}, {sql.NullString{}, ""}, {sql.NullInt64{Int64: 3, Valid: true}, "3"},
+		{[]byte("é"), "é"}, {[]byte(nil), ""}, {sql.RawBytes("raw"), "raw"}, {json.RawMessage(`{"a":1}`), `{"a":1}`}, {&[]byte{'x'}, "x"},
 		{time.Date(2020, 1, 2, 3, 4, 5, 6e6, time.FixedZone("", 3600)), "2020-01-02T02:04:05.006Z"},
 	}
 	for _, each := range cases {
 		expect(t, each.value, must(textOf(each.value)), each.text)
+	}
+	for _, value := range []any{math.NaN(), math.Inf(1), float32(math.Inf(-1)), sql.NullFloat64{Float64: math.NaN(), Valid: true}, [1]byte{}} {
+		if text, err := textOf(value); err == nil {
+			t.Errorf("%v has the text %s", value, text)
+		}
+	}
+}
+
+func TestTheLibraryHasTheVersionOfTheHeader(t *testing.T) {
+	cases := []struct {
+		version uint32
+		text    string
+	}{
+		{0x10100, ""}, {0x10101, ""}, {0x10200, ""}, {0x100FF, "1.0.255"}, {0x10000, "1.0.0"}, {0x20000, "2.0.0"},
+	}
+	for _, each := range cases {
+		var wanted error
+		if each.text != "" {
+			wanted = fmt.Errorf("librudzkvano_c.so is version %s of the library, and this package needs 1.1.0 or a later 1.x", each.text)
+		}
+		expect(t, each.version, checkVersion(each.version), wanted)
 	}
 }
 
@@ -341,6 +398,8 @@ func TestLimitsAreKept(t *testing.T) {
 		{Options{MaxAnswer: 30}, []string{"1 userById [[1 ] [2 ] [3 ]] <nil>"}, `{"errors":[{"message":"answer too long"}]}`},
 		{Options{MaxBatch: 65536}, nil, refusal(-6).Error()},
 		{Options{MaxBatch: -1}, nil, refusal(-6).Error()},
+		{Options{MaxBatchOf: map[string]int{"userById": -1}}, nil, refusal(-6).Error()},
+		{Options{MaxAnswer: -1}, nil, "MaxAnswer is -1, and not 0 or more"},
 	}
 	for _, each := range cases {
 		var batches []string

@@ -152,6 +152,7 @@ impl Drop for Handle {
 }
 
 extern "C" {
+    fn rz_version() -> u32;
     fn rz_code_name(code: i32, bytes: *mut u8, bytes_len: usize) -> usize;
     fn rz_code_text(code: i32, bytes: *mut u8, bytes_len: usize) -> usize;
     fn rz_close(handle: &mut Handle);
@@ -283,6 +284,12 @@ extern "C" {
         bytes: *mut u8,
         bytes_len: usize,
     ) -> i32;
+}
+
+/// The version of the library: 65536 * major + 256 * minor + patch.
+pub fn version() -> u32 {
+    // SAFETY: it only returns a number.
+    unsafe { rz_version() }
 }
 
 /// The name of a code, and a few words on it.

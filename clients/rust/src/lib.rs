@@ -30,6 +30,12 @@ use std::fmt;
 use std::sync::{Arc, Mutex, MutexGuard, PoisonError};
 use std::time::{Duration, Instant};
 
+/// The version of the C library that is linked: its major, minor and patch number.
+pub fn library_version() -> (u32, u32, u32) {
+    let version = calls::version();
+    (version >> 16, version >> 8 & 0xFF, version & 0xFF)
+}
+
 /// What can be asked for: the rows of a table, by none, one or two of its columns.
 #[derive(Clone, Debug, PartialEq, Eq)]
 pub struct Loader {

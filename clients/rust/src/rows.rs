@@ -245,6 +245,7 @@ fn group(loader: &Loader, keys: &[Key], columns: &[String], rows: Vec<Row>) -> R
         return Ok(vec![Item::Rows(rows)]);
     }
     let mut groups = vec![vec![]; keys.len()];
+    let mut others = vec![];
     if !rows.is_empty() {
         let place = |column| columns.iter().position(|name| name == column).ok_or_else(|| format!("its rows have no column {column}"));
         let places = loader.columns.iter().map(place).collect::<Result<Vec<_>, _>>()?;
@@ -254,11 +255,50 @@ fn group(loader: &Loader, keys: &[Key], columns: &[String], rows: Vec<Row>) -> R
         let numbers: HashMap<Vec<_>, _> = numbered.map(|(number, key)| (key.texts().into_iter().map(compared).collect(), number)).collect();
         for row in rows {
             let texts: Vec<_> = places.iter().map(|&place| row[place].as_deref().map_or_else(String::new, compared)).collect();
-            let number = numbers.get(&texts).ok_or_else(|| format!("a row of the key '{}', which wasn't asked for", texts.join("', '")))?;
-            groups[*number].push(row);
+            match numbers.get(&texts) {
+                Some(&number) => groups[number].push(row),
+                None => others.push(texts),
+            }
         }
     }
-    Ok(groups.into_iter().map(Item::Rows).collect())
+    let mut items: Vec<_> = groups.into_iter().map(Item::Rows).collect();
+    fault_casts(loader, keys, &mut items, &others)?;
+    Ok(items)
+}
+
+/// Gives a fault to each key for which there are rows of another key, since the database takes both for the same, as `1` and `01`.
+fn fault_casts(loader: &Loader, keys: &[Key], items: &mut [Item], others: &[Vec<String>]) -> Result<(), String> {
+    if others.is_empty() {
+        return Ok(());
+    }
+    let mut alike: HashMap<Vec<String>, Vec<usize>> = HashMap::new();
+    for (number, key) in keys.iter().enumerate() {
+        if items[number] == Item::Rows(vec![]) {
+            alike.entry(key.texts().into_iter().map(as_cast).collect()).or_default().push(number);
+        }
+    }
+    for other in others {
+        let texts = other.join("', '");
+        let cast: Vec<_> = other.iter().map(|text| as_cast(text)).collect();
+        let numbers = alike.get(&cast).ok_or_else(|| format!("a row of the key '{texts}', which wasn't asked for"))?;
+        for &number in numbers {
+            let key = keys[number].texts().join("', '");
+            items[number] = Item::Fault(format!("loader {}: a row of the key '{texts}' for the key '{key}'", loader.name));
+        }
+    }
+    Ok(())
+}
+
+/// What is the same for texts that a database may take for the same: a number, or a text without case and blanks around it.
+fn as_cast(text: &str) -> String {
+    let text = text.trim().to_lowercase();
+    let (minus, digits) = text.strip_prefix('-').map_or(("", text.strip_prefix('+').unwrap_or(&text)), |digits| ("-", digits));
+    let (whole, fraction) = digits.split_once('.').unwrap_or((digits, ""));
+    let are_digits = |part: &str| part.bytes().all(|byte| byte.is_ascii_digit());
+    if whole.len() + fraction.len() == 0 || !are_digits(whole) || !are_digits(fraction) {
+        return text;
+    }
+    format!("{minus}0{}.{}", whole.trim_start_matches('0'), fraction.trim_end_matches('0'))
 }
 
 /// What the library is given: the names of the columns, then the values of all rows, and then the faults.

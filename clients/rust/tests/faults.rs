@@ -2,10 +2,10 @@
 
 mod common;
 
-use common::{read, World};
-use rudzkvano::{BatchFault, Client, Error, Item, Key, Loaders, Options, Progress, Request, Row, Rows, SchemaFault, Server};
-use std::io;
+use common::{read, repository, World};
+use rudzkvano::{BatchFault, Client, Error, Item, Key, Loaded, Loaders, Options, Progress, Request, Row, Rows, SchemaFault, Server};
 use std::panic::{self, AssertUnwindSafe};
+use std::{fs, io};
 
 const QUERY: &str = "{user(id:1){name} users{id}}";
 
@@ -57,6 +57,31 @@ fn a_batch_that_fails_is_a_fault_of_its_keys_alone() {
 }
 
 #[test]
+fn what_a_database_casts_is_a_fault_of_its_key() {
+    let world = World::read("");
+    let cases = [
+        ("01", "1", Some("loader userById: a row of the key '1' for the key '01'")),
+        (" +1.0", "1", Some("loader userById: a row of the key '1' for the key ' +1.0'")),
+        ("ADA ", "Ada", Some("loader userById: a row of the key 'Ada' for the key 'ADA '")),
+        ("-1", "1", None),
+        (".", "0", None),
+    ];
+    for (key, id, fault) in cases {
+        let mut loaders = Loaders::new();
+        loaders.insert("userById", move |_| Ok(Rows::grouped(["id", "name"], [row(&[id, "Eve"]), row(&["2", "Bob"])])));
+        let mut client = client(&world);
+        let loaded = client.load_many("userById", [key, "2"], &mut loaders).expect("loaded");
+        match (fault, &loaded[..]) {
+            (Some(text), [Loaded::KeyFault(found), Loaded::Rows(rows)]) => assert_eq!((&**found, rows.len()), (text, 1)),
+            (None, [Loaded::BatchFault(found), _]) => {
+                assert_eq!(*found, format!("loader userById: a row of the key '{id}', which wasn't asked for"));
+            }
+            _ => panic!("{key}: {loaded:?}"),
+        }
+    }
+}
+
+#[test]
 fn a_loader_without_a_function_fails_and_an_unknown_one_is_refused() {
     let world = World::read("");
     let mut loaders = Loaders::new();
@@ -72,6 +97,30 @@ fn a_loader_without_a_function_fails_and_an_unknown_one_is_refused() {
     loaders.insert("userByID", |_| Err(BatchFault::new("not asked")));
     assert_eq!(answer(&Options::default(), &mut loaders), Err(Error::NoLoader("userByID".to_owned())));
     assert_eq!(answer(&unknown, &mut loaders).unwrap_err().to_string(), "the bindings have no loader userByID");
+}
+
+#[test]
+fn the_linked_library_goes_with_the_header() {
+    let header = fs::read_to_string(repository().join("clients/c/rudzkvano.h")).expect("the header");
+    let told = header.lines().find_map(|line| line.strip_prefix("#define RZ_VERSION ")?.strip_suffix('u')).expect("its version");
+    let version: u32 = told.parse().expect("a number");
+    let (major, minor, patch) = rudzkvano::library_version();
+    let linked = major << 16 | minor << 8 | patch;
+    assert!(
+        linked >> 16 == version >> 16 && linked >= version,
+        "the linked library is version {major}.{minor}.{patch}, and the header {told}"
+    );
+}
+
+#[test]
+fn numbers_that_json_lacks_are_no_variables() {
+    let world = World::read("");
+    for value in ["NaN", "Infinity", "-Infinity", "1e999"] {
+        let variables = format!(r#"{{"i":{value}}}"#);
+        let request = Request::Query { query: "query($i:ID!){user(id:$i){name}}", operation_name: None, variables: Some(&variables) };
+        let answer = world.server.answer_text(&request, &mut Loaders::new(), &Options::default());
+        assert_eq!(answer.as_deref(), Ok(r#"{"errors":[{"message":"not a request"}]}"#));
+    }
 }
 
 #[test]
