@@ -9,7 +9,7 @@ use Rattle.world_answers.proofs.Loading.{built-more, built-all, quiet-over}
 use Rattle.world_answers.proofs.sessions.session_over_world.Goals as goal
 
 pub loop-number-preserved : goal.loop-number-preserved
-loop-number-preserved g c =
+loop-number-preserved c =
     let w = c.args.world.now in
     let none : SourceOf = source_of_all [] in
     record {
@@ -19,14 +19,14 @@ loop-number-preserved g c =
     }
 
 pub new-requires : goal.new-requires
-new-requires g c =
+new-requires c =
     let w = c.args.world.now in
     let all : c.loop-number.loaders.items ≡ loaders_over w.limit w.bindings.loaders w.sources =
     built-all w.limit loader_of c.loaders-line-items.result.now w.bindings.loaders w.sources c.loop-number.number c.loop-number.loaders.items c.loop-number.invariant.lines (sym c.loaders.ensures.sources ∙ c.loaders.ensures.bindings) (omega arith) c.loop-number.invariant.built in
     subst (λ (ls : List (LoaderOf SourceOf)). All (λ (l : LoaderOf SourceOf). l.log ≡ []) ls) (sym all) (quiet-over w.limit w.bindings.loaders w.sources)
 
 pub returns-clause-opened : goal.returns-clause-opened
-returns-clause-opened g c =
+returns-clause-opened c =
     let w = c.args.world.now in
     let all : c.loop-number.loaders.items ≡ loaders_over w.limit w.bindings.loaders w.sources =
     built-all w.limit loader_of c.loaders-line-items.result.now w.bindings.loaders w.sources c.loop-number.number c.loop-number.loaders.items c.loop-number.invariant.lines (sym c.loaders.ensures.sources ∙ c.loaders.ensures.bindings) (omega arith) c.loop-number.invariant.built in
@@ -34,4 +34,4 @@ returns-clause-opened g c =
     IfOk-weaker c.new.result _ _ (λ s is. is ∙ ap with all) c.new.ensures
 
 pub returns-clause-each : goal.returns-clause-each
-returns-clause-each g c = IfOk-weaker c.new.result _ _ (λ s is. sym c.loaders.ensures.sources ∙ c.loaders.ensures.bindings) c.new.ensures
+returns-clause-each c = IfOk-weaker c.new.result _ _ (λ s is. sym c.loaders.ensures.sources ∙ c.loaders.ensures.bindings) c.new.ensures

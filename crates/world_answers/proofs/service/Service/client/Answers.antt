@@ -5,14 +5,14 @@ use Rattle.world_answers.proofs.Restarting.{over-new}
 use Rattle.world_answers.proofs.service.Service.client.Goals as goal
 
 pub new-client-requires : goal.new-client-requires
-new-client-requires g c =
+new-client-requires c =
     let w = c.args.self.now.world.now in
     let over = subst (IsOver w) (sym c.in_ok-session.ensures.opened) (over-new w c.in_ok-session.ensures.each) in
     let same : c.in_ok-server.server ≡ c.server.result.now = grind arith in
     rw (same, c.server.ensures) (enough w c.in_ok-session.session w.bindings refl over)
 
 pub returns : goal.returns
-returns g c =
+returns c =
     let w = c.args.self.now.world.now in
     let over = subst (IsOver w) (sym c.in_ok-session.ensures.opened) (over-new w c.in_ok-session.ensures.each) in
     let same : c.in_ok-server.server ≡ c.server.result.now = grind arith in
