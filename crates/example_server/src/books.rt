@@ -1,34 +1,9 @@
-//! Books, which the examples ask: a schema, its bindings, and a source that a command would ask over a network, many ids in one call.
-//!
-//! The examples above rely on this: [`fetch_books`] gives an item for each id, in order.
-#![tactic(auto)]
+//! A source of books, which a command would ask over a network: many ids in one call.
 
 ghost use Rattle.server.specs.Sources.{any_answer};
 
-use server::{FetchFault, Item, Key, Request, Row, Rows, Source};
+use server::{FetchFault, Item, Key, Row, Rows, Source};
 use std::alloc::Global;
-
-/// What can be asked.
-pub const SCHEMA: &str = "type Query { book(id: ID!): Book books(ids: [ID!]!): [Book]! }
-type Book { id: ID! title: String! }";
-
-/// Where the fields of [`SCHEMA`] come from.
-pub const BINDINGS: &str = "bindings 1
-loader bookById books by id
-field Query.book one bookById arg id
-field Query.books each bookById arg ids";
-
-/// The number of the one loader.
-pub const BOOK_BY_ID: usize = 0;
-
-/// A request of a query alone.
-pub fn asking(query: &str) -> Request<'_> {
-    Request {
-        query,
-        operation_name: None,
-        variables: None,
-    }
-}
 
 /// The books by id.
 const TITLES: [(&str, &str); 3] = [("1", "Emma"), ("2", "Ulysses"), ("3", "Walden")];
