@@ -1,10 +1,11 @@
 -- Lemmas on what is begun on a client that wasn't busy.
-use Rattle.std.proofs.Common.{◌≡◌, ◌∙◌, sym, ap, Some, Ok, Err}
-use Rattle.std.specs.Prelude.{Result, OnOk, OnErr}
+use Rattle.std.proofs.Common.{◌≡◌, ◌∙◌, sym, ap, subst, Some, Ok, Err}
+use Rattle.std.specs.Prelude.{Result, IfErr, OnOk, OnErr}
 use Rattle.server.specs.Clients.{ClientOf}
 use Rattle.server_owned.specs.declared.handed_in.HandedIn.{HandedIn}
 use Rattle.host_clients.specs.Asked.{HostAsked}
 use Rattle.host_clients.specs.Clients.{Begins, IsBegun, client_in}
+use Rattle.host_clients.specs.Refused.{BeginFault}
 use Rattle.host_clients.specs.declared.client.HostClient.{HostClient}
 use Rattle.host_clients.specs.declared.client.HostClient.TheVariants.{Idle, Asked, Answered, Loading, Loaded, Moved}
 use Rattle.host_clients.specs.declared.fault.Fault.{Fault}
@@ -40,3 +41,14 @@ not-busy c asked (Answered a) r b is = b
 not-busy c asked (Loading m) r b is = b
 not-busy c asked (Loaded d) r b is = b
 not-busy c asked Moved r b is = b
+
+-- nothing is begun for want of memory alone
+pub begin-fault : (old : HostClient) (c : ClientOf HandedIn) (asked : HostAsked) (new : HostClient) (r : Result (Unit {0}) Fault) → Begins c asked new r → IfErr r (BeginFault old)
+begin-fault old c asked (Asked l) (Ok d) b = tt
+begin-fault old c asked (Asked l) (Err e) b = absurd b
+begin-fault old c asked (Idle x) (Ok d) b = absurd b
+begin-fault old c asked (Idle x) (Err e) b = subst (BeginFault old) (sym b.1) tt
+begin-fault old c asked (Answered a) r b = absurd b
+begin-fault old c asked (Loading m) r b = absurd b
+begin-fault old c asked (Loaded d) r b = absurd b
+begin-fault old c asked Moved r b = absurd b

@@ -5,5 +5,7 @@ pub mod Beginning
 pub mod Underway
 pub mod Loadings
 pub mod ReadKeys
+pub mod LaidKeys
 pub mod Replies
+pub mod Refusals
 pub mod Crossing

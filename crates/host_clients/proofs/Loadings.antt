@@ -15,7 +15,7 @@ use Rattle.rounds_by_hand.specs.declared.pending.Pending.TheVariants.{Out}
 use Rattle.server.specs.Clients.{ClientOf, IsClientCall, IsSameClient}
 use Rattle.server.specs.LoadsByHand.{LoadByHandOf, ClientLoads, ClientStopsLoad, load_by_hand_of, load_in}
 use Rattle.server_owned.specs.declared.handed_in.HandedIn.{HandedIn}
-use Rattle.host_clients.specs.Clients.{LoadsIt, MakesLoadRound, StopsLoad, TakesForLoad}
+use Rattle.host_clients.specs.Clients.{LoadsIt, MakesLoadRound, StopsForLoad, StopsLoad, TakesForLoad, WaitsAt}
 use Rattle.host_clients.specs.Loads.{KeysOf, IsLoadOf, AreOutcomesOf, HoldsLoading, asked_by, load_orders}
 use Rattle.host_clients.proofs.Underway.{may-answer, orders-kept}
 
@@ -98,6 +98,11 @@ module _ (old new : LoadByHandOf HandedIn) (number : ℕ) (answer : Result (Vec 
 
   pub takes-for-load : TakesForLoad number answer old new
   takes-for-load = record { same_keys = keys; client_is = client; goes_on = goes-on-taken; takes = takes }
+
+-- memory ran out at a reply
+pub load-stopped-at : (old new : LoadByHandOf HandedIn) (number : ℕ) → LoadGoesOn any_tell (load_in old) (load_in new) → new.client ≡ old.client → IsSameLoad (load_in old) (load_in new)
+    → WaitsAt number (load_pending_in old.far) → new.far ≡ over → StopsForLoad number old new
+load-stopped-at old new number goes client keys waited is = record { same_keys = keys; client_is = client; goes_on = goes; waited = waited; is_over = is }
 
 -- no orders are left where memory ran out
 pub holds-load-over : (old new : LoadByHandOf HandedIn) (asked : KeysOf) (before orders : List OrderOf) → LoadGoesOn any_tell (load_in old) (load_in new) → new.client ≡ old.client

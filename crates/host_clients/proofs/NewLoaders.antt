@@ -1,14 +1,17 @@
 -- New loaders, one after another.
-use Rattle.std.proofs.Common.{◌≡◌, ◌<◌, ◌≤◌, ◌+◌, ◌++◌, ℕ, suc, List, [], ◌∷◌, get_or, drop, map, length, refl, sym, ap, ◌∙◌, subst, All}
-use Rattle.std.proofs.lemmas.List.{append_assoc, append-nil, drop_more, drop_all}
-use Rattle.std.proofs.lemmas.List.Elements.{All-nil, All-cons}
-use Rattle.load_queue.specs.Loaders.{LoaderOf}
+use Rattle.std.proofs.Common.{◌≡◌, ◌<◌, ◌≤◌, ◌+◌, ◌++◌, ℕ, suc, List, [], ◌∷◌, get_or, drop, map, length, refl, sym, ap, ◌∙◌, subst, arith, All}
+use Rattle.std.proofs.lemmas.List.{append_assoc, append-nil, drop_more, drop_all, drop-drop}
+use Rattle.std.proofs.lemmas.List.Elements.{All-nil, All-cons, All-drop, All-head}
+use Rattle.load_queue.specs.declared.loader.QueueFault.{QueueFault}
+use Rattle.load_queue.specs.declared.loader.QueueFault.TheVariants as queue
+use Rattle.load_queue.specs.Loaders.{IsBadLimit, LoaderOf}
 use Rattle.gq_bindings.specs.Tree as bindings
 use Rattle.gq_bindings.specs.Seen.{loader_of}
 use Rattle.gq_bindings.specs.declared.binding.LoaderLine.{LoaderLine}
 use Rattle.server.specs.Opening.{new_loader}
 use Rattle.server_owned.specs.declared.handed_in.HandedIn.{HandedIn}
-use Rattle.host_clients.specs.Opening.{AreNewLoaders, handed_in, limit_at, limits_after}
+use Rattle.host_clients.specs.Faults.{queue_fault}
+use Rattle.host_clients.specs.Opening.{AreNewLoaders, LimitsFault, handed_in, limit_at, limits_after}
 
 -- nobody has asked a new loader
 pub none-asked : (limits : List ℕ) (lines : List bindings.LoaderOf) (loaders : List (LoaderOf HandedIn)) → AreNewLoaders handed_in limits lines loaders
@@ -49,3 +52,23 @@ pub so-all : (limits left : List ℕ) (lines : List LoaderLine) (i : ℕ) → le
 so-all limits left lines i past done so =
     let none : AreNewLoaders handed_in left (map loader_of (drop i lines)) [] = rw (drop_all i lines past) tt in
     rw append-nil at (so [] none)
+
+-- ---- a limit that is too large
+
+after-one : (limits : List ℕ) → limits_after limits ≡ drop 1 limits
+after-one [] = refl
+after-one (n ∷ ns) = refl
+
+pub left-next : (limits left rest : List ℕ) (i : ℕ) → left ≡ drop i limits → rest ≡ limits_after left → rest ≡ drop (i + 1) limits
+left-next limits left rest i is after = after ∙ ap (λ l. limits_after l) is ∙ after-one (drop i limits) ∙ drop-drop 1 i limits
+
+bad-limit : (n : ℕ) → n ≤ 65535 → IsBadLimit (limit_at (n ∷ [])) → ⊥
+bad-limit n le = grind arith
+
+bad-head : (limits : List ℕ) → All (λ n. n ≤ 65535) limits → IsBadLimit (limit_at limits) → ⊥
+bad-head [] all bad = bad
+bad-head (n ∷ ns) all bad = bad-limit n (All-head (λ m. m ≤ 65535) n ns all) bad
+
+pub limits-fault : (limits left : List ℕ) (i : ℕ) → left ≡ drop i limits → (e : QueueFault) → (e ≡ queue.BadLimit → IsBadLimit (limit_at left)) → LimitsFault limits (queue_fault e)
+limits-fault limits left i is queue.BadLimit bad = λ all. bad-head left (subst (λ l. All (λ n. n ≤ 65535) l) (sym is) (All-drop (λ n. n ≤ 65535) i limits all)) (bad refl)
+limits-fault limits left i is queue.NoMemory bad = tt

@@ -23,7 +23,7 @@ use Rattle.load_rounds.specs.SharedRounds.{report_of}
 use Rattle.server.specs.declared.by_hand.ClientAdvance.TheVariants.{Answered}
 use Rattle.server_owned.specs.declared.handed_in.HandedIn.{HandedIn}
 use Rattle.host_clients.specs.Asked.{HostAsked, PlansHost, AnswersHost}
-use Rattle.host_clients.specs.Clients.{AnswersIt, IsBegunWith, MakesRound, StopsIt, Takes}
+use Rattle.host_clients.specs.Clients.{AnswersIt, IsBegunWith, MakesRound, Stops, StopsIt, Takes, WaitsAt}
 use Rattle.host_clients.specs.UnderWay.{UnderWayOf, IsOf, IsAnswerOf, HoldsUnderWay, orders_out}
 
 -- a request is begun
@@ -132,6 +132,11 @@ module _ (old new : ByHandOf HandedIn) (number : ℕ) (answer : Result (Vec Item
 
   pub takes-it : (asked : HostAsked) → Takes number answer (record { hand = old; asked = asked }) (record { hand = new; asked = asked })
   takes-it asked = record { asked_is = refl; planned_is = same; client_is = client; goes_on = goes-taken; takes = takes }
+
+-- memory ran out at a reply
+pub stopped-at : (old new : ByHandOf HandedIn) (number : ℕ) (asked : HostAsked) → GoesOn any_tell old new → new.client ≡ old.client → new.planned ≡ old.planned → WaitsAt number (pending_in old.far)
+    → IsOver new.far → Stops number (record { hand = old; asked = asked }) (record { hand = new; asked = asked })
+stopped-at old new number asked goes client same waited over = record { asked_is = refl; planned_is = same; client_is = client; goes_on = goes; waited = waited; is_over = over }
 
 -- no orders are left where memory ran out
 pub holds-over : (old new : ByHandOf HandedIn) (asked : HostAsked) (orders : List OrderOf) → GoesOn any_tell old new → new.client ≡ old.client → new.planned ≡ old.planned → IsOver new.far → orders ≡ []

@@ -1,5 +1,5 @@
 -- Definitions of what the calls of a client make of it.
-use Rattle.std.specs.Prelude.{ℕ, ◌≡◌, ◌≤◌, ◌⊎◌, List, [], Bool, true, false, Option, Some, None, Result, Ok, Err, map, length, slice_get, option_map, MatchOption, String, string_bytes}
+use Rattle.std.specs.Prelude.{ℕ, ◌≡◌, ◌<◌, ◌≤◌, ◌⊎◌, List, [], Bool, true, false, Option, Some, None, Result, Ok, Err, map, length, slice_get, option_map, MatchOption, String, string_bytes}
 use Rattle.std.specs.Global.{Vec, Global}
 use Rattle.load_memory.specs.Outcomes.{ItemOf, item_of}
 use Rattle.load_memory.specs.declared.outcome.Item.{Item}
@@ -10,7 +10,8 @@ use Rattle.flat_orders.specs.Orders.{keys_of}
 use Rattle.load_rounds.specs.Histories.{Loading as LoadingCall, any_tell}
 use Rattle.rounds_by_hand.specs.Hands.{handed, pending_in, IsNewRound, IsWaiting, IsOver}
 use Rattle.rounds_by_hand.specs.LoadHands.{handed as load_handed, over, can_advance_load, load_pending_in, IsLoadUnderway, IsLoadWaiting, IsNewLoadRound, IsSameLoad, LoadGoesOn}
-use Rattle.rounds_by_hand.specs.Pending.{TakesAnswer}
+use Rattle.rounds_by_hand.specs.Pending.{TakesAnswer, is_in_at}
+use Rattle.rounds_by_hand.specs.declared.pending.Pending.{Pending}
 use Rattle.server.specs.Clients.{ClientOf, IsClientCall, IsSameClient}
 use Rattle.server.specs.Hands.{IsUnderway, GoesOn, GivesUp}
 use Rattle.server.specs.LoadsByHand.{LoadByHandOf, ClientStopsLoad, load_by_hand_of, load_in}
@@ -51,6 +52,15 @@ orders_in (Answered a) = []
 orders_in (Loading l) = load_orders l
 orders_in (Loaded d) = []
 orders_in Moved = []
+
+-- says the same with the replies that are there
+abbrev pub pending_of : HostClient → List Pending
+pending_of (Idle c) = []
+pending_of (Asked u) = pending_in u.hand.far
+pending_of (Answered a) = []
+pending_of (Loading l) = load_pending_in l.far
+pending_of (Loaded d) = []
+pending_of Moved = []
 
 -- a client that isn't busy has no loader of this number
 abbrev pub LacksLoader : HostClient → ℕ → Type 0
@@ -171,6 +181,38 @@ abbrev pub TakesAnswerTo : ℕ → Result (Vec Item) FetchFault → HostClient �
 TakesAnswerTo number answer (Asked u) (Asked v) = Takes number answer u v
 TakesAnswerTo number answer (Loading l) (Loading m) = TakesForLoad number answer l m
 TakesAnswerTo number answer old new = ⊥
+
+-- the order of this number waits for its reply
+abbrev pub WaitsAt : ℕ → List Pending → Type 0
+WaitsAt number pending = (number < length pending)
+    × (is_in_at (slice_get pending number) ≡ false)
+
+-- Memory ran out at the reply to an order that waited: what was asked is given up, which the next call to go on tells. The client is as it
+-- was, with all that it knows, and no order has a reply.
+pub record Stops (number : ℕ) (u v : UnderWayOf) : Type 0 where
+  pub asked_is : v.asked ≡ u.asked
+  pub planned_is : v.hand.planned ≡ u.hand.planned
+  pub client_is : v.hand.client ≡ u.hand.client
+  pub goes_on : GoesOn any_tell u.hand v.hand
+  pub waited : WaitsAt number (pending_in u.hand.far)
+  pub is_over : IsOver v.hand.far
+
+pub record StopsForLoad (number : ℕ) (l m : LoadByHandOf HandedIn) : Type 0 where
+  pub same_keys : IsSameLoad (load_in l) (load_in m)
+  pub client_is : m.client ≡ l.client
+  pub goes_on : LoadGoesOn any_tell (load_in l) (load_in m)
+  pub waited : WaitsAt number (load_pending_in l.far)
+  pub is_over : m.far ≡ over
+
+-- a request or a load stops at the reply to an order
+abbrev pub StopsAt : ℕ → HostClient → HostClient → Type 0
+StopsAt number (Asked u) (Asked v) = Stops number u v
+StopsAt number (Loading l) (Loading m) = StopsForLoad number l m
+StopsAt number old new = ⊥
+
+-- after want of memory: nothing has changed, or what is under way stops at the reply to an order
+abbrev pub KeepsOrStops : ℕ → HostClient → HostClient → Type 0
+KeepsOrStops number old new = (new ≡ old) ⊎ StopsAt number old new
 
 -- says what a call to go on makes of a client
 abbrev pub Advances : HostClient → HostClient → Result ClientProgress Fault → Type 0

@@ -1,12 +1,12 @@
 -- Definitions of what calls make of what a client knows. Each lets an answer go.
-use Rattle.std.specs.Prelude.{ℕ, ◌≡◌, Bool, List, [], ◌∷◌, Option, MatchOption, is_none, is_some}
+use Rattle.std.specs.Prelude.{ℕ, ◌≡◌, ◌⊎◌, Bool, List, [], ◌∷◌, Option, MatchOption, is_none, is_some}
 use Rattle.load_memory.specs.Keys.{KeyOf}
 use Rattle.load_memory.specs.Outcomes.{ItemOf}
 use Rattle.load_memory.specs.Cells.{cut}
 use Rattle.flat_orders.specs.Written.{key_said}
 use Rattle.flat_rows.specs.Replies.{reply_items}
 use Rattle.flat_rows.specs.declared.reply.FlatReply.{FlatReply}
-use Rattle.load_rounds.specs.Histories.{Call, Priming, Clearing, any_tell}
+use Rattle.load_rounds.specs.Histories.{Call, Priming, Clearing, Forgetting, any_tell}
 use Rattle.server.specs.Clients.{ClientOf, IsClientCall, IsSameClient, client_cell, client_pair, client_of, known_of}
 use Rattle.server_owned.specs.declared.handed_in.HandedIn.{HandedIn}
 use Rattle.host_clients.specs.Clients.{client_in}
@@ -30,6 +30,14 @@ OnClient becomes old new = ⊥
 -- a call is made in the client's session. The server answers it as before, and within the same limit.
 abbrev pub Calls : Call → ClientOf HandedIn → ClientOf HandedIn → Type 0
 Calls call c d = IsSameClient c d × IsClientCall any_tell call c d
+
+-- failed batches are forgotten, and nothing else is done
+abbrev pub Forgets : ClientOf HandedIn → ClientOf HandedIn → Type 0
+Forgets c d = Calls Forgetting c d
+
+-- after want of memory: nothing has changed, or failed batches are forgotten and an answer is let go
+abbrev pub KeepsOrForgets : HostClient → HostClient → Type 0
+KeepsOrForgets old new = (new ≡ old) ⊎ OnClient Forgets old new
 
 -- an item is added for a key, unless the key is known
 abbrev pub Primes : ℕ → KeyOf → ItemOf → Bool → ClientOf HandedIn → ClientOf HandedIn → Type 0

@@ -5,8 +5,10 @@ pub mod Texts
 pub mod UnderWay
 pub mod Loads
 pub mod AskedKeys
+pub mod Laid
 pub mod Clients
 pub mod LoaderTexts
 pub mod Logs
 pub mod Known
+pub mod Refused
 pub mod Objects

@@ -1,6 +1,6 @@
 -- Definitions of what is made of objects.
 use Rattle.std.specs.Prelude.{◌≡◌, ℕ, List, Result, Ok, Err}
-use Rattle.host_clients.specs.Opening.{IsNewClient}
+use Rattle.host_clients.specs.Opening.{AreLimitsFor, ClientFault, IsNewClient}
 use Rattle.host_clients.specs.declared.fault.Fault.{Fault}
 use Rattle.host_clients.specs.declared.fault.Fault.TheVariants as fault
 use Rattle.host_clients.specs.declared.object.Object.{Object}
@@ -16,7 +16,7 @@ Shares (Client c) (Err e) = e ≡ fault.BadHandle
 -- a client of the server, which knows nothing; what is no server has none
 abbrev pub MakesClient : List ℕ → Object → Result Object Fault → Type 0
 MakesClient limits (Server s) (Ok (Server t)) = ⊥
-MakesClient limits (Server s) (Ok (Client c)) = IsNewClient s limits c
-MakesClient limits (Server s) (Err e) = Unit {0}
+MakesClient limits (Server s) (Ok (Client c)) = AreLimitsFor s limits × IsNewClient s limits c
+MakesClient limits (Server s) (Err e) = ClientFault s limits e
 MakesClient limits (Client c) (Ok object) = ⊥
 MakesClient limits (Client c) (Err e) = e ≡ fault.BadHandle

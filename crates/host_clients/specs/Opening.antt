@@ -1,5 +1,5 @@
 -- Definitions of why a schema or its bindings are refused, as C is told, and the loaders of a new client.
-use Rattle.std.specs.Prelude.{ℕ, ◌≡◌, List, [], ◌∷◌, true, false, Option, Some, None, if◌then◌else◌, ◌==◌, IsUtf8}
+use Rattle.std.specs.Prelude.{ℕ, ◌≡◌, ◌≢◌, ◌≤◌, ◌⊎◌, List, All, length, [], ◌∷◌, true, false, Option, Some, None, if◌then◌else◌, ◌==◌, IsUtf8}
 use Rattle.text_place.specs.declared.place.Place.{Place}
 use Rattle.gq_schema.specs.declared.fault.SchemaFault.{SchemaFault}
 use Rattle.gq_schema.specs.declared.fault.SchemaFault.TheVariants as schema
@@ -10,6 +10,8 @@ use Rattle.server.specs.Opening.{new_loader}
 use Rattle.server_owned.specs.declared.handed_in.HandedIn.{HandedIn}
 use Rattle.host_clients.specs.declared.client.HostClient.{HostClient}
 use Rattle.host_clients.specs.declared.client.HostClient.TheVariants.{Idle}
+use Rattle.host_clients.specs.declared.fault.Fault.{Fault}
+use Rattle.host_clients.specs.declared.fault.Fault.TheVariants as fault
 use Rattle.host_clients.specs.declared.opening.OpenFault.{OpenFault}
 use Rattle.host_clients.specs.declared.opening.OpenFault.TheVariants.{NotUtf8, Refused, NoMemory}
 use Rattle.host_clients.specs.declared.opening.FaultPlace.{FaultPlace}
@@ -69,9 +71,27 @@ IsNewClient server limits (Idle c) = (c.server ≡ server)
     × AreNewLoaders handed_in limits server.bindings.loaders c.session.loaders
 IsNewClient server limits other = ⊥
 
+-- there is no limit, or one for each of the server's loaders
+abbrev pub AreLimitsFor : ServerOf → List ℕ → Type 0
+AreLimitsFor server limits = (limits ≡ []) ⊎ (length limits ≡ length server.bindings.loaders)
+
+-- why no loaders are made: a limit is over 65,535, or memory ran out
+abbrev pub LimitsFault : List ℕ → Fault → Type 0
+LimitsFault limits fault.BadLimit = ¬ (All (λ n. n ≤ 65535) limits)
+LimitsFault limits fault.NoMemory = Unit {0}
+LimitsFault limits e = ⊥
+
+-- why no client is made: another number of limits, or one over 65,535
+abbrev pub ClientFault : ServerOf → List ℕ → Fault → Type 0
+ClientFault server limits fault.BadSize = ¬ (AreLimitsFor server limits)
+ClientFault server limits fault.BadLimit =
+    AreLimitsFor server limits × ¬ (All (λ n. n ≤ 65535) limits)
+ClientFault server limits fault.NoMemory = AreLimitsFor server limits
+ClientFault server limits e = ⊥
+
 -- says why no server is made of these texts. Of memory this says nothing.
 abbrev pub RefusesOpening : List ℕ → List ℕ → OpenFault → Type 0
-RefusesOpening schema bindings NotUtf8 = ¬ (IsUtf8 schema × IsUtf8 bindings)
-RefusesOpening schema bindings (Refused place) = (fault : SchemaFault)
-    × IsServerFault schema bindings fault × (place ≡ place_of fault)
-RefusesOpening schema bindings NoMemory = Unit {0}
+RefusesOpening text bindings NotUtf8 = ¬ (IsUtf8 text × IsUtf8 bindings)
+RefusesOpening text bindings (Refused place) = (found : SchemaFault) × (found ≢ schema.NoMemory)
+    × IsServerFault text bindings found × (place ≡ place_of found)
+RefusesOpening text bindings NoMemory = Unit {0}

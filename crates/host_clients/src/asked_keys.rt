@@ -1,8 +1,9 @@
 //! The keys that a host has loaded.
-ghost use Rattle.std.specs.Prelude.{◌≡◌, ◌≤◌, ◌+◌, IfOk, IfErr, length, map, take, drop};
+ghost use Rattle.std.specs.Prelude.{◌≡◌, ◌<◌, ◌≤◌, ◌+◌, IfOk, IfErr, OnOk, IsErrOf, length, map, take, drop};
 ghost use Rattle.load_memory.specs.Keys.{key_of};
 ghost use Rattle.flat_orders.specs.Written.{key_said};
 ghost use Rattle.host_clients.specs.AskedKeys.{IsKeyFault, flat_keys, keys_asked};
+ghost use Rattle.host_clients.specs.Laid.{AreKeys, ShapeFault, KeysFault, laid_keys};
 
 use crate::fault::Fault;
 use flat_rows::FlatTexts;
@@ -53,7 +54,10 @@ fn key_at(alloc: Global, texts: &FlatTexts<'_>, at: usize, count: u32) -> Result
         ≡ key_said (take count (drop at texts.now))) }
     ensures within { IfOk result
         (λ _. at + count ≤ length texts.now) }
+    ensures few { OnOk result (count ≤ 2) }
     ensures fault { IfErr result IsKeyFault }
+    ensures shape { IfErr result
+        (ShapeFault count (length texts.now) at) }
 {
     if count > 2 {
         return Err(Fault::BadKey);
@@ -78,7 +82,10 @@ impl FlatKeys<'_> {
     pub fn read(&self, alloc: Global) -> Result<Vec<Key>, Fault>
         ensures keys { IfOk result (λ read. map key_of
             read.items ≡ (flat_keys self.now).keys) }
+        ensures formed { OnOk result (AreKeys (laid_keys self.now)) }
         ensures fault { IfErr result IsKeyFault }
+        ensures first { IfErr result
+            (KeysFault (laid_keys self.now)) }
     {
         let texts = FlatTexts::new(self.bytes, self.ends)?;
         let len = texts.len();

@@ -1,12 +1,14 @@
 //! Clients whose rounds another language runs.
 ghost use Rattle.std.specs.Prelude.{◌≡◌, ◌≢◌, ◌↔◌, true, false, length, Some, IfOk, IfErr, IfSome, IfNone, OnOk, OnErr, IsErrOf};
-ghost use Rattle.std.specs.Prelude.{option_map, slice_get};
+ghost use Rattle.std.specs.Prelude.{option_map, slice_get, IsUtf8};
 ghost use Rattle.flat_orders.specs.Orders.{keys_of};
 ghost use Rattle.host_clients.specs.Asked.{line as line_asked, request as request_asked};
 ghost use Rattle.host_clients.specs.AskedKeys.{flat_keys};
 ghost use Rattle.host_clients.specs.Clients.{Advances, Cancels, HasCount, IsBegun, IsBegunLoad, LacksLoader, TakesAnswerTo, TakesFailure, TakesReply};
-ghost use Rattle.host_clients.specs.Clients.{client_in, is_busy, orders_in};
+ghost use Rattle.host_clients.specs.Clients.{KeepsOrStops, StopsAt, client_in, is_busy, orders_in, pending_of};
 ghost use Rattle.host_clients.specs.Known.{items_in};
+ghost use Rattle.host_clients.specs.Laid.{AreKeys, laid_keys, laid_reply};
+ghost use Rattle.host_clients.specs.Refused.{BeginFault, FailureFault, LoadFault, OrderFault, RowsFault};
 ghost use Rattle.host_clients.specs.Texts.{asked_in, flat_parts};
 
 use crate::answered::AnsweredClient;
@@ -111,6 +113,8 @@ impl HostClient {
             ↔ (is_busy self.old ≡ true) }
         ensures unchanged { is_busy self.old ≡ true
             → self.new ≡ self.old }
+        ensures fault { IfErr result
+            (BeginFault self.old) }
     {
         match mem::replace(self, HostClient::Moved).into_idle() {
             Err(busy) => {
@@ -139,6 +143,8 @@ impl HostClient {
             ↔ (is_busy self.old ≡ true) }
         ensures unchanged { is_busy self.old ≡ true
             → self.new ≡ self.old }
+        ensures fault { IfErr result
+            (BeginFault self.old) }
     {
         if self.is_busy() {
             return Err(Fault::Busy);
@@ -162,6 +168,8 @@ impl HostClient {
             ↔ (is_busy self.old ≡ true) }
         ensures unchanged { is_busy self.old ≡ true
             → self.new ≡ self.old }
+        ensures fault { IfErr result
+            (BeginFault self.old) }
     {
         if self.is_busy() {
             return Err(Fault::Busy);
@@ -185,6 +193,9 @@ impl HostClient {
             ↔ (is_busy self.old ≡ true) }
         ensures no_loader { IsErrOf result Fault.NoLoader
             ↔ LacksLoader self.old keys.now.loader }
+        ensures formed { OnOk result (AreKeys (laid_keys keys.now)) }
+        ensures fault { IfErr result
+            (LoadFault (laid_keys keys.now) self.old) }
     {
         let Some(client) = self.idle() else {
             return Err(Fault::Busy);
@@ -265,6 +276,10 @@ impl HostClient {
         ensures taken { OnOk result (TakesAnswerTo number answer self.old self.new) }
         ensures kept { IfErr result (λ fault.
             fault ≢ Fault.NoMemory → self.new ≡ self.old) }
+        ensures stopped { IfErr result (λ fault.
+            fault ≡ Fault.NoMemory → StopsAt number self.old self.new) }
+        ensures fault { IfErr result
+            (OrderFault (pending_of self.old) number) }
     {
         match self {
             HostClient::Asked(under_way) => Ok(under_way.take(alloc, number, answer)?),
@@ -289,6 +304,10 @@ impl HostClient {
         ensures counted { OnOk result (HasCount number (length reply.now.rows.now) self.old) }
         ensures kept { IfErr result (λ fault.
             fault ≢ Fault.NoMemory → self.new ≡ self.old) }
+        ensures no_memory { IfErr result (λ fault.
+            fault ≡ Fault.NoMemory → KeepsOrStops number self.old self.new) }
+        ensures fault { IfErr result
+            (RowsFault number (laid_reply reply.now) self.old) }
     {
         match self.count(number) {
             None => return Err(Fault::NoOrder),
@@ -307,8 +326,13 @@ impl HostClient {
     /// [`NoMemory`](Fault::NoMemory) as that of [`take_rows`](HostClient::take_rows).
     pub fn take_failed(&mut self, alloc: Global, number: usize, text: &[u8]) -> Result<(), Fault>
         ensures taken { OnOk result (TakesFailure number text.now self.old self.new) }
+        ensures formed { OnOk result (IsUtf8 text.now) }
         ensures kept { IfErr result (λ fault.
             fault ≢ Fault.NoMemory → self.new ≡ self.old) }
+        ensures no_memory { IfErr result (λ fault.
+            fault ≡ Fault.NoMemory → KeepsOrStops number self.old self.new) }
+        ensures fault { IfErr result
+            (FailureFault number text.now self.old) }
     {
         if !self.is_busy() {
             return Err(Fault::NoOrder);

@@ -1,12 +1,14 @@
 //! Keys of a client, primed and cleared.
-ghost use Rattle.std.specs.Prelude.{true, ◌≡◌, ◌≢◌, ◌∷◌, [], IfOk, IfErr, IfSome, OnOk, OnErr, IsErrOf};
+ghost use Rattle.std.specs.Prelude.{true, ◌≡◌, ◌≢◌, ◌∷◌, [], IfOk, IfErr, IfSome, IfNone, OnOk, OnErr, IsErrOf, length};
 ghost use Rattle.load_memory.specs.Keys.{key_of};
 ghost use Rattle.load_memory.specs.Outcomes.{item_of};
 ghost use Rattle.load_rounds.specs.Histories.{ClearingAll};
 ghost use Rattle.server.specs.Clients.{begun};
 ghost use Rattle.host_clients.specs.Clients.{LacksLoader, client_in, is_busy};
-ghost use Rattle.host_clients.specs.Known.{Calls, Clears, LimitsAnswers, OnClient, Primes, PrimesSaid, items_in, key_in};
+ghost use Rattle.host_clients.specs.Known.{Calls, Clears, Forgets, KeepsOrForgets, LimitsAnswers, OnClient, Primes, PrimesSaid, items_in, key_in};
+ghost use Rattle.host_clients.specs.Laid.{AreKeyTexts, KeyFault, laid_reply, texts_at};
 ghost use Rattle.host_clients.specs.Logs.{AreBatches, LogHolds};
+ghost use Rattle.host_clients.specs.Refused.{BeginFault, BusyFault, ClearFault, KnownFault, LoaderFault, PrimeFault};
 
 use crate::client::HostClient;
 use crate::fault::Fault;
@@ -22,8 +24,12 @@ use std::mem;
 ///
 /// [`NotUtf8`](Fault::NotUtf8), [`BadEnds`](Fault::BadEnds), [`BadKey`](Fault::BadKey), [`NoMemory`](Fault::NoMemory).
 pub fn read_key(alloc: Global, ends: &[u32], bytes: &[u8]) -> Result<Key, Fault>
-    ensures { IfOk result
+    ensures key { IfOk result
         (λ key. key_of key ≡ key_in ends.now bytes.now) }
+    ensures formed { OnOk result
+        (AreKeyTexts (texts_at ends.now bytes.now)) }
+    ensures fault { IfErr result
+        (KeyFault (texts_at ends.now bytes.now)) }
 {
     let texts = FlatTexts::new(bytes, ends)?;
     match texts.len() {
@@ -36,8 +42,9 @@ pub fn read_key(alloc: Global, ends: &[u32], bytes: &[u8]) -> Result<Key, Fault>
 
 // The item, where it is the only one.
 fn the_one(items: Vec<Item>) -> Option<Item>
-    ensures { IfSome result
+    ensures one { IfSome result
         (λ item. items.items ≡ item ∷ []) }
+    ensures none { IfNone result (length items.items ≢ 1) }
 {
     let mut items = items;
     let item = items.pop()?;
@@ -50,17 +57,20 @@ impl HostClient {
     ///
     /// # Errors
     ///
-    /// [`Busy`](Fault::Busy) while a request is being answered or keys are loaded, [`NoLoader`](Fault::NoLoader),
-    /// [`NoMemory`](Fault::NoMemory).
+    /// [`Busy`](Fault::Busy) while a request is being answered or keys are loaded, [`NoLoader`](Fault::NoLoader): the client is as it was.
+    /// [`NoMemory`](Fault::NoMemory): failed batches are forgotten, and the client is else as it was.
     pub fn prime(&mut self, loader: usize, key: &Key, item: Item) -> Result<bool, Fault>
         ensures primed { IfOk result (λ added.
             OnClient (Primes loader (key_of key.now) (item_of item) added) self.old self.new) }
         ensures kept { IfErr result (λ fault.
             fault ≢ Fault.NoMemory → client_in self.new ≡ client_in self.old) }
+        ensures no_memory { IfErr result (λ fault.
+            fault ≡ Fault.NoMemory → OnClient Forgets self.old self.new) }
         ensures busy { is_busy self.old ≡ true
             → self.new ≡ self.old }
         ensures no_loader { IsErrOf result Fault.NoLoader
             → LacksLoader self.old loader }
+        ensures fault { IfErr result (KnownFault loader self.old) }
     {
         match mem::replace(self, HostClient::Moved).into_idle() {
             Err(busy) => {
@@ -94,8 +104,13 @@ impl HostClient {
             (λ b. OnClient (PrimesSaid loader key (items_in reply.now) b) self.old self.new) }
         ensures kept { IfErr result (λ fault.
             fault ≢ Fault.NoMemory → client_in self.new ≡ client_in self.old) }
+        ensures no_memory { IfErr result (λ fault.
+            fault ≡ Fault.NoMemory → KeepsOrForgets self.old self.new) }
         ensures busy { is_busy self.old ≡ true
             → self.new ≡ self.old }
+        ensures formed { OnOk result (AreKeyTexts (texts_at key_ends.now key_bytes.now)) }
+        ensures fault { let key = texts_at key_ends.now key_bytes.now in
+            IfErr result (PrimeFault loader key (laid_reply reply.now) self.old) }
     {
         let key = read_key(alloc, key_ends, key_bytes)?;
         match the_one(reply.items(alloc)?) {
@@ -120,8 +135,13 @@ impl HostClient {
             OnClient (Clears loader (key_in key_ends.now key_bytes.now) there) self.old self.new) }
         ensures kept { IfErr result (λ fault.
             fault ≢ Fault.NoMemory → client_in self.new ≡ client_in self.old) }
+        ensures no_memory { IfErr result (λ fault.
+            fault ≡ Fault.NoMemory → KeepsOrForgets self.old self.new) }
         ensures busy { is_busy self.old ≡ true
             → self.new ≡ self.old }
+        ensures formed { OnOk result (AreKeyTexts (texts_at key_ends.now key_bytes.now)) }
+        ensures fault { IfErr result
+            (ClearFault loader (texts_at key_ends.now key_bytes.now) self.old) }
     {
         let key = read_key(alloc, key_ends, key_bytes)?;
         self.clear(loader, &key)
@@ -137,10 +157,13 @@ impl HostClient {
             OnClient (Clears loader (key_of key.now) there) self.old self.new) }
         ensures kept { IfErr result (λ fault.
             fault ≢ Fault.NoMemory → client_in self.new ≡ client_in self.old) }
+        ensures no_memory { IfErr result (λ fault.
+            fault ≡ Fault.NoMemory → OnClient Forgets self.old self.new) }
         ensures busy { is_busy self.old ≡ true
             → self.new ≡ self.old }
         ensures no_loader { IsErrOf result Fault.NoLoader
             → LacksLoader self.old loader }
+        ensures fault { IfErr result (KnownFault loader self.old) }
     {
         match mem::replace(self, HostClient::Moved).into_idle() {
             Err(busy) => {
@@ -169,6 +192,7 @@ impl HostClient {
             → self.new ≡ self.old }
         ensures no_loader { IsErrOf result Fault.NoLoader
             → LacksLoader self.old loader }
+        ensures fault { IfErr result (LoaderFault loader self.old) }
     {
         match mem::replace(self, HostClient::Moved).into_idle() {
             Err(busy) => {
@@ -195,6 +219,8 @@ impl HostClient {
             (client_in self.new ≡ client_in self.old) }
         ensures busy { is_busy self.old ≡ true
             → self.new ≡ self.old }
+        ensures fault { IfErr result
+            (BeginFault self.old) }
     {
         match mem::replace(self, HostClient::Moved).into_idle() {
             Err(busy) => {
@@ -220,6 +246,8 @@ impl HostClient {
         ensures kept { OnErr result (self.new ≡ self.old) }
         ensures busy { is_busy self.old ≡ true
             → self.new ≡ self.old }
+        ensures fault { IfErr result
+            (BusyFault self.old) }
     {
         match mem::replace(self, HostClient::Moved).into_idle() {
             Err(busy) => {
@@ -246,6 +274,7 @@ impl HostClient {
             LogHolds (λ log. AreBatches log l.rounds.items l.stored.items l.keys) self.now loader) }
         ensures no_loader { IsErrOf result Fault.NoLoader
             → LacksLoader self.now loader }
+        ensures fault { IfErr result (KnownFault loader self.now) }
     {
         let Some(client) = self.idle() else {
             return Err(Fault::Busy);

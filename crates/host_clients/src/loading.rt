@@ -2,13 +2,15 @@
 //!
 //! A load goes on in the turns of a request, so that a host has one loop for both. It keeps the texts of its
 //! keys, since `AreOutcomesOf` speaks of what was asked once the load is over.
-ghost use Rattle.std.specs.Prelude.{◌≡◌, ◌<◌, OnOk, IsErrOf, length, map};
+ghost use Rattle.std.specs.Prelude.{◌≡◌, ◌<◌, IfErr, OnOk, IsErrOf, length, map};
 ghost use Rattle.load_memory.specs.Keys.{key_of};
-ghost use Rattle.rounds_by_hand.specs.LoadHands.{handed, over};
+ghost use Rattle.rounds_by_hand.specs.LoadHands.{handed, load_pending_in, over};
 ghost use Rattle.server.specs.LoadsByHand.{load_by_hand_of};
 ghost use Rattle.host_clients.specs.AskedKeys.{keys_asked};
-ghost use Rattle.host_clients.specs.Clients.{LoadsOnWith, StopsLoad, TakesForLoad};
+ghost use Rattle.host_clients.specs.Clients.{LoadsOnWith, StopsForLoad, StopsLoad, TakesForLoad};
+ghost use Rattle.host_clients.specs.Faults.{take_fault};
 ghost use Rattle.host_clients.specs.Loads.{load_orders};
+ghost use Rattle.host_clients.specs.Refused.{OrderFault};
 
 use crate::asked_keys::AskedKeys;
 use crate::client::{ClientProgress, HostClient};
@@ -135,7 +137,7 @@ impl LoadUnderWay {
         &self.orders
     }
 
-    /// Takes the answer to the order of this number.
+    /// Takes the answer to the order of this number. When out of memory, it is over, and nothing is stored.
     pub(crate) fn take(
         &mut self,
         alloc: Global,
@@ -150,6 +152,10 @@ impl LoadUnderWay {
             → self.new ≡ self.old }
         ensures over { IsErrOf result TakeFault.NoMemory
             → self.new.far ≡ over }
+        ensures stopped { IsErrOf result TakeFault.NoMemory
+            → StopsForLoad number self.old self.new }
+        ensures fault { IfErr result (λ e.
+            OrderFault (load_pending_in self.old.far) number (take_fault e)) }
     {
         match self.hand.answer(number, answer) {
             Ok(()) => Ok(()),

@@ -1,9 +1,9 @@
 //! Servers from texts, and new clients.
-ghost use Rattle.std.specs.Prelude.{◌≡◌, IfOk, IfErr, map, option_map};
+ghost use Rattle.std.specs.Prelude.{◌≡◌, IfOk, IfErr, OnOk, map, option_map};
 ghost use Rattle.gq_bindings.specs.Seen.{by_of, loader_of};
 ghost use Rattle.plan_requests.specs.Servers.{IsServer};
 ghost use Rattle.server.specs.Opening.{mode_of};
-ghost use Rattle.host_clients.specs.Opening.{AreNewLoaders, IsNewClient, RefusesOpening, fault_at, fault_without, handed_in, limit_at, limits_after, place_of};
+ghost use Rattle.host_clients.specs.Opening.{AreLimitsFor, AreNewLoaders, ClientFault, IsNewClient, LimitsFault, RefusesOpening, fault_at, fault_without, handed_in, limit_at, limits_after, place_of};
 
 use crate::client::HostClient;
 use crate::fault::Fault;
@@ -140,8 +140,10 @@ fn new_loaders(
     lines: &[LoaderLine],
     limits: &[u32],
 ) -> Result<Vec<Loader<HandedIn>>, Fault>
-    ensures { IfOk result (λ loaders.
+    ensures made { IfOk result (λ loaders.
         AreNewLoaders handed_in limits.now (map loader_of lines.now) loaders.items) }
+    ensures fault { IfErr result
+        (LimitsFault limits.now) }
 {
     let mut loaders = Vec::with_capacity(alloc, lines.len())?;
     let mut left = limits;
@@ -164,8 +166,12 @@ fn new_loaders(
 /// [`BadSize`](Fault::BadSize) where `limits` has another length; [`BadLimit`](Fault::BadLimit) where one is over 65,535;
 /// [`NoMemory`](Fault::NoMemory).
 pub fn open_client(alloc: Global, server: &Server, limits: &[u32]) -> Result<HostClient, Fault>
-    ensures { IfOk result
+    ensures made { IfOk result
         (IsNewClient server.now limits.now) }
+    ensures limits { OnOk result
+        (AreLimitsFor server.now limits.now) }
+    ensures fault { IfErr result
+        (ClientFault server.now limits.now) }
 {
     let lines = server.bindings().loaders();
     if !limits.is_empty() && limits.len() != lines.len() {

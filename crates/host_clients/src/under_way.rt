@@ -1,8 +1,10 @@
 //! Requests on their way to the answer.
-ghost use Rattle.std.specs.Prelude.{◌≡◌, ◌++◌, ◌∷◌, [], IfOk, OnOk, IsErrOf, map};
-ghost use Rattle.rounds_by_hand.specs.Hands.{IsOver};
+ghost use Rattle.std.specs.Prelude.{◌≡◌, ◌++◌, ◌∷◌, [], IfOk, IfErr, OnOk, IsErrOf, map};
+ghost use Rattle.rounds_by_hand.specs.Hands.{IsOver, pending_in};
 ghost use Rattle.rounds_by_hand.specs.Pending.{order_in};
-ghost use Rattle.host_clients.specs.Clients.{Begins, GoesOnWith, StopsIt, Takes};
+ghost use Rattle.host_clients.specs.Clients.{Begins, GoesOnWith, Stops, StopsIt, Takes};
+ghost use Rattle.host_clients.specs.Faults.{take_fault};
+ghost use Rattle.host_clients.specs.Refused.{OrderFault};
 ghost use Rattle.host_clients.specs.Texts.{asked_in};
 ghost use Rattle.host_clients.specs.UnderWay.{orders_out};
 
@@ -173,7 +175,7 @@ impl UnderWay {
         &self.orders
     }
 
-    /// Takes the answer to the order of this number.
+    /// Takes the answer to the order of this number. When out of memory, it is over, and nothing is stored.
     pub(crate) fn take(
         &mut self,
         alloc: Global,
@@ -188,6 +190,10 @@ impl UnderWay {
             → self.new ≡ self.old }
         ensures over { IsErrOf result TakeFault.NoMemory
             → IsOver self.new.hand.far }
+        ensures stopped { IsErrOf result TakeFault.NoMemory
+            → Stops number self.old self.new }
+        ensures fault { IfErr result (λ e.
+            OrderFault (pending_in self.old.hand.far) number (take_fault e)) }
     {
         match self.hand.answer(number, answer) {
             Ok(()) => Ok(()),

@@ -1,17 +1,18 @@
 -- Definitions of what handles hold, and what calls make of them.
-use Rattle.std.specs.Prelude.{◌≡◌, ◌≢◌, ℤ, ℕ, List, [], ◌∷◌, Bool, true, Option, Some, None, Result, Ok, Err, OnOk, IfOk, IfErr, length}
-use Rattle.load_memory.specs.Keys.{KeyOf}
-use Rattle.load_memory.specs.Outcomes.{ItemOf, OutcomeOf}
+use Rattle.std.specs.Prelude.{◌≡◌, ◌≢◌, ℤ, ℕ, List, [], ◌∷◌, Bool, true, Option, Some, None, Result, Ok, Err, OnOk, OnErr, IfErr, IsUtf8, length}
+use Rattle.load_memory.specs.Outcomes.{OutcomeOf}
 use Rattle.load_queue.specs.Orders.{OrderOf}
-use Rattle.flat_rows.specs.Replies.{reply_items}
 use Rattle.plan_requests.specs.Servers.{ServerOf, IsServer}
 use Rattle.server.specs.Clients.{ClientOf}
 use Rattle.server_owned.specs.declared.handed_in.HandedIn.{HandedIn}
 use Rattle.host_clients.specs.Asked.{HostAsked}
-use Rattle.host_clients.specs.Clients.{Advances, HasCount, IsBegun, IsBegunLoad, LacksLoader, TakesFailure, TakesReply, client_in, is_busy}
+use Rattle.host_clients.specs.Clients.{Advances, HasCount, IsBegun, IsBegunLoad, KeepsOrStops, TakesFailure, TakesReply, client_in, is_busy}
 use Rattle.host_clients.specs.Faults.{code_of}
-use Rattle.host_clients.specs.Known.{OnClient, PrimesSaid, Clears}
-use Rattle.host_clients.specs.Loads.{KeysOf, AreOutcomesOf, load_orders}
+use Rattle.host_clients.specs.Known.{KeepsOrForgets, OnClient, PrimesSaid, Clears}
+use Rattle.host_clients.specs.Laid.{AreKeyTexts, AreKeys, LaidKeys, LaidReply, TextsOf, items_at, key_at, keys_at, reply_at}
+use Rattle.host_clients.specs.Loads.{AreOutcomesOf, load_orders}
+use Rattle.host_clients.specs.Opening.{RefusesOpening}
+use Rattle.host_clients.specs.Refused.{BeginFault, ClearFault, FailureFault, LoadFault, PrimeFault, RowsFault}
 use Rattle.host_clients.specs.UnderWay.{IsAnswerOf, orders_out}
 use Rattle.host_clients.specs.declared.client.HostClient.{HostClient}
 use Rattle.host_clients.specs.declared.client.HostClient.TheVariants.{Asked, Answered, Loading, Loaded}
@@ -20,9 +21,12 @@ use Rattle.host_clients.specs.declared.fault.Fault.{Fault}
 use Rattle.host_clients.specs.declared.fault.Fault.TheVariants as fault
 use Rattle.host_clients.specs.declared.object.Object.{Object}
 use Rattle.host_clients.specs.declared.object.Object.TheVariants as object
+use Rattle.host_clients.specs.declared.opening.FaultPlace.{FaultPlace}
+use Rattle.host_clients.specs.declared.opening.OpenFault.TheVariants.{NotUtf8, Refused}
 use Rattle.rudzkvano_c.specs.Codes.{code_in, progress_in}
 use Rattle.rudzkvano_c.specs.Put.{Puts}
-use Rattle.rudzkvano_c.specs.Told.{number_of}
+use Rattle.rudzkvano_c.specs.Told.{fault_told, number_of}
+use Rattle.rudzkvano_c.specs.declared.servers.SchemaFault.{SchemaFault}
 
 -- a server is held, of which this holds
 abbrev pub HoldsServer : (ServerOf → Type 0) → Option Object → Type 0
@@ -65,11 +69,23 @@ abbrev pub Gives : (Object → Result Object Fault → Type 0)
 Gives makes held old new code = (made : Result Object Fault)
     × IsMadeOf makes held made × WentAs code (Puts made old new)
 
--- a server of these texts is put into a handle, or it holds what it held
-abbrev pub Opens : List ℕ → List ℕ → Option Object → Option Object → ℤ → Type 0
-Opens schema bindings old new code = (made : Result Object Fault)
-    × IfOk made (λ o. HoldsServer (IsServer schema bindings) (Some o))
-    × WentAs code (Puts made old new)
+-- A server is made of these texts. Or none is: a text isn't UTF-8; or the schema or its bindings are refused, for the fault that is told,
+-- with its place; or memory ran out. Nothing else is told.
+abbrev pub OpensAs : List ℕ → List ℕ → SchemaFault → SchemaFault → Result Object Fault → Type 0
+OpensAs text bindings was told (Ok o) = (told ≡ was)
+    × HoldsServer (IsServer text bindings) (Some o)
+OpensAs text bindings was told (Err fault.NotUtf8) = (told ≡ was)
+    × RefusesOpening text bindings NotUtf8
+OpensAs text bindings was told (Err fault.BadSchema) = (place : FaultPlace)
+    × (told ≡ fault_told place) × RefusesOpening text bindings (Refused place)
+OpensAs text bindings was told (Err fault.NoMemory) = told ≡ was
+OpensAs text bindings was told (Err e) = ⊥
+
+-- a server of these texts is put into a handle, or it holds what it held, and why is told
+abbrev pub Opens : List ℕ → List ℕ → SchemaFault → SchemaFault
+    → Option Object → Option Object → ℤ → Type 0
+Opens text bindings was told old new code = (made : Result Object Fault)
+    × OpensAs text bindings was told made × WentAs code (Puts made old new)
 
 -- ---- what is asked of a client
 
@@ -77,15 +93,16 @@ Opens schema bindings old new code = (made : Result Object Fault)
 abbrev pub StaysUnderWay : HostClient → HostClient → Type 0
 StaysUnderWay old new = is_busy old ≡ true → new ≡ old
 
--- it is begun, or the client is as it was, and what is under way too
+-- it is begun; or it is refused for that fault, and the client is as it was, and what is under way too
 abbrev pub BeginsWith : HostAsked → HostClient → HostClient → Result (Unit {0}) Fault → Type 0
 BeginsWith asked old new (Ok done) = IsBegun old asked new
 BeginsWith asked old new (Err e) = (client_in new ≡ client_in old) × StaysUnderWay old new
+    × BeginFault old e
 
--- it is begun to load keys; or, refused, nothing has changed, and for want of a loader only where there is no such loader
-abbrev pub BeginsLoad : KeysOf → HostClient → HostClient → Result (Unit {0}) Fault → Type 0
-BeginsLoad asked old new (Ok done) = IsBegunLoad asked old new
-BeginsLoad asked old new (Err e) = (new ≡ old) × (e ≡ fault.NoLoader → LacksLoader old asked.loader)
+-- it is begun to load keys, which are well formed; or it is refused for that fault, and nothing has changed
+abbrev pub BeginsLoad : LaidKeys → HostClient → HostClient → Result (Unit {0}) Fault → Type 0
+BeginsLoad keys old new (Ok done) = AreKeys keys × IsBegunLoad (keys_at keys) old new
+BeginsLoad keys old new (Err e) = (new ≡ old) × LoadFault keys old e
 
 -- says what a call to go on makes of an object
 abbrev pub AdvancesObject : Object → Object → Result ClientProgress Fault → Type 0
@@ -101,52 +118,59 @@ AdvancesHeld (Some old) None code = ⊥
 AdvancesHeld (Some old) (Some new) code = (progress : Result ClientProgress Fault)
     × (code ≡ progress_in progress) × AdvancesObject old new progress
 
--- unless memory ran out, a refused reply changes nothing
-abbrev pub KeepsIfRefused : HostClient → HostClient → Result (Unit {0}) Fault → Type 0
-KeepsIfRefused old new done = IfErr done (λ e. e ≢ fault.NoMemory → new ≡ old)
+-- a refused reply changes nothing; or memory ran out, and nothing has changed, or what is under way stops at that order
+abbrev pub KeepsIfRefused : ℕ → HostClient → HostClient → Fault → Type 0
+KeepsIfRefused order old new e = (e ≢ fault.NoMemory → new ≡ old)
+    × (e ≡ fault.NoMemory → KeepsOrStops order old new)
 
--- the items of a reply are taken for an order, which has a key for each number of rows
-abbrev pub TakesRows : ℕ → List ℕ → List ItemOf → HostClient
-    → HostClient → Result (Unit {0}) Fault → Type 0
-TakesRows order rows items old new done =
-    OnOk done (HasCount order (length rows) old × TakesReply order items old new)
-    × KeepsIfRefused old new done
+-- the items of a reply are taken for an order, which has a key for each number of rows; or it is refused for that fault
+abbrev pub TakesRows : ℕ → LaidReply → HostClient → HostClient → Result (Unit {0}) Fault → Type 0
+TakesRows order reply old new done =
+    OnOk done (HasCount order (length reply.rows) old × TakesReply order (items_at reply) old new)
+    × IfErr done (KeepsIfRefused order old new) × IfErr done (RowsFault order reply old)
 
--- a batch is taken to have failed
+-- a batch is taken to have failed, with that text; or it is refused for that fault
 abbrev pub TakesFailed : ℕ → List ℕ → HostClient → HostClient → Result (Unit {0}) Fault → Type 0
-TakesFailed order text old new done = OnOk done (TakesFailure order text old new)
-    × KeepsIfRefused old new done
+TakesFailed order text old new done = OnOk done (IsUtf8 text × TakesFailure order text old new)
+    × IfErr done (KeepsIfRefused order old new) × IfErr done (FailureFault order text old)
 
 -- ---- what a client knows
 
--- unless memory ran out, a refused call leaves the client as it was
-abbrev pub KeepsClient : HostClient → HostClient → Result (Unit {0}) Fault → Type 0
-KeepsClient old new done = IfErr done (λ e. e ≢ fault.NoMemory → client_in new ≡ client_in old)
-
--- this is made of the client, or it is as it was unless memory ran out; what is under way stays as it is
-abbrev pub Becomes : (ClientOf HandedIn → ClientOf HandedIn → Type 0)
+-- this is made of the client, or it is refused for that fault, and the client is as it was; what is under way stays as it is
+abbrev pub Becomes : (ClientOf HandedIn → ClientOf HandedIn → Type 0) → (HostClient → Fault → Type 0)
     → HostClient → HostClient → Result (Unit {0}) Fault → Type 0
-Becomes becomes old new done = OnOk done (OnClient becomes old new)
-    × KeepsClient old new done × StaysUnderWay old new
+Becomes becomes refuses old new done = OnOk done (OnClient becomes old new)
+    × OnErr done (client_in new ≡ client_in old) × IfErr done (refuses old)
+    × StaysUnderWay old new
 
--- says the same, and what the call tells of it is written as a number
-abbrev pub Tells : (Bool → ClientOf HandedIn → ClientOf HandedIn → Type 0)
-    → ℕ → HostClient → HostClient → Result (Unit {0}) Fault → Type 0
-Tells becomes told old new done =
-    Becomes (λ c d. (b : Bool) × (told ≡ number_of b) × becomes b c d) old new done
+-- a refused call leaves the client as it was, but that failed batches may be forgotten where memory ran out
+abbrev pub KeepsClient : HostClient → HostClient → Fault → Type 0
+KeepsClient old new e = (e ≢ fault.NoMemory → client_in new ≡ client_in old)
+    × (e ≡ fault.NoMemory → KeepsOrForgets old new)
+
+-- says the same of a call with the texts of a key that takes memory, and what it tells of it is written as a number
+abbrev pub Tells : TextsOf → (Bool → ClientOf HandedIn → ClientOf HandedIn → Type 0)
+    → (HostClient → Fault → Type 0) → ℕ
+    → HostClient → HostClient → Result (Unit {0}) Fault → Type 0
+Tells key becomes refuses told old new done =
+    OnOk done (OnClient (λ c d. (b : Bool) × (told ≡ number_of b) × becomes b c d) old new)
+    × OnOk done (AreKeyTexts key) × IfErr done (KeepsClient old new) × IfErr done (refuses old)
+    × StaysUnderWay old new
 
 -- an item is added for a key, and whether it was added is told
-abbrev pub Primes : ℕ → KeyOf → List ItemOf → ℕ → HostClient
-    → HostClient → Result (Unit {0}) Fault → Type 0
-Primes loader key items told = Tells (PrimesSaid loader key items) told
+abbrev pub Primes : ℕ → TextsOf → LaidReply → ℕ
+    → HostClient → HostClient → Result (Unit {0}) Fault → Type 0
+Primes loader key reply told = Tells key (PrimesSaid loader (key_at key) (items_at reply))
+    (PrimeFault loader key reply) told
 
--- the one item of a reply
-abbrev pub one_in : ℕ → ℕ → List ℕ → List ℕ → List ItemOf
-one_in columns rows ends bytes = reply_items columns (rows ∷ []) ends bytes
+-- the reply of one key
+abbrev pub one_in : ℕ → ℕ → List ℕ → List ℕ → LaidReply
+one_in columns rows ends bytes = reply_at columns (rows ∷ []) ends bytes
 
 -- a key is forgotten, and whether something was known of it is told
-abbrev pub TellsCleared : ℕ → KeyOf → ℕ → HostClient → HostClient → Result (Unit {0}) Fault → Type 0
-TellsCleared loader key told = Tells (Clears loader key) told
+abbrev pub TellsCleared : ℕ → TextsOf → ℕ
+    → HostClient → HostClient → Result (Unit {0}) Fault → Type 0
+TellsCleared loader key told = Tells key (Clears loader (key_at key)) (ClearFault loader key) told
 
 -- ---- what is copied
 

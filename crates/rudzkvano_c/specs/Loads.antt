@@ -4,7 +4,8 @@ use Rattle.std.specs.Prelude.{ℕ, ◌≡◌, List, Result, Ok, Err, OnOk}
 use Rattle.load_memory.specs.Outcomes.{OutcomeOf}
 use Rattle.flat_outcomes.specs.Said.{outcomes_said}
 use Rattle.flat_outcomes.specs.Written.{all_faults}
-use Rattle.host_clients.specs.Loads.{KeysOf, AreOutcomesOf, keys_in}
+use Rattle.host_clients.specs.Laid.{LaidKeys, texts_at}
+use Rattle.host_clients.specs.Loads.{AreOutcomesOf}
 use Rattle.host_clients.specs.declared.client.HostClient.{HostClient}
 use Rattle.host_clients.specs.declared.client.HostClient.TheVariants.{Loaded}
 use Rattle.host_clients.specs.declared.fault.Fault.{Fault}
@@ -14,8 +15,9 @@ use Rattle.host_clients.specs.declared.object.Object.TheVariants as object
 use Rattle.rudzkvano_c.specs.Held.{CopiesObject}
 
 -- these keys of a loader, as a host lays them out
-abbrev pub keys_of_loader : ℕ → List ℕ → List ℕ → List ℕ → KeysOf
-keys_of_loader loader texts ends bytes = record { loader = loader; keys = keys_in texts ends bytes }
+abbrev pub keys_of_loader : ℕ → List ℕ → List ℕ → List ℕ → LaidKeys
+keys_of_loader loader texts ends bytes =
+    record { loader = loader; shapes = texts; texts = texts_at ends bytes }
 
 -- a client has these outcomes, which are those of the keys that it loaded last
 abbrev pub HasOutcomes : List OutcomeOf → HostClient → Type 0

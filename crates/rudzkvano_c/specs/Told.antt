@@ -1,6 +1,8 @@
--- Definitions of what a call tells, as a number.
+-- Definitions of what a call tells, as numbers.
 use Rattle.std.specs.Prelude.{◌≡◌, ℕ, Bool, Result, Ok, Err, if◌then◌else◌}
+use Rattle.host_clients.specs.declared.opening.FaultPlace.{FaultPlace}
 use Rattle.host_clients.specs.declared.fault.Fault.{Fault}
+use Rattle.rudzkvano_c.specs.declared.servers.SchemaFault.{SchemaFault}
 
 abbrev pub number_of : Bool → ℕ
 number_of b = if b then 1 else 0
@@ -9,3 +11,12 @@ number_of b = if b then 1 else 0
 abbrev pub IsTold : Result Bool Fault → ℕ → ℕ → Result (Unit {0}) Fault → Type 0
 IsTold (Ok b) old new done = (new ≡ number_of b) × (done ≡ Ok tt)
 IsTold (Err e) old new done = (new ≡ old) × (done ≡ Err e)
+
+-- the place of a fault, and whether it is in the bindings
+abbrev pub fault_told : FaultPlace → SchemaFault
+fault_told place = record {
+  line = place.line;
+  column = place.column;
+  number = place.number;
+  in_bindings = number_of place.in_bindings;
+}

@@ -4,6 +4,7 @@ ghost use Rattle.server.specs.Clients.{begun};
 ghost use Rattle.host_clients.specs.Known.{LimitsAnswers};
 ghost use Rattle.host_clients.specs.Objects.{MakesClient};
 ghost use Rattle.host_clients.specs.Opening.{limit_of};
+ghost use Rattle.host_clients.specs.Refused.{BeginFault, BusyFault};
 ghost use Rattle.rudzkvano_c.specs.Held.{Becomes, Gives, IsMadeOf, Makes, MakesObject};
 
 use crate::codes::code_of;
@@ -53,7 +54,7 @@ fn limit_of(most: usize) -> Option<usize>
 }
 
 fn limit_answers(object: &mut Object, most: usize) -> Result<(), Fault>
-    ensures { MakesObject (Becomes (LimitsAnswers (limit_of most))) object.old object.new result }
+    ensures { MakesObject (Becomes (LimitsAnswers (limit_of most)) BusyFault) object.old object.new result }
 {
     match object {
         Object::Client(client) => client.limit_answers(limit_of(most)),
@@ -65,10 +66,12 @@ fn limit_answers(object: &mut Object, most: usize) -> Result<(), Fault>
 ///
 /// # Promise
 ///
-/// The client as these calls of `server` make it (`Becomes`); what is under way stays as it is
+/// The client as these calls of `server` make it (`Becomes`); what is under way stays as it is. Refused, the client is
+/// as it was, but that failed batches may be forgotten where memory ran out in `rz_prime` or `rz_clear`
+/// (`KeepsOrForgets`), and the code says why (`specs/Refused.antt` of `host_clients`)
 #[unsafe(no_mangle)]
 pub extern "C" fn rz_limit_answers(alloc: Global, client: &mut Handle, most: usize) -> i32
-    ensures { Makes (Becomes (LimitsAnswers (limit_of most)))
+    ensures { Makes (Becomes (LimitsAnswers (limit_of most)) BusyFault)
         client.old.held client.new.held result }
 {
     let Some(mut object) = client.take(alloc) else {
@@ -80,7 +83,7 @@ pub extern "C" fn rz_limit_answers(alloc: Global, client: &mut Handle, most: usi
 }
 
 fn restart(object: &mut Object) -> Result<(), Fault>
-    ensures { MakesObject (Becomes (λ c d. d ≡ begun c))
+    ensures { MakesObject (Becomes (λ c d. d ≡ begun c) BeginFault)
         object.old object.new result }
 {
     match object {
@@ -96,7 +99,7 @@ fn restart(object: &mut Object) -> Result<(), Fault>
 /// As `rz_limit_answers` says
 #[unsafe(no_mangle)]
 pub extern "C" fn rz_restart(alloc: Global, client: &mut Handle) -> i32
-    ensures { Makes (Becomes (λ c d. d ≡ begun c))
+    ensures { Makes (Becomes (λ c d. d ≡ begun c) BeginFault)
         client.old.held client.new.held result }
 {
     let Some(mut object) = client.take(alloc) else {

@@ -3,7 +3,9 @@ ghost use Rattle.std.specs.Prelude.{◌≡◌, IfOk};
 ghost use Rattle.load_memory.specs.Cells.{cut};
 ghost use Rattle.load_rounds.specs.Histories.{ClearingAll};
 ghost use Rattle.flat_orders.specs.Written.{lists_said};
-ghost use Rattle.host_clients.specs.Known.{Calls, items_in, key_in};
+ghost use Rattle.host_clients.specs.Known.{Calls};
+ghost use Rattle.host_clients.specs.Laid.{laid_reply, texts_at};
+ghost use Rattle.host_clients.specs.Refused.{LoaderFault};
 ghost use Rattle.rudzkvano_c.specs.Held.{Becomes, Copies, CopiesObject, Makes, MakesObject, TellsCleared, Primes, one_in};
 ghost use Rattle.rudzkvano_c.specs.Key.{flat_key};
 ghost use Rattle.rudzkvano_c.specs.Logged.{CopiesLog, HasLogSizes, IsLogOf, TellsLogSizes};
@@ -48,7 +50,7 @@ fn prime(
     primed: &mut u32,
 ) -> Result<(), Fault>
     ensures { MakesObject (Primes key.entry.loader (flat_key key.entry)
-        (items_in item.now) primed.new) object.old object.new result }
+        (laid_reply item.now) primed.new) object.old object.new result }
 {
     match object {
         Object::Client(client) => {
@@ -77,7 +79,7 @@ pub extern "C" fn rz_prime(
     bytes: &[u8],
     primed: &mut u32,
 ) -> i32
-    ensures { Makes (Primes loader (key_in key_ends.now key_bytes.now) (one_in columns
+    ensures { Makes (Primes loader (texts_at key_ends.now key_bytes.now) (one_in columns
         rows ends.now bytes.now) primed.new) client.old.held client.new.held result }
 {
     let Some(mut object) = client.take(alloc) else {
@@ -132,7 +134,7 @@ pub extern "C" fn rz_clear(
     key_bytes: &[u8],
     was_known: &mut u32,
 ) -> i32
-    ensures { let key = key_in key_ends.now key_bytes.now in
+    ensures { let key = texts_at key_ends.now key_bytes.now in
         Makes (TellsCleared loader key was_known.new) client.old.held client.new.held result }
 {
     let Some(mut object) = client.take(alloc) else {
@@ -149,7 +151,7 @@ pub extern "C" fn rz_clear(
 }
 
 fn clear_all(object: &mut Object, loader: usize) -> Result<(), Fault>
-    ensures { MakesObject (Becomes (Calls (ClearingAll loader))) object.old object.new result }
+    ensures { MakesObject (Becomes (Calls (ClearingAll loader)) (LoaderFault loader)) object.old object.new result }
 {
     match object {
         Object::Client(client) => client.clear_all(loader),
@@ -164,7 +166,7 @@ fn clear_all(object: &mut Object, loader: usize) -> Result<(), Fault>
 /// As `rz_limit_answers` says
 #[unsafe(no_mangle)]
 pub extern "C" fn rz_clear_all(alloc: Global, client: &mut Handle, loader: usize) -> i32
-    ensures { Makes (Becomes (Calls (ClearingAll loader)))
+    ensures { Makes (Becomes (Calls (ClearingAll loader)) (LoaderFault loader))
         client.old.held client.new.held result }
 {
     let Some(mut object) = client.take(alloc) else {

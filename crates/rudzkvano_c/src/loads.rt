@@ -2,7 +2,7 @@
 ghost use Rattle.std.specs.Prelude.{◌≡◌, IfOk, IfErr};
 ghost use Rattle.load_memory.specs.Cells.{cut};
 ghost use Rattle.flat_outcomes.specs.Said.{outcomes_said};
-ghost use Rattle.host_clients.specs.AskedKeys.{flat_keys};
+ghost use Rattle.host_clients.specs.Laid.{laid_keys};
 ghost use Rattle.rudzkvano_c.specs.Held.{BeginsLoad, Copies, CopiesObject, CopiesOutcomes, Makes, MakesObject};
 ghost use Rattle.rudzkvano_c.specs.Loads.{AreNoOutcomesIn, AreOutcomesIn, CopiesFaultsAfter, CopiesRows, keys_of_loader};
 ghost use Rattle.rudzkvano_c.specs.Sizes.{TellsLoadSizes, load_sizes};
@@ -25,7 +25,7 @@ pub struct LoadSizes {
 }
 
 fn begin_load(alloc: Global, object: &mut Object, keys: &FlatKeys<'_>) -> Result<(), Fault>
-    ensures { MakesObject (BeginsLoad (flat_keys keys.now))
+    ensures { MakesObject (BeginsLoad (laid_keys keys.now))
         object.old object.new result }
 {
     match object {
@@ -38,8 +38,8 @@ fn begin_load(alloc: Global, object: &mut Object, keys: &FlatKeys<'_>) -> Result
 ///
 /// # Promise
 ///
-/// The keys that the buffers say (`keys_said`) are to be loaded, and nothing is done yet (`IsBegunLoad`); or,
-/// refused, nothing has changed, and by `RZ_NO_LOADER` only where there is no such loader
+/// The keys that the buffers say (`keys_said`) are well formed (`AreKeys`) and are to be loaded, and nothing is done
+/// yet (`IsBegunLoad`); or, refused, nothing has changed, and the code says why (`LoadFault`)
 #[unsafe(no_mangle)]
 pub extern "C" fn rz_begin_load(
     alloc: Global,

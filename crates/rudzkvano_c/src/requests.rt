@@ -5,10 +5,9 @@
 ghost use Rattle.std.specs.Prelude.{◌≡◌, IfOk, IfErr};
 ghost use Rattle.load_memory.specs.Cells.{cut};
 ghost use Rattle.flat_orders.specs.Orders.{orders_said};
-ghost use Rattle.flat_rows.specs.Replies.{reply_items};
 ghost use Rattle.host_clients.specs.Asked.{line as line_asked, parts_asked, request as request_asked};
 ghost use Rattle.host_clients.specs.Clients.{Cancels};
-ghost use Rattle.host_clients.specs.Known.{items_in};
+ghost use Rattle.host_clients.specs.Laid.{laid_reply, reply_at};
 ghost use Rattle.host_clients.specs.Texts.{flat_parts};
 ghost use Rattle.rudzkvano_c.specs.Held.{AdvancesHeld, AdvancesObject, AreNoOrdersIn, AreOrdersIn, BeginsWith, Copies, CopiesAnswer, CopiesObject, CopiesOrders, Makes, MakesObject};
 ghost use Rattle.rudzkvano_c.specs.Held.{TakesFailed, TakesRows};
@@ -47,7 +46,7 @@ fn begin(alloc: Global, object: &mut Object, line: &[u8]) -> Result<(), Fault>
 /// # Promise
 ///
 /// The request is planned for the client as it is, and nothing is asked of loaders yet (`IsBegun`); or, refused,
-/// the client is as it was
+/// the client is as it was, and the code says why: it is busy, or memory ran out (`BeginFault`)
 #[unsafe(no_mangle)]
 pub extern "C" fn rz_begin(alloc: Global, client: &mut Handle, line: &[u8]) -> i32
     ensures { Makes (BeginsWith (line_asked line.now))
@@ -289,7 +288,7 @@ fn take_rows(
     order: usize,
     reply: &FlatReply<'_>,
 ) -> Result<(), Fault>
-    ensures { MakesObject (TakesRows order reply.now.rows.now (items_in reply.now))
+    ensures { MakesObject (TakesRows order (laid_reply reply.now))
         object.old object.new result }
 {
     match object {
@@ -303,8 +302,9 @@ fn take_rows(
 /// # Promise
 ///
 /// Where it gives 0, the order of that number takes the items that the buffers say (`reply_items`), an item for
-/// each key, or the failure of its batch, and no other order changes. Refused for another reason than memory, the
-/// client is as it was
+/// each key, or the failure of its batch, and no other order changes. Refused, nothing has changed; but where memory
+/// ran out, what is under way may be given up, which `rz_next` tells: then no order took a reply, and all that the
+/// client knows is as it was (`KeepsOrStops`). The code says why (`RowsFault`, `FailureFault`)
 #[unsafe(no_mangle)]
 pub extern "C" fn rz_take_rows(
     alloc: Global,
@@ -315,8 +315,8 @@ pub extern "C" fn rz_take_rows(
     ends: &[u32],
     bytes: &[u8],
 ) -> i32
-    ensures { let items = reply_items columns rows.now ends.now bytes.now in
-        Makes (TakesRows order rows.now items) client.old.held client.new.held result }
+    ensures { let reply = reply_at columns rows.now ends.now bytes.now in
+        Makes (TakesRows order reply) client.old.held client.new.held result }
 {
     let Some(mut object) = client.take(alloc) else {
         return Fault::BadHandle.code();

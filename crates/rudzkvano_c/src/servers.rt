@@ -1,10 +1,10 @@
 //! Servers.
-ghost use Rattle.std.specs.Prelude.{◌≡◌, Some, IfOk};
+ghost use Rattle.std.specs.Prelude.{◌≡◌, IfOk};
 ghost use Rattle.load_memory.specs.Cells.{cut};
-ghost use Rattle.plan_requests.specs.Servers.{IsServer};
 ghost use Rattle.host_clients.specs.Objects.{Shares};
-ghost use Rattle.rudzkvano_c.specs.Held.{CopiesOfServer, CopiesServer, Gives, HoldsServer, IsMadeOf, Opens};
+ghost use Rattle.rudzkvano_c.specs.Held.{CopiesOfServer, CopiesServer, Gives, IsMadeOf, Opens, OpensAs};
 ghost use Rattle.rudzkvano_c.specs.Loaders.{CopiesLoaders, HasLoaderSizes, TellsLoaderSizes};
+ghost use Rattle.rudzkvano_c.specs.Told.{fault_told};
 
 use crate::codes::code_of;
 use crate::handle::Handle;
@@ -29,7 +29,9 @@ pub struct LoaderSizes {
     pub bytes: usize,
 }
 
-fn fault_of(place: FaultPlace) -> SchemaFault {
+fn fault_of(place: FaultPlace) -> SchemaFault
+    ensures { result ≡ fault_told place }
+{
     SchemaFault {
         line: place.line,
         column: place.column,
@@ -45,8 +47,8 @@ fn server_object(
     bindings: &[u8],
     fault: &mut SchemaFault,
 ) -> Result<Object, Fault>
-    ensures { IfOk result (λ o. HoldsServer
-        (IsServer schema.now bindings.now) (Some o)) }
+    ensures { OpensAs schema.now bindings.now
+        fault.old fault.new result }
 {
     match open_server(alloc, schema, bindings) {
         Ok(opened) => Ok(Object::Server(opened)),
@@ -63,8 +65,9 @@ fn server_object(
 ///
 /// # Promise
 ///
-/// The server that the texts say; the same server; a client that knows nothing, within its limits. Refused, the
-/// handle holds what it held
+/// The server that the texts say; the same server; a client that knows nothing, within its limits, of which there
+/// are none or one for each loader. Refused, the handle holds what it held, and the code says why: for texts that are
+/// no server `fault` has their first fault with its place (`OpensAs`)
 #[unsafe(no_mangle)]
 pub extern "C" fn rz_open(
     alloc: Global,
@@ -73,7 +76,7 @@ pub extern "C" fn rz_open(
     bindings: &[u8],
     fault: &mut SchemaFault,
 ) -> i32
-    ensures { Opens schema.now bindings.now
+    ensures { Opens schema.now bindings.now fault.old fault.new
         server.old.held server.new.held result }
 {
     let opened = server_object(alloc, schema, bindings, fault);

@@ -1,7 +1,10 @@
-use Rattle.std.proofs.Common.{ℕ, List, [], ◌∷◌, ◌++◌, ◌≡◌, map, subst}
+use Rattle.std.proofs.Common.{ℕ, List, [], ◌∷◌, ◌++◌, ◌≡◌, map, subst, length, refl, arith}
+use Rattle.std.proofs.lemmas.Result.{err_from_is_err_and}
 use Rattle.std.proofs.lemmas.List.{map_push}
 use Rattle.load_memory.specs.Keys.{key_of}
 use Rattle.flat_orders.specs.Written.{keys_said}
+use Rattle.host_clients.specs.Laid.{laid_keys}
+use Rattle.host_clients.proofs.LaidKeys.{as-many-ends, few-next, keys-all, shape-fault, sum-next, texts-left}
 use Rattle.host_clients.proofs.ReadKeys.{so-next, so-all}
 use Rattle.host_clients.proofs.asked_keys.FlatKeys.read.Goals as goal
 
@@ -13,6 +16,8 @@ loop-count-preserved c =
       read = rw (pushed, map_push key_of c.loop-count.read.items key)
           (so-next c.args.self.now.shapes.now c.in_ok-texts.texts c.loop-count.count-index c.loop-count.at c.loop-count-test.true (map key_of c.loop-count.read.items) (key_of key) now.read c.in_ok-key.ensures.key);
       within = c.in_ok-key.ensures.within;
+      few = few-next c.args.self.now.shapes.now c.loop-count.count-index c.loop-count-test.true now.few c.in_ok-key.ensures.few;
+      so_many = sum-next c.args.self.now.shapes.now c.loop-count.count-index c.loop-count-test.true c.loop-count.at now.so_many;
     }
 
 pub returns-clause-keys : goal.returns-clause-keys
@@ -20,3 +25,23 @@ returns-clause-keys c =
     let shapes = c.args.self.now.shapes.now in
     subst (λ (texts : List (List ℕ)). map key_of c.loop-count.read.items ≡ keys_said shapes texts) c.in_ok-texts.ensures.ok
     (so-all shapes c.in_ok-texts.texts c.loop-count.count-index c.loop-count.at c.loop-count-test.false (map key_of c.loop-count.read.items) c.loop-count.invariant.read)
+
+pub returns-in_err-key-clause-first : goal.returns-in_err-key-clause-first
+returns-in_err-key-clause-first c =
+    let now = c.loop-count.invariant in let k = laid_keys c.args.self.now in let texts = c.in_ok-texts.texts in
+    let p = err_from_is_err_and c.from_residual-in_err-key.result c.from_residual-in_err-key.ensures.1 in
+    rw (p.1, p.2)
+    (shape-fault k c.in_ok-texts.ensures.whole c.loop-count.count-index c.loop-count.at (length texts) now.few now.so_many (as-many-ends k.texts texts (length texts) c.in_ok-texts.ensures.ok refl) now.within
+    c.loop-count-test.true _ c.in_err-key.ensures.shape)
+
+pub returns-then-at-len-clause-first : goal.returns-then-at-len-clause-first
+returns-then-at-len-clause-first c =
+    let now = c.loop-count.invariant in let k = laid_keys c.args.self.now in let texts = c.in_ok-texts.texts in
+    texts-left k c.in_ok-texts.ensures.whole c.loop-count.count-index c.loop-count.at c.len-len.result now.few now.so_many (as-many-ends k.texts texts c.len-len.result c.in_ok-texts.ensures.ok c.len-len.ensures)
+    c.loop-count-test.false c.if-at-len.true
+
+pub returns-clause-formed : goal.returns-clause-formed
+returns-clause-formed c =
+    let now = c.loop-count.invariant in let k = laid_keys c.args.self.now in let texts = c.in_ok-texts.texts in
+    keys-all k c.in_ok-texts.ensures.whole c.loop-count.count-index c.loop-count.at c.len-len.result now.few now.so_many (as-many-ends k.texts texts c.len-len.result c.in_ok-texts.ensures.ok c.len-len.ensures)
+    c.loop-count-test.false (omega (arith, now.within, c.len-len.ensures)) c.if-at-len.false
