@@ -108,20 +108,6 @@ type Error struct {
 
 func (e *Error) Error() string { return e.Name + ": " + e.Text }
 
-// SchemaFault is the fault of a schema or its bindings by its number on the page on bindings. Line and Column are 0 where it has none.
-type SchemaFault struct {
-	Number, Line, Column int
-	InBindings           bool
-}
-
-func (f *SchemaFault) Error() string {
-	text := "schema"
-	if f.InBindings {
-		text = "bindings"
-	}
-	return fmt.Sprintf("S%d at %s:%d:%d", f.Number, text, f.Line, f.Column)
-}
-
 // ---- Calls.
 
 // handle holds a server or a client of the library. It is in one call at a time, whatever the goroutines are.
@@ -273,7 +259,8 @@ func Open(schema, bindings string) (*Server, error) {
 	})
 	if err != nil {
 		if err.(*Error).Code == C.RZ_BAD_SCHEMA {
-			return nil, &SchemaFault{int(fault.number), int(fault.line), int(fault.column), fault.in_bindings != 0}
+			told := &SchemaFault{Number: int(fault.number), Line: int(fault.line), Column: int(fault.column), InBindings: fault.in_bindings != 0}
+			return nil, told.explain(schema, bindings)
 		}
 		return nil, err
 	}

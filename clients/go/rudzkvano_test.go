@@ -363,23 +363,28 @@ func TestTheLibraryHasTheVersionOfTheHeader(t *testing.T) {
 	}
 }
 
-func TestASchemaIsRefusedWithItsPlace(t *testing.T) {
-	schema, bindings := read("schema.graphql"), read("bindings.txt")
-	cases := []struct {
-		schema, bindings string
-		fault            SchemaFault
-		text             string
-	}{
-		{"type Query { a: Nope }", bindings, SchemaFault{3, 1, 17, false}, "S3 at schema:1:17"},
-		{"scalar Date", bindings, SchemaFault{7, 1, 1, false}, "S7 at schema:1:1"},
-		{schema, "bindings 1\nnothing\n", SchemaFault{8, 2, 0, true}, "S8 at bindings:2:0"},
+func TestASchemaIsRefusedInASentence(t *testing.T) {
+	cases, err := os.ReadFile("../schema_faults.txt")
+	if err != nil {
+		t.Fatal(err)
 	}
-	for _, each := range cases {
-		_, err := Open(each.schema, each.bindings)
-		expect(t, each.text, err, &each.fault)
-		expect(t, each.text, err.Error(), each.text)
+	escapes := strings.NewReplacer(`\n`, "\n", `\r`, "\r", `\t`, "\t", `\\`, `\`)
+	for _, line := range strings.Split(strings.TrimSuffix(string(cases), "\n"), "\n") {
+		parts := strings.Split(escapes.Replace(strings.ReplaceAll(line, "\t", "\x00")), "\x00")
+		server, err := Open(parts[1], parts[2])
+		if parts[0] == "" {
+			expect(t, "taken", err, error(nil))
+			server.Close()
+			continue
+		}
+		fault, is := err.(*SchemaFault)
+		expect(t, parts[0], is, true)
+		text := map[bool]string{false: "schema", true: "bindings"}[fault.InBindings]
+		place := fmt.Sprintf("S%d at %s:%d:%d: ", fault.Number, text, fault.Line, fault.Column)
+		expect(t, parts[0], err.Error(), parts[0])
+		expect(t, parts[0], place+fault.Reason, parts[0])
 	}
-	_, err := Open("\xff", bindings)
+	_, err = Open("\xff", "bindings 1\n")
 	expect(t, "no UTF-8", err.(*Error).Name, "RZ_NOT_UTF8")
 }
 

@@ -1,16 +1,17 @@
-// What is wrong with a schema or its bindings, in a sentence, as far as the place of the fault and the texts say it.
+// What is wrong with a schema or its bindings, in a sentence, as far as the place of the fault and the texts say it. The clients for Python, Go and
+// Rust say the same.
 'use strict';
 
-const TOKEN = /[_A-Za-z]\w*|-?\d[\w.+-]*|"""[^]*?"""|"(?:[^"\\\n]|\\.)*"|\.\.\.|[^\s,\ufeff]/uy;
-const SKIPPED = /(?:[\s,\ufeff]|#[^\n\r]*)*/y;
+const TOKEN = /[_A-Za-z]\w*|-?\d[\w.+-]*|"""(?:\\"""|[^])*?"""|"(?:[^"\\\n\r]|\\[^\n\r])*"|\.\.\.|[^\t\n\r ,\ufeff]/uy;
+const IGNORED = /(?:[\t\n\r ,\ufeff]|#[^\n\r]*)*/y;
 const FORMS = ['column', 'one', 'many', 'each', 'via'];
 
 /** The tokens of a schema from a place on. */
 function* tokens(text, at = 0) {
   for (;;) {
-    SKIPPED.lastIndex = at;
-    SKIPPED.exec(text);
-    TOKEN.lastIndex = SKIPPED.lastIndex;
+    IGNORED.lastIndex = at;
+    IGNORED.exec(text);
+    TOKEN.lastIndex = IGNORED.lastIndex;
     const found = TOKEN.exec(text);
     if (!found) return;
     at = TOKEN.lastIndex;
@@ -21,8 +22,8 @@ function* tokens(text, at = 0) {
 /** Where a line and a column, which counts characters, are in a text. */
 function placeOf(text, line, column) {
   const lines = text.split(/(?<=\r\n|\n|\r(?!\n))/);
-  const before = lines.slice(0, line - 1).join('').length;
-  return before + Array.from(lines[line - 1] ?? '').slice(0, column - 1).join('').length;
+  const before = lines.slice(0, Math.max(line - 1, 0)).join('').length;
+  return before + Array.from(lines[line - 1] ?? '').slice(0, Math.max(column - 1, 0)).join('').length;
 }
 
 const quoted = (token) => (token.startsWith('"') ? token : `"${token}"`);
@@ -143,9 +144,15 @@ function badLoader([, name], before) {
   return 'a loader is "loader NAME TABLE", or "loader NAME TABLE by COLUMN"';
 }
 
+/** The names of the type and of the field, of which the last is undefined where there is no dot. */
+function namesOf(field) {
+  const [typeName, ...names] = field.split('.');
+  return [typeName, names.length > 0 ? names.join('.') : undefined];
+}
+
 /** Why the field of a line can't have a line. */
 function badField(field, before, { types }) {
-  const [typeName, name] = field.split('.');
+  const [typeName, name] = namesOf(field);
   if (name === undefined) return `"${field}" is no field, as "Query.user" is one`;
   const type = types.get(typeName);
   if (!type) return `the schema has no type "${typeName}"`;
@@ -158,7 +165,7 @@ function badField(field, before, { types }) {
 /** Why the form of a line for a field doesn't do. */
 function badForm([, field, form, loader, ...rest], before, { types, root }) {
   if (!FORMS.includes(form)) return `"${form ?? ''}" is none of the forms ${FORMS.join(', ')}`;
-  const [typeName, name] = field.split('.');
+  const [typeName, name] = namesOf(field);
   const { args } = types.get(typeName).fields.get(name);
   const isDefined = before.some(([word, other]) => word === 'loader' && other === loader);
   if (form !== 'column' && !isDefined) return `there is no loader "${loader ?? ''}" before`;

@@ -2,6 +2,7 @@
 'use strict';
 
 const assert = require('node:assert/strict');
+const { readFileSync } = require('node:fs');
 const { describe, it } = require('node:test');
 const { RudzkvanoError, SchemaFault, Server } = require('..');
 
@@ -221,49 +222,17 @@ describe('half characters', () => {
 });
 
 describe('a schema or bindings that are refused', () => {
-  const types = 'type Query { user(id: ID!): User }\ntype User { id: ID! "of é" best: User }\ninterface Node { id: ID! }';
-  const lines = 'bindings 1\nloader userById users by id\nfield Query.user one userById arg id\n';
-  const best = 'field User.best one userById column best\n';
-  const texts = [
-    // the schema, the bindings, the message, and the fault
-    ['type Query {\n  a: Nope }', '', 'S3 at schema:2:6: there is no type "Nope"', { number: 3, line: 2, column: 6, inBindings: false }],
-    ['type Query { a: String }\nscalar Date', '', 'S7 at schema:2:1: "scalar Date" isn\'t served', { number: 7, line: 2, column: 1 }],
-    [SCHEMA, `${BINDINGS}field Query.nope one userById arg id`, 'S8 at bindings:10:0: the type "Query" has no field "nope"',
-      { number: 8, line: 10, column: 0, inBindings: true }],
-    ['type Query { a: String ', '', 'S1 at schema:1:24: the text ends too early'],
-    ['# é😀\n"é😀" type Query { a String }', '', 'S1 at schema:2:21: "String" can\'t stand here'],
-    ['type Query { a: Int a: Int }', '', 'S2 at schema:1:21: "a" is defined twice'],
-    [`${types} type A implements Node { a: Int }`, '',
-      'S4 at schema:3:46: the type "A" lacks a field or an argument of "Node", or has it with another type'],
-    ['type A { a: Int }', '', 'S5 at schema:0:0: there is neither a type "Query" nor a "schema" that names the root type'],
-    ['type Query { __a: Int }', '', 'S6 at schema:1:14: the name "__a" begins with two underscores'],
-    ['type Query { a: [[Int]] }', '', 'S7 at schema:1:18: a list of lists isn\'t served'],
-    ['type Query { a: Int @key }', '', 'S7 at schema:1:21: the directive "@key" isn\'t served'],
-    ['type Query { a(b: Query): Int }', '', 'S10 at schema:1:19: "Query" is a type of another kind than is needed here'],
-    ['type Query { a(b: Int = "t"): Int }', '', 'S11 at schema:1:25: the default "t" isn\'t of the type of its argument'],
-    [types, '', 'S8 at bindings:0:0: there is no line "bindings 1" or "bindings 2"'],
-    [types, 'bindings 3', 'S8 at bindings:1:0: the first line is "bindings 1" or "bindings 2", and not "bindings 3"'],
-    [types, lines, 'S8 at bindings:0:0: there is no line for the field "User.best"'],
-    [types, `${lines}${best}fold`, 'S8 at bindings:5:0: a line begins with "loader" or "field", and not "fold"'],
-    [types, `${lines}${best}loader userById a by b`, 'S8 at bindings:5:0: there is another loader "userById" before'],
-    [types, `${lines}${best}loader a b c d`, 'S8 at bindings:5:0: a loader is "loader NAME TABLE", or "loader NAME TABLE by COLUMN"'],
-    [types, `${lines}field User one userById arg id`, 'S8 at bindings:4:0: "User" is no field, as "Query.user" is one'],
-    [types, `${lines}field Usr.best one userById arg id`, 'S8 at bindings:4:0: the schema has no type "Usr"'],
-    [types, `${lines}field Node.id column id`, 'S8 at bindings:4:0: "Node" is no object type, and its fields have no lines'],
-    [types, `${lines}${lines.split('\n')[2]}`, 'S8 at bindings:4:0: there is another line for "Query.user" before'],
-    [types, `${lines}field User.best first userById column best`, 'S8 at bindings:4:0: "first" is none of the forms column, one, many, each, via'],
-    [types, `${lines}field User.best one usersById column best`, 'S8 at bindings:4:0: there is no loader "usersById" before'],
-    [types, `${lines}field User.best one userById arg id`, 'S8 at bindings:4:0: "User.best" has no argument "id"'],
-    [types, `bindings 1\nfield Query.user column id`, 'S8 at bindings:2:0: "Query.user" is a field of the root, which has no columns'],
-    [types, `${lines}field User.best many userById column best`,
-      'S8 at bindings:4:0: the form "many" with this key doesn\'t fit the type of "User.best" and the loader'],
-    [types, `${lines} ${best}`, undefined],
-  ];
-  for (const [schema, bindings, message, fault = {}] of texts) {
-    it(message ?? 'none', () => {
+  const unescaped = (text) => text.replace(/\\(.)/g, (_, letter) => ({ n: '\n', r: '\r', t: '\t' })[letter] ?? letter);
+  for (const line of readFileSync(`${__dirname}/../../schema_faults.txt`, 'utf8').trimEnd().split('\n')) {
+    const [message, schema, bindings] = line.split('\t').map(unescaped);
+    it(message || 'none', () => {
       if (!message) return new Server({ schema, bindings }).close();
-      assert.throws(() => new Server({ schema, bindings }), { message, ...fault });
-      return assert.throws(() => new Server({ schema, bindings }), (error) => error instanceof SchemaFault && error instanceof RudzkvanoError);
+      return assert.throws(() => new Server({ schema, bindings }), (error) => {
+        assert.ok(error instanceof SchemaFault && error instanceof RudzkvanoError);
+        const place = `S${error.number} at ${error.inBindings ? 'bindings' : 'schema'}:${error.line}:${error.column}: `;
+        assert.deepEqual([error.message, message.startsWith(place)], [message, true]);
+        return true;
+      });
     });
   }
 });

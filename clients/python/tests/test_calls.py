@@ -22,53 +22,8 @@ from rudzkvano.library import HEADER_VERSION
 ADA = {"data": {"user": {"name": "Ada"}}}
 USER, BEST = "{user(id:1){name}}", "{users{best{name}} user(id:3){name}}"
 MISSING_NAME = "query($i:ID!){user(id:$i){name}}"
-
-
-QUERY_TYPE = "type Query { a: Int }"
-# schemas, and why they are refused
-REASONS = [
-    ("type Query { a: Int", "the text ends too early"),
-    ("type Query { a: Int é }", '"é" can\'t stand here'),
-    ("type Query { a: Int }}", '"}" can\'t stand here'),
-    ("type Query { a: Int a: Int }", '"a" is defined twice'),
-    (f"{QUERY_TYPE}\n# Query {{\n{QUERY_TYPE}", '"Query" is defined twice'),
-    (f'"""a type {{ of {{ nothing"""\r\n{QUERY_TYPE}\rtype B {{ b: C }}', 'there is no type "C"'),
-    ("type A { a: Int }", 'there is neither a type "Query" nor a "schema" that names the root type'),
-    ("type Query { __a: Int }", 'the name "__a" begins with two underscores'),
-    (
-        "interface I { b: Int } type Query implements I { a: Int }",
-        'the type "Query" lacks a field or an argument of "I", or has it with another type',
-    ),
-    ("scalar Date", '"scalar Date" isn\'t served'),
-    ("type Query { a: Int @old(reason: 1) }", 'the directive "@old" isn\'t served'),
-    ("type Query { a: Float }", '"Float" isn\'t served'),
-    ("type Query { a(b: Query): Int }", '"Query" is a type of another kind than is needed here'),
-    ('type Query { a(b: Int = "x y"): Int }', 'the default "x y" isn\'t of the type of its argument'),
-]
-# lines of the bindings, other lines in their place, and why these are refused
-VERSION, FRIEND, POSTS = "bindings 1\n", "field User.best one userById column best\n", "field User.posts many postsByAuthor column id\n"
-USER_BY_ID, ALL_USERS = "field Query.user one userById arg id\n", "loader allUsers users\n"
-REASONS_IN_BINDINGS = [
-    (VERSION, "", 'the first line is "bindings 1" or "bindings 2", and not "loader userById users by id"'),
-    (VERSION, "# bindings 1\nbindings 9\n", 'the first line is "bindings 1" or "bindings 2", and not "bindings 9"'),
-    (POSTS, "", 'there is no line for the field "User.posts"'),
-    (POSTS, f"#{POSTS}", 'there is no line for the field "User.posts"'),
-    (POSTS, "fields\n", 'a line begins with "loader" or "field", and not "fields"'),
-    (POSTS, " \n", "a line of spaces alone, or with a space before its #, is none"),
-    (POSTS, " # x\n", "a line of spaces alone, or with a space before its #, is none"),
-    (POSTS, FRIEND, 'there is another line for "User.best" before'),
-    (POSTS, POSTS.replace("User.posts", "posts"), '"posts" is no field, as "Query.user" is one'),
-    (POSTS, POSTS.replace("posts", "past"), 'the type "User" has no field "past"'),
-    (POSTS, POSTS.replace("User.", "Users."), 'the schema has no type "Users"'),
-    (POSTS, POSTS.replace("many", "some"), '"some" is none of the forms column, one, many, each, via'),
-    (POSTS, POSTS.replace("postsBy", "postBy"), 'there is no loader "postByAuthor" before'),
-    (POSTS, POSTS.replace("column id", "arg id"), '"User.posts" has no argument "id"'),
-    (POSTS, POSTS.replace("many", "one"), 'the form "one" with this key doesn\'t fit the type of "User.posts" and the loader'),
-    (POSTS, "field User.posts column posts\n", 'the form "column" with this key doesn\'t fit the type of "User.posts" and the loader'),
-    (USER_BY_ID, "field Query.user one userById column id\n", '"Query.user" is a field of the root, which has no columns'),
-    (ALL_USERS, "loader userById users\n", 'there is another loader "userById" before'),
-    (ALL_USERS, "loader allUsers users with id\n", 'a loader is "loader NAME TABLE", or "loader NAME TABLE by COLUMN"'),
-]
+# the escapes of schema_faults.txt
+ESCAPES = {"n": "\n", "r": "\r", "t": "\t"}
 
 
 def failed(message: str) -> dict[str, Any]:
@@ -105,16 +60,17 @@ class Refusals(Calls):
             self.assertEqual(fault.reason, text.partition(": ")[2])
 
     def test_the_reason_of_a_refused_schema(self) -> None:
-        for schema, reason in REASONS:
-            with self.subTest(schema), self.assertRaises(SchemaFault) as raised:
-                Server(schema, "bindings 1\n")
-            self.assertEqual(raised.exception.reason, reason)
-        world = worlds.WORLDS["examples"]
-        for line, other, reason in REASONS_IN_BINDINGS:
-            with self.subTest(line=line, other=other), self.assertRaises(SchemaFault) as raised:
-                self.assertIn(line, world.bindings)
-                Server(world.schema, world.bindings.replace(line, other))
-            self.assertEqual(raised.exception.reason, reason)
+        lines = (Path(__file__).parents[2] / "schema_faults.txt").read_text("utf-8").splitlines()
+        for line in lines:
+            message, schema, bindings = (re.sub(r"\\(.)", lambda it: ESCAPES.get(it[1], it[1]), text) for text in line.split("\t"))
+            with self.subTest(message):
+                try:
+                    Server(schema, bindings).close()
+                    found = ""
+                except SchemaFault as fault:
+                    found = str(fault)
+                    self.assertEqual(fault.reason, found.partition(": ")[2])
+                self.assertEqual(found, message)
 
     def test_names_of_loaders(self) -> None:
         calls: list[Any] = [

@@ -22,6 +22,7 @@
 
 mod calls;
 mod rows;
+mod schema_fault;
 
 use calls::{Handle, KeyLists, LoadSizes, LogSizes, Outcomes, Sizes, Texts};
 pub use rows::{BatchFault, Item, Key, Loaded, LoadedRow, Row, Rows};
@@ -60,12 +61,14 @@ pub struct SchemaFault {
     pub column: u64,
     /// Whether the line is one of the bindings.
     pub in_bindings: bool,
+    /// What is wrong, in a sentence.
+    pub reason: String,
 }
 
 impl fmt::Display for SchemaFault {
     fn fmt(&self, to: &mut fmt::Formatter<'_>) -> fmt::Result {
         let text = if self.in_bindings { "bindings" } else { "schema" };
-        write!(to, "S{} at {text}:{}:{}", self.number, self.line, self.column)
+        write!(to, "S{} at {text}:{}:{}: {}", self.number, self.line, self.column, self.reason)
     }
 }
 
@@ -278,8 +281,9 @@ impl Server {
         let (mut handle, mut fault) = (Handle::empty(), calls::Fault::default());
         let code = handle.open(schema.as_bytes(), bindings.as_bytes(), &mut fault);
         if code == calls::BAD_SCHEMA {
+            let reason = schema_fault::reason_of(&fault, schema, bindings);
             let calls::Fault { number, line, column, in_bindings } = fault;
-            return Err(Error::Schema(SchemaFault { number, line, column, in_bindings: in_bindings != 0 }));
+            return Err(Error::Schema(SchemaFault { number, line, column, in_bindings: in_bindings != 0, reason }));
         }
         went_well(code)?;
         let loaders = read_loaders(&mut handle)?;

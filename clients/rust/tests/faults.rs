@@ -133,17 +133,21 @@ fn no_rows_need_no_columns() {
 }
 
 #[test]
-fn a_schema_is_refused_with_its_place() {
-    let (schema, bindings) = (read("schema.graphql"), read("bindings.txt"));
-    let cases = [
-        ("type Query { a: Nope }", &*bindings, (3, 1, 17, false), "S3 at schema:1:17"),
-        ("scalar Date", &*bindings, (7, 1, 1, false), "S7 at schema:1:1"),
-        (&*schema, "bindings 1\nnothing\n", (8, 2, 0, true), "S8 at bindings:2:0"),
-    ];
-    for (schema, bindings, (number, line, column, in_bindings), text) in cases {
-        let error = Server::new(schema, bindings).unwrap_err();
-        assert_eq!(error, Error::Schema(SchemaFault { number, line, column, in_bindings }));
-        assert_eq!(error.to_string(), text);
+fn a_schema_is_refused_in_a_sentence() {
+    let unescaped = |text: &str| text.replace("\\\\", "\0").replace("\\n", "\n").replace("\\r", "\r").replace('\0', "\\");
+    for line in read("../clients/schema_faults.txt").lines() {
+        let parts: Vec<_> = line.split('\t').map(unescaped).collect();
+        let found = match Server::new(&parts[1], &parts[2]) {
+            Ok(_) => String::new(),
+            Err(Error::Schema(fault)) => {
+                let SchemaFault { number, line, column, in_bindings, reason } = &fault;
+                let text = if *in_bindings { "bindings" } else { "schema" };
+                assert_eq!(parts[0], format!("S{number} at {text}:{line}:{column}: {reason}"));
+                fault.to_string()
+            }
+            Err(error) => panic!("{error}"),
+        };
+        assert_eq!(found, parts[0]);
     }
 }
 
