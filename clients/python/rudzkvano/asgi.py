@@ -9,7 +9,7 @@ from collections.abc import Awaitable, Callable
 from dataclasses import replace
 from typing import TYPE_CHECKING, Any
 
-from .http import MAX_BODY, HttpFault, HttpRequest, HttpResponse, HTTPError, LoadersOf, loaders_for, read_head, read_request, too_long, with_logging
+from .http import MAX_BODY, HttpFault, HttpRequest, HttpResponse, HTTPError, LoadersOf, loaders_for, read_head, read_request, too_long, with_defaults
 from .limits import checked_limit
 from .server import Options, Server
 
@@ -45,7 +45,7 @@ def application(server: Server, loaders: LoadersOf, *, max_body: int = MAX_BODY,
     """Answers by these batch functions; or by those that `loaders` makes of the scope, for each request."""
 
     checked_limit("max_body", max_body)
-    options = with_logging(options)
+    options = with_defaults(options)
 
     async def answered(scope: Any, receive: Receive) -> HttpResponse:
         try:

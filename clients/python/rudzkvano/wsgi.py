@@ -10,7 +10,7 @@ from dataclasses import replace
 from http.client import responses
 from typing import TYPE_CHECKING
 
-from .http import MAX_BODY, HttpFault, HttpRequest, HttpResponse, HTTPError, LoadersOf, loaders_for, read_head, read_request, too_long, with_logging
+from .http import MAX_BODY, HttpFault, HttpRequest, HttpResponse, HTTPError, LoadersOf, loaders_for, read_head, read_request, too_long, with_defaults
 from .limits import checked_limit
 from .loaders import Loaders
 from .server import Options, Server
@@ -39,7 +39,7 @@ def read_environ(environ: WSGIEnvironment, max_body: int = MAX_BODY) -> HttpRequ
 def application(server: Server, loaders: LoadersOf, *, max_body: int = MAX_BODY, **options: Unpack[Options]) -> WSGIApplication:
     """Answers by these batch functions; or by those that `loaders` makes of the environ, for each request."""
     checked_limit("max_body", max_body)
-    options = with_logging(options)
+    options = with_defaults(options)
 
     def answered(environ: WSGIEnvironment) -> HttpResponse:
         try:

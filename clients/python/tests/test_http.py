@@ -13,7 +13,7 @@ from wsgiref.validate import validator
 
 import worlds
 from rudzkvano import HTTPError, PublicError, asgi, wsgi
-from rudzkvano.http import HttpFault
+from rudzkvano.http import MAX_ANSWER, HttpFault
 
 GRAPHQL, JSON = "application/graphql-response+json", "application/json"
 ADA = {"data": {"user": {"name": "Ada"}}}
@@ -342,6 +342,21 @@ class Http(unittest.TestCase):
             for make in (wsgi.application, asgi.application):
                 with self.assertRaisesRegex(ValueError, "^max_body is .*, and not 1 to [0-9,]*$"):
                     make(self.applications.server, {}, max_body=limit)  # type: ignore[arg-type]
+
+    def test_an_answer_is_limited(self) -> None:
+        name = "a" * MAX_ANSWER
+        long, too_long = f'{{"data":{{"user":{{"name":"{name}"}}}}}}'.encode(), b'{"errors":[{"message":"answer too long"}]}'
+        cases: list[tuple[dict[str, Any], str, int, bytes]] = [
+            ({}, GRAPHQL, 400, too_long),
+            ({}, JSON, 200, too_long),
+            ({"max_answer": 2 * MAX_ANSWER}, GRAPHQL, 200, long),
+            ({"max_answer": None}, GRAPHQL, 200, long),
+        ]
+        for options, accept, status, body in cases:
+            self.applications.serve({"userById": lambda ids: [{"id": 1, "name": name}]}, **options)
+            for way in self.ways:
+                found = way(post(QUERY, accept))
+                self.assertEqual((found.status, found.body == body), (status, True))
 
     def test_other_protocols(self) -> None:
         with self.assertRaises(ValueError):
