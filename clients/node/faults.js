@@ -73,4 +73,39 @@ function withExtensions(text) {
   }, first);
 }
 
-module.exports = { faultText, messageOf, plainText, readFault, shownBy, withExtensions, LoadFault, PublicError };
+const ERRORS = '{"errors":';
+
+/** Where an object or a list that begins at a place of a JSON text ends. */
+function endOf(text, place) {
+  const token = /"(?:[^"\\]|\\.)*"|[[\]{}]/g;
+  token.lastIndex = place;
+  let depth = 0;
+  do {
+    const [found] = token.exec(text);
+    if (found === '[' || found === '{') depth++;
+    if (found === ']' || found === '}') depth--;
+  } while (depth > 0);
+  return token.lastIndex;
+}
+
+/** The text of a response, with its errors edited. All else stays as it is. */
+function edited(response, edit) {
+  if (!response.startsWith(ERRORS)) return response;
+  const end = endOf(response, ERRORS.length);
+  const errors = JSON.parse(response.slice(ERRORS.length, end));
+  errors.forEach(edit);
+  return ERRORS + JSON.stringify(errors) + response.slice(end);
+}
+
+/** The same of the text of a response, or of an array of these. */
+function editErrors(text, edit) {
+  if (!text.startsWith('[')) return edited(text, edit);
+  const responses = [];
+  for (let [start, end] = [1, 0]; start < text.length; start = end + 1) {
+    end = endOf(text, start);
+    responses.push(edited(text.slice(start, end), edit));
+  }
+  return `[${responses.join()}]`;
+}
+
+module.exports = { editErrors, faultText, messageOf, plainText, readFault, shownBy, withExtensions, LoadFault, PublicError };

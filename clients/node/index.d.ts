@@ -1,6 +1,6 @@
 /// <reference lib="es2020" />
 
-/** A value in a row. An object that isn't a Date has to be made a string by the caller. */
+/** A value in a row. A column with another value, as an object that isn't a Date, fails where it is used. */
 export type Value = string | number | boolean | bigint | Date | null | undefined;
 /** A row: a member for each column. */
 export type Row = object;
@@ -11,8 +11,25 @@ export interface Arrays {
 }
 /** What is known of one key: its rows, its one row, none, or why there are none. */
 export type Item<R extends Row = Row> = readonly R[] | R | null | undefined | Error;
-/** What a batch function returns: an item for each key, in order; or rows, which are sorted to the keys by the loader's columns. */
-export type Rows<R extends Row = Row> = readonly Item<R>[] | Arrays;
+declare const form: unique symbol;
+/** What `aligned` makes. */
+export interface Aligned<R extends Row = Row> {
+  readonly [form]: 'aligned';
+  readonly items: readonly Item<R>[];
+}
+/** What `inAnyOrder` makes. */
+export interface InAnyOrder<R extends Row = Row> {
+  readonly [form]: 'inAnyOrder';
+  readonly rows: readonly R[] | Arrays;
+}
+/** An item for each key, in the order of the keys. */
+export function aligned<R extends Row = Row>(items: readonly Item<R>[]): Aligned<R>;
+/** Rows of all keys, which are sorted to the keys by the loader's columns. */
+export function inAnyOrder<R extends Row = Row>(rows: readonly R[] | Arrays): InAnyOrder<R>;
+/** How an array is read that is neither. */
+export type Form = 'aligned' | 'inAnyOrder';
+/** What a batch function returns. A bare array is read as the option `rows` says, or else by its elements. */
+export type Rows<R extends Row = Row> = Aligned<R> | InAnyOrder<R> | readonly Item<R>[] | Arrays;
 /** A key: a text, or a pair of texts of a loader by two columns. */
 export type Key = string | readonly [string, string];
 /**
@@ -76,6 +93,8 @@ export interface AnswerOptions {
    * PublicError as it is, and of other errors `internal error`. Without it they read the messages of all errors.
    */
   onError?(error: unknown, batch: { loader: string; keys: readonly Key[] }): string | { message: string; extensions?: Extensions } | void;
+  /** How the bare arrays of all loaders by columns are read, or by loader. Without it an array is read by its elements. */
+  rows?: Form | { readonly [loader: string]: Form };
   /**
    * Answers an operation that asks for `__schema` or `__type` alone, which isn't in an array: what `require('graphql')` returns. Without it these
    * are refused. graphql-js has no limits for a query, and `maxAnswer` holds for what it has answered.

@@ -7,6 +7,7 @@
 const { addon, border, call, code, readLoaders, readLog, HEAD, RudzkvanoError } = require('./border.js');
 const { executor } = require('./execute.js');
 const { LoadFault, PublicError } = require('./faults.js');
+const { aligned, checkForms, inAnyOrder } = require('./forms.js');
 const { Introspection } = require('./introspection.js');
 const { writeItem, writeKeys } = require('./rows.js');
 const { Run } = require('./run.js');
@@ -80,6 +81,7 @@ class Server {
   /** A client, which knows nothing yet, and keeps what its requests load. */
   client(loaders = {}, options = {}) {
     this.#check(loaders);
+    checkForms(this.loaders, options.rows);
     const handle = this.#open(this.#limits(options.maxBatch), false);
     return new Client(handle, this.loaders, this.#introspection, loaders, options);
   }
@@ -94,10 +96,11 @@ class Server {
   #answer(request, functions = {}, options = {}, read) {
     return new Promise((resolve, reject) => {
       this.#check(functions);
+      checkForms(this.loaders, options.rows);
       const introspected = this.#introspection.answerText(request, options);
       if (introspected !== undefined) return resolve(read(introspected));
       const client = this.#take(this.#limits(options.maxBatch), countOf(options.maxAnswer, 'maxAnswer'));
-      const run = new Run(client.handle, this.loaders, functions, options, (error, text) => {
+      const run = new Run(client, this.loaders, functions, options, (error, text) => {
         this.#giveBack(client, run.forgot);
         settle(resolve, reject, error, text, read);
       });
@@ -132,7 +135,7 @@ class Server {
     const key = limits.join();
     let place = this.#idle.length - 1;
     while (place >= 0 && this.#idle[place].key !== key) place--;
-    const client = place < 0 ? { handle: this.#open(limits, true), key, mostBytes: 0 } : this.#idle[place];
+    const client = place < 0 ? { handle: this.#open(limits, true), key, mostBytes: 0, unread: new Map() } : this.#idle[place];
     if (place >= 0) this.#idle.splice(place, 1);
     if (client.mostBytes !== mostBytes) call('limitAnswers', [], client.handle, mostBytes);
     client.mostBytes = mostBytes;
@@ -140,6 +143,7 @@ class Server {
   }
 
   #giveBack(client, forgot) {
+    client.unread.clear();
     if (!forgot) addon.restart(client.handle);
     const keep = (forgot || code() === 0) && !this.#closed && this.#idle.length < MOST_IDLE;
     if (keep) this.#idle.push(client);
@@ -154,6 +158,8 @@ class Client {
   #introspection;
   #functions;
   #options;
+  /** The columns that are left out of what is known, by name, each with the reason. */
+  #unread = new Map();
   #run;
 
   constructor(handle, loaders, introspection, functions, options) {
@@ -209,6 +215,7 @@ class Client {
   /** Forgets all keys, and what was asked. */
   restart() {
     call('restart', [], this.#handle);
+    this.#unread.clear();
   }
 
   /** The batches that a loader was asked for since the client was made or restarted. */
@@ -231,7 +238,9 @@ class Client {
   #do(options, read, begin) {
     return new Promise((resolve, reject) => {
       if (this.#run) throw new Error('the client is answering another request');
-      const run = new Run(this.#handle, this.#loaders, this.#functions, { ...this.#options, ...options }, (error, result) => {
+      checkForms(this.#loaders, options?.rows);
+      const client = { handle: this.#handle, unread: this.#unread };
+      const run = new Run(client, this.#loaders, this.#functions, { ...this.#options, ...options }, (error, result) => {
         this.#run = undefined;
         settle(resolve, reject, error, result, read);
       });
@@ -254,4 +263,4 @@ class Client {
   }
 }
 
-module.exports = { Client, LoadFault, PublicError, RudzkvanoError, SchemaFault, Server, executor };
+module.exports = { aligned, Client, executor, inAnyOrder, LoadFault, PublicError, RudzkvanoError, SchemaFault, Server };

@@ -5,32 +5,37 @@ const { inspect } = require('node:util');
 const { isDate, isNativeError } = require('node:util/types');
 const { border, makeRoom, FIRST_WORDS, HEAD, KEPT_WORDS } = require('./border.js');
 const { plainText } = require('./faults.js');
+const { Aligned, InAnyOrder } = require('./forms.js');
 const { separated, wellFormed } = require('./text.js');
 
 /** In the place of a number of rows: the key has a fault. */
 const KEY_FAULT = 0xffffffff;
 
-/** The text of a value; null is the empty text. */
-function textOf(value, loader, column) {
+/** The text of a value, or undefined where it has none; null is the empty text. */
+function textOf(value) {
   switch (typeof value) {
     case 'string':
       return value;
     case 'undefined':
       return '';
     case 'number':
-      if (Number.isFinite(value)) return String(value);
-      throw new TypeError(`loader ${loader.name}, column ${column}: ${value} has no text`);
+      return Number.isFinite(value) ? String(value) : undefined;
     case 'boolean':
     case 'bigint':
       return String(value);
   }
   if (value === null) return '';
-  if (isDate(value) && Number.isFinite(value.getTime())) return value.toISOString();
-  throw new TypeError(`loader ${loader.name}, column ${column}: a value of type ${typeName(value)} has no text`);
+  return isDate(value) && Number.isFinite(value.getTime()) ? value.toISOString() : undefined;
 }
 
 function typeName(value) {
   return value === null || value === undefined ? String(value) : (value.constructor?.name ?? typeof value);
+}
+
+/** Says that a value in a column has no text, and of which row. */
+function noText(loader, column, row, value) {
+  const what = typeof value === 'number' ? value : `a value of type ${typeName(value)}`;
+  return new TypeError(`loader ${loader.name}, column ${column}, ${row}: ${what} has no text`);
 }
 
 function isFault(element) {
@@ -41,6 +46,14 @@ function isRow(element) {
   return typeof element === 'object' && element !== null && !Array.isArray(element) && !isFault(element);
 }
 
+function checkRow(loader, row) {
+  if (!isRow(row)) throw new TypeError(`loader ${loader.name}: a row of type ${typeName(row)}`);
+}
+
+function checkArray(loader, returned) {
+  if (!Array.isArray(returned)) throw new TypeError(`loader ${loader.name}: its function returned ${typeName(returned)}, and no array`);
+}
+
 // ---- The keys of rows.
 
 /** One text for a key, which is a text or a pair, so that the texts of two keys are the same where the keys are. */
@@ -49,18 +62,47 @@ function keyText(loader, key) {
   return loader.folds ? text.replace(/[A-Z]/g, (letter) => letter.toLowerCase()) : text;
 }
 
-/** For each row the text of its key, which is in these members; or undefined where an element is no row, or hasn't all of them. */
-function keysOf(loader, rows, members, fits) {
+/** The texts of the keys that were asked for. */
+function keyTexts(loader, keys) {
+  return loader.folds || loader.columns.length === 2 ? keys.map((key) => keyText(loader, key)) : keys;
+}
+
+/** What a message says of a key: a text, or a pair. */
+function quoted(key) {
+  return [key].flat().map((text) => inspect(text)).join(', ');
+}
+
+/** The key that a text of keyText is of. */
+function keyIn(loader, text) {
+  return loader.columns.length === 2 ? JSON.parse(text) : text;
+}
+
+/** The first column of a loader that a row hasn't. */
+function lacking(loader, row) {
+  return loader.columns.find((column) => row[column] === undefined);
+}
+
+/** The text of a part of the key of a row, which is the one of this number. */
+function partOf(loader, row, number, place, member) {
+  const text = textOf(row[member]);
+  if (text === undefined) throw noText(loader, loader.columns[place], `row ${number}`, row[member]);
+  return text;
+}
+
+/** The text of the key of a row, which has it in these members. */
+function keyOf(loader, row, number, first, second) {
+  const key = partOf(loader, row, number, 0, first);
+  if (second === undefined) return loader.folds ? keyText(loader, key) : key;
+  return keyText(loader, [key, partOf(loader, row, number, 1, second)]);
+}
+
+/** The texts of the keys of rows, up to the first element that is no row or hasn't all of the loader's columns. */
+function keysOf(loader, rows) {
+  const [first, second] = loader.columns;
   const keys = [];
-  const [first, second] = members;
   for (const row of rows) {
-    if (!fits(row) || row[first] === undefined) return undefined;
-    let key = textOf(row[first], loader, loader.columns[0]);
-    if (second !== undefined) {
-      if (row[second] === undefined) return undefined;
-      key = [key, textOf(row[second], loader, loader.columns[1])];
-    }
-    keys.push(typeof key === 'string' && !loader.folds ? key : keyText(loader, key));
+    if (!isRow(row) || row[first] === undefined || (second !== undefined && row[second] === undefined)) break;
+    keys.push(keyOf(loader, row, keys.length + 1, first, second));
   }
   return keys;
 }
@@ -80,13 +122,16 @@ function filled(count, number) {
 
 /** The reply of rows with these keys, in any order. */
 function grouped(loader, keys, rows, keysOfRows) {
-  const asked = loader.folds || loader.columns.length === 2 ? keys.map((key) => keyText(loader, key)) : keys;
+  const asked = keyTexts(loader, keys);
   if (alike(keysOfRows, asked)) return { rows, counts: filled(asked.length, 1), faults: [] };
   const counts = filled(asked.length, 0);
   const places = new Map(asked.map((key, place) => [key, place]));
-  const found = keysOfRows.map((key) => {
+  const found = keysOfRows.map((key, row) => {
     const place = places.get(key) ?? places.get(wellFormed(key));
-    if (place === undefined) throw new RangeError(`loader ${loader.name}: a row of the key ${inspect(key)}, which wasn't asked for`);
+    if (place === undefined) {
+      const columns = `column${loader.columns.length === 2 ? 's' : ''} ${loader.columns.join(' and ')}`;
+      throw new RangeError(`loader ${loader.name}: row ${row + 1} has the key ${quoted(keyIn(loader, key))} in ${columns}, which wasn't asked for`);
+    }
     counts[place]++;
     return place;
   });
@@ -98,10 +143,8 @@ function grouped(loader, keys, rows, keysOfRows) {
 }
 
 /** The reply of elements that are aligned with the keys: an array of rows, one row, nothing, or an error, of which `faultOf` makes a text. */
-function aligned(loader, keys, elements, faultOf) {
-  if (elements.length !== keys.length) {
-    throw new RangeError(`loader ${loader.name}: ${elements.length} items for ${keys.length} keys, which aren't all rows with its columns`);
-  }
+function ofItems(loader, keys, elements, faultOf) {
+  if (elements.length !== keys.length) throw new RangeError(`loader ${loader.name}: ${elements.length} items for ${keys.length} keys`);
   const [rows, counts, faults] = [[], [], []];
   let next = 0;
   for (const element of elements) {
@@ -122,25 +165,77 @@ function aligned(loader, keys, elements, faultOf) {
   return { rows, counts, faults };
 }
 
-/** The reply of columns with rows that are arrays. */
+function isArrays(returned) {
+  return Array.isArray(returned?.columns) && Array.isArray(returned.rows);
+}
+
+/** The reply of columns with rows that are arrays, in any order. */
 function ofArrays(loader, keys, { columns, rows }) {
   for (const row of rows) {
     if (!Array.isArray(row)) throw new TypeError(`loader ${loader.name}: a row of type ${typeName(row)}`);
     if (row.length !== columns.length) throw new RangeError(`loader ${loader.name}: a row of ${row.length} values for ${columns.length} columns`);
   }
   if (loader.columns.length === 0) return { columns, rows, counts: [rows.length], faults: [] };
-  const places = loader.columns.map((column) => columns.indexOf(column));
-  if (places.includes(-1)) throw new TypeError(`loader ${loader.name}: its rows haven't all its columns`);
-  const keysOfRows = keysOf(loader, rows.map((row) => places.map((place) => row[place] ?? null)), [...places.keys()], Array.isArray);
-  return { columns, ...grouped(loader, keys, rows, keysOfRows) };
+  const missing = loader.columns.find((column) => !columns.includes(column));
+  if (missing !== undefined) throw new TypeError(`loader ${loader.name}: its rows have no column ${missing}`);
+  const [first, second] = loader.columns.map((column) => columns.indexOf(column));
+  return { columns, ...grouped(loader, keys, rows, rows.map((row, i) => keyOf(loader, row, i + 1, first, second))) };
 }
 
-function replyOf(loader, keys, returned, faultOf) {
-  if (Array.isArray(returned?.columns) && Array.isArray(returned.rows)) return ofArrays(loader, keys, returned);
-  if (!Array.isArray(returned)) throw new TypeError(`loader ${loader.name}: its function returned ${typeName(returned)}, and no array`);
-  if (loader.columns.length === 0) return { rows: returned, counts: [returned.length], faults: [] };
-  const keysOfRows = keysOf(loader, returned, loader.columns, isRow);
-  return keysOfRows ? grouped(loader, keys, returned, keysOfRows) : aligned(loader, keys, returned, faultOf);
+/** The reply of rows in any order. */
+function ofRows(loader, keys, rows) {
+  if (isArrays(rows)) return ofArrays(loader, keys, rows);
+  checkArray(loader, rows);
+  if (loader.columns.length === 0) return { rows, counts: [rows.length], faults: [] };
+  const keysOfRows = keysOf(loader, rows);
+  const place = keysOfRows.length;
+  if (place < rows.length) {
+    checkRow(loader, rows[place]);
+    throw new TypeError(`loader ${loader.name}: row ${place + 1} has no column ${lacking(loader, rows[place])}`);
+  }
+  return grouped(loader, keys, rows, keysOfRows);
+}
+
+/**
+ * Refuses elements that are read as aligned only because of what was found: some rows among them have the loader's columns, so that these would be
+ * sorted where there is nothing else.
+ */
+function refuseDoubt(loader, keys, elements) {
+  const asked = keyTexts(loader, keys);
+  const doubt = (why) => new TypeError(`loader ${loader.name}: ${why}: its function has to return aligned(items) or inAnyOrder(rows)`);
+  const rows = [...elements.keys()].filter((place) => isRow(elements[place]));
+  const isWhole = (place) => lacking(loader, elements[place]) === undefined;
+  const whole = rows.filter(isWhole);
+  for (const place of whole) {
+    const key = keyOf(loader, elements[place], place + 1, ...loader.columns);
+    if (key === asked[place] || wellFormed(key) === asked[place]) continue;
+    throw doubt(`row ${place + 1} has the key ${quoted(keyIn(loader, key))}, and stands for the key ${quoted(keys[place])}`);
+  }
+  const other = rows.find((place) => !isWhole(place));
+  if (whole.length === 0 || other === undefined) return;
+  throw doubt(`row ${other + 1} has no column ${lacking(loader, elements[other])}, which row ${whole[0] + 1} has`);
+}
+
+/** The reply of an array of which nobody says how it is to be read. */
+function ofBareArray(loader, keys, elements, faultOf) {
+  const keysOfRows = keysOf(loader, elements);
+  if (keysOfRows.length === elements.length) return grouped(loader, keys, elements, keysOfRows);
+  if (elements.length !== keys.length) {
+    throw new RangeError(`loader ${loader.name}: ${elements.length} items for ${keys.length} keys, which aren't all rows with its columns`);
+  }
+  refuseDoubt(loader, keys, elements);
+  return ofItems(loader, keys, elements, faultOf);
+}
+
+/** The reply that a function returned, of whose bare arrays an option says the form. */
+function replyOf(loader, keys, returned, form, faultOf) {
+  if (returned instanceof InAnyOrder) return ofRows(loader, keys, returned.rows);
+  const isAligned = returned instanceof Aligned;
+  if (isAligned && loader.columns.length === 0) throw new TypeError(`loader ${loader.name}: it has no keys that items are aligned with`);
+  if (!isAligned && (isArrays(returned) || loader.columns.length === 0 || form === 'inAnyOrder')) return ofRows(loader, keys, returned);
+  const elements = isAligned ? returned.items : returned;
+  checkArray(loader, elements);
+  return (isAligned || form === 'aligned' ? ofItems : ofBareArray)(loader, keys, elements, faultOf);
 }
 
 // ---- Its texts.
@@ -168,11 +263,13 @@ function namesIn(row) {
   return names;
 }
 
-function checkRow(loader, row) {
-  if (!isRow(row)) throw new TypeError(`loader ${loader.name}: a row of type ${typeName(row)}`);
-}
+/** Stands for the text of rows in which a value has none. */
+const NO_TEXT = Symbol('no text');
 
-/** Adds the members of rows to a text, and their ends to the words from a place on. Returns undefined where not all rows have these columns. */
+/**
+ * Adds the members of rows to a text, and their ends to the words from a place on. Returns undefined where not all rows have these columns, and
+ * NO_TEXT.
+ */
 function writeRows(loader, columns, rows, text, words, place) {
   for (const row of rows) {
     checkRow(loader, row);
@@ -180,7 +277,9 @@ function writeRows(loader, columns, rows, text, words, place) {
     for (const name in row) {
       if (name !== columns[column++]) return undefined;
       const value = row[name];
-      text += typeof value === 'string' ? value : textOf(value, loader, name);
+      const own = typeof value === 'string' ? value : textOf(value);
+      if (own === undefined) return NO_TEXT;
+      text += own;
       words[place++] = text.length;
     }
     if (column !== columns.length) return undefined;
@@ -191,7 +290,9 @@ function writeRows(loader, columns, rows, text, words, place) {
 function writeArrays(loader, columns, rows, text, words, place) {
   for (const row of rows) {
     for (let column = 0; column < columns.length; column++) {
-      text += textOf(row[column], loader, columns[column]);
+      const own = textOf(row[column]);
+      if (own === undefined) return NO_TEXT;
+      text += own;
       words[place++] = text.length;
     }
   }
@@ -208,43 +309,76 @@ function writeTexts(texts, text, words, place) {
 
 /** A reply whose rows are arrays, in which each row has the columns of all. */
 function widened(loader, reply) {
+  if (reply.columns) return reply;
   for (const row of reply.rows) checkRow(loader, row);
   const columns = [...new Set(reply.rows.flatMap(namesIn))];
   return { ...reply, columns, rows: reply.rows.map((row) => columns.map((name) => row[name])) };
 }
 
-/** Leaves the ends of a reply's texts among the words, from a place on. Returns its texts, and how many columns and texts there are. */
-function write(loader, reply, place) {
-  const { rows, faults } = reply;
+/** The key of a row of a reply, and what a message says of the row. */
+function whose(loader, keys, counts, row) {
+  if (loader.columns.length === 0) return { row: `row ${row + 1}` };
+  let [key, before] = [0, row];
+  for (; counts[key] === KEY_FAULT || counts[key] <= before; key++) if (counts[key] !== KEY_FAULT) before -= counts[key];
+  return { key: keys[key], row: `row ${before + 1} of the key ${quoted(keys[key])}` };
+}
+
+/** A reply of texts, without the columns in which a value has none. `unread` says of each why it is left out, and by which key. */
+function readable(loader, keys, reply) {
+  const { columns, rows, counts, faults } = widened(loader, reply);
+  const texts = rows.map((row) => row.map(textOf));
+  const unread = [];
+  const places = [...columns.keys()].filter((place) => {
+    const number = texts.findIndex((row) => row[place] === undefined);
+    if (number < 0) return true;
+    const { key, row } = whose(loader, keys, counts, number);
+    unread.push({ column: columns[place], error: noText(loader, columns[place], row, rows[number][place]), keys: key === undefined ? [] : [key] });
+    return false;
+  });
+  if (places.length === 0) throw unread[0].error;
+  const kept = (row) => places.map((place) => row[place]);
+  return { columns: kept(columns), rows: texts.map(kept), counts, faults, unread };
+}
+
+/**
+ * Leaves the ends of a reply's texts among the words, from a place on. Returns its texts, how many columns and texts there are, and the columns that
+ * are left out.
+ */
+function write(loader, keys, reply, place) {
+  const { rows, faults, unread = [] } = reply;
   const columns = reply.columns ?? namesIn(rows[0]);
   const end = columns.length * (1 + rows.length);
   const texts = end + faults.length;
   const text = withWords(texts, (words) => {
     const names = writeTexts(columns, '', words, 0);
     const fields = (reply.columns ? writeArrays : writeRows)(loader, columns, rows, names, words, columns.length);
-    if (fields === undefined) return undefined;
+    if (typeof fields !== 'string') return fields;
     const all = separated(writeTexts(faults, fields, words, end), words, 0, texts);
     const shared = makeRoom(place + texts);
     for (let i = 0; i < texts; i++) shared[place + i] = words[i];
     return all;
   });
-  if (text === undefined) return write(loader, widened(loader, reply), place);
+  if (text === undefined) return write(loader, keys, widened(loader, reply), place);
+  if (text === NO_TEXT) return write(loader, keys, readable(loader, keys, reply), place);
   if (rows.length > 0 && columns.length === 0) throw new TypeError(`loader ${loader.name}: a row has no columns`);
-  return { text, columns: columns.length, texts };
+  return { text, columns: columns.length, texts, unread };
 }
 
-/** Leaves what a batch function returned among the words, but for the order's number, and returns its texts. */
-function writeReply(loader, keys, returned, faultOf) {
-  const reply = replyOf(loader, keys, returned, faultOf);
+/**
+ * Leaves what a batch function returned among the words, but for the order's number. Returns its texts, and the columns that are left out of them,
+ * since they have a value that has no text. `form` is how a bare array is read, if somebody says it.
+ */
+function writeReply(loader, keys, returned, form, faultOf) {
+  const reply = replyOf(loader, keys, returned, form, faultOf);
   const { counts } = reply;
-  const { text, columns, texts } = write(loader, reply, HEAD + counts.length);
+  const { text, columns, texts, unread } = write(loader, keys, reply, HEAD + counts.length);
   const { words } = border;
   words[1] = columns;
   words[2] = counts.length;
   words[3] = texts;
   words[4] = text.length;
   for (let key = 0; key < counts.length; key++) words[HEAD + key] = counts[key];
-  return text;
+  return { text, unread };
 }
 
 /** Leaves texts, and how many there are of each key, among the words, from a place on. Returns them as one. */
@@ -255,9 +389,10 @@ function writeKeys(texts, place) {
 
 /** Leaves a key and what is to be known of it among the words, and returns the texts of both. */
 function writeItem(loader, key, item) {
-  const arrays = Array.isArray(item?.columns) && Array.isArray(item.rows);
-  const reply = arrays ? { ...item, counts: [item.rows.length], faults: [] } : aligned(loader, [key], [item], plainText);
-  const { text, columns, texts } = write(loader, reply, HEAD + key.length);
+  const keys = [key.length === 1 ? key[0] : key];
+  const reply = isArrays(item) ? { ...item, counts: [item.rows.length], faults: [] } : ofItems(loader, keys, [item], plainText);
+  const { text, columns, texts, unread } = write(loader, keys, reply, HEAD + key.length);
+  if (unread.length > 0) throw unread[0].error;
   const keyText = writeKeys(key, HEAD);
   border.words.set([loader.number, key.length, columns, reply.counts[0], texts, keyText.length, text.length]);
   return [keyText, text];

@@ -4,7 +4,8 @@
 const {
   addon, border, code, giveBackWords, makeRoom, readOutcomes, readRound, refusal, DONE, HEAD, NEED_ROOM, ROUND, WAITING,
 } = require('./border.js');
-const { faultText, messageOf, plainText, shownBy, withExtensions } = require('./faults.js');
+const { editErrors, faultText, messageOf, plainText, shownBy, withExtensions } = require('./faults.js');
+const { formOf } = require('./forms.js');
 const { writeKeys, writeReply } = require('./rows.js');
 const { jsonOf } = require('./text.js');
 
@@ -34,15 +35,17 @@ function loadStep(loader, keys) {
 
 class Run {
   /**
-   * `functions` are the batch functions by name. `ended` is called once: with an error, or with undefined and the answer's text or the outcomes
-   * of what was loaded, as `{ outcomes }`.
+   * `client` has the handle, and the columns that are left out of what it knows. `functions` are the batch functions by name. `ended` is called once:
+   * with an error, or with undefined and the answer's text or the outcomes of what was loaded, as `{ outcomes }`.
    */
-  constructor(handle, loaders, functions, { signal, onRound, onError }, ended) {
+  constructor({ handle, unread }, loaders, functions, { signal, onRound, onError, rows }, ended) {
     this.handle = handle;
+    this.unread = unread;
     this.loaders = loaders;
     this.functions = functions;
     this.onRound = onRound;
     this.onError = onError;
+    this.rows = rows;
     this.ended = ended;
     this.signal = signal;
     this.abort = signal && (() => this.stop(signal.reason));
@@ -88,7 +91,7 @@ class Run {
       case DONE:
         if (this.loads) return { outcomes: readOutcomes(text) };
         this.forgot = border.words[1] === DONE;
-        return withExtensions(text);
+        return withExtensions(this.explained(text));
       case ROUND:
         return readRound(this.loaders, text);
       case WAITING:
@@ -148,16 +151,18 @@ class Run {
   /** Hands what a batch function returned to the library. */
   reply(order, returned) {
     if (this.over) return undefined;
-    let text;
+    const { loader, keys } = order;
+    let reply;
     try {
-      text = writeReply(order.loader, order.keys, returned, (error, keys) => this.faultOf(error, order.loader, keys));
+      reply = writeReply(loader, keys, returned, formOf(loader, this.rows), (error, ofKeys) => this.faultOf(error, loader, ofKeys));
     } catch (why) {
       return this.fail(order, why);
     }
     // a getter of a row, or a hook, may have stopped the request
     if (this.over) return undefined;
+    for (const it of reply.unread) this.unread.set(it.column, { ...it, loader });
     border.words[0] = order.number;
-    return this.told(order, this.left(addon.reply(this.handle, text)));
+    return this.told(order, this.left(addon.reply(this.handle, reply.text)));
   }
 
   /** Tells the library that a batch failed. */
@@ -168,6 +173,19 @@ class Run {
     if (this.over) return undefined;
     border.words[0] = order.number;
     return this.told(order, this.left(addon.fail(this.handle, text)));
+  }
+
+  /** The text of an answer, whose errors say of a column that was left out why it was. */
+  explained(text) {
+    if (this.unread.size === 0) return text;
+    const reasons = new Map();
+    return editErrors(text, (error) => {
+      const [, column] = /^no column ([^]*)$/.exec(error.message) ?? [];
+      const it = this.unread.get(column);
+      if (!it) return;
+      if (!reasons.has(column)) reasons.set(column, this.faultOf(it.error, it.loader, it.keys));
+      error.message = reasons.get(column);
+    });
   }
 
   /** The text for the library of an error that a batch function threw, or returned for a key. */

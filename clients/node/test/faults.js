@@ -4,7 +4,7 @@
 const assert = require('node:assert/strict');
 const { readFileSync } = require('node:fs');
 const { describe, it } = require('node:test');
-const { RudzkvanoError, SchemaFault, Server } = require('..');
+const { aligned, inAnyOrder, PublicError, RudzkvanoError, SchemaFault, Server } = require('..');
 
 const SCHEMA = `type Query { user(id: ID!): User users: [User] named(name: ID!): User vote(user: ID!, post: ID!): Vote }
 type User { id: ID name: String age: Int active: Boolean }
@@ -22,8 +22,8 @@ field Query.vote one voteByBoth arg user and arg post
 const server = new Server({ schema: SCHEMA, bindings: BINDINGS });
 
 /** The answer to a query, of which one loader returns this. */
-async function answer(query, loader, returned) {
-  return server.answer({ query }, { [loader]: async () => returned });
+async function answer(query, loader, returned, options) {
+  return server.answer({ query }, { [loader]: async () => returned }, options);
 }
 
 describe('values', () => {
@@ -59,9 +59,11 @@ describe('faults', () => {
   const two = '{a:user(id:1){name} b:user(id:2){name}}';
   const vote = '{vote(user:1,post:23){stars}}';
   const votes = '{a:vote(user:1,post:23){stars} b:vote(user:"é",post:3){stars}}';
-  const notAsked = (name, key) => `loader ${name}: a row of the key '${key}', which wasn't asked for`;
+  const notAsked = (name, key, columns = 'column id', row = 1) => `loader ${name}: row ${row} has the key ${key} in ${columns}, which wasn't asked for`;
+  const twice = (message) => [message, message];
   const fewer = "loader userById: 1 items for 2 keys, which aren't all rows with its columns";
-  const noText = (type) => `loader userById, column name: a value of type ${type} has no text`;
+  const fewerItems = (count) => `loader userById: ${count} items for 2 keys`;
+  const inDoubt = (why) => `loader userById: ${why}: its function has to return aligned(items) or inAnyOrder(rows)`;
   const cases = [
     // the query, the loader, what it returns, the messages of the errors, and the data
     [two, 'userById', [new Error('gone'), { name: 'Bob' }], ['gone'], { a: null, b: { name: 'Bob' } }],
@@ -71,8 +73,25 @@ describe('faults', () => {
     [two, 'userById', [{ name: 'Bob', id: 2 }], [], { a: null, b: { name: 'Bob' } }],
     [two, 'userById', [[{ name: 'Ada' }], [{ nick: 'B', name: 'Bob' }]], [], { a: { name: 'Ada' }, b: { name: 'Bob' } }],
     [two, 'userById', [{ name: 'Bob' }], [fewer, fewer], { a: null, b: null }],
-    [one, 'userById', [{ id: 9, name: 'Eve' }], [notAsked('userById', '9')], { user: null }],
-    [one, 'userById', [{ id: null, name: 'Eve' }], [notAsked('userById', '')], { user: null }],
+    [two, 'userById', [{ id: 2, name: 'Bob' }, null], twice(inDoubt("row 1 has the key '2', and stands for the key '1'")), { a: null, b: null }],
+    [two, 'userById', [new Error('gone'), { id: 1 }], twice(inDoubt("row 2 has the key '1', and stands for the key '2'")), { a: null, b: null }],
+    [two, 'userById', [{ id: 1, name: 'Ada' }, { name: 'Bob' }], twice(inDoubt('row 2 has no column id, which row 1 has')), { a: null, b: null }],
+    [two, 'userById', [null, { id: 2, name: 'Bob' }], [], { a: null, b: { name: 'Bob' } }],
+    [two, 'userById', aligned([{ id: 2, name: 'Bob' }, null]), [], { a: { name: 'Bob' }, b: null }],
+    [two, 'userById', aligned([{ id: 2, name: 'Bob' }, { name: 'Ada' }]), [], { a: { name: 'Bob' }, b: { name: 'Ada' } }],
+    [two, 'userById', aligned([]), twice(fewerItems(0)), { a: null, b: null }],
+    [two, 'userById', aligned([{ id: 1, name: 'Ada' }]), twice(fewerItems(1)), { a: null, b: null }],
+    [two, 'userById', inAnyOrder([{ id: 2, name: 'Bob' }]), [], { a: null, b: { name: 'Bob' } }],
+    [two, 'userById', inAnyOrder([]), [], { a: null, b: null }],
+    [two, 'userById', inAnyOrder({ columns: ['id', 'name'], rows: [[2, 'Bob']] }), [], { a: null, b: { name: 'Bob' } }],
+    [two, 'userById', inAnyOrder([{ id: 1, name: 'Ada' }, { name: 'Bob' }]), twice('loader userById: row 2 has no column id'), { a: null, b: null }],
+    [two, 'userById', inAnyOrder([{ id: 1 }, null]), twice('loader userById: a row of type null'), { a: null, b: null }],
+    [two, 'userById', inAnyOrder([{ id: 1 }, { id: 9 }]), twice(notAsked('userById', "'9'", 'column id', 2)), { a: null, b: null }],
+    [one, 'userById', inAnyOrder(7), ['loader userById: its function returned Number, and no array'], { user: null }],
+    ['{users{name}}', 'allUsers', aligned([[{ name: 'Ada' }]]), ['loader allUsers: it has no keys that items are aligned with'], { users: null }],
+    ['{users{name}}', 'allUsers', inAnyOrder([{ name: 'Ada' }]), [], { users: [{ name: 'Ada' }] }],
+    [one, 'userById', [{ id: 9, name: 'Eve' }], [notAsked('userById', "'9'")], { user: null }],
+    [one, 'userById', [{ id: null, name: 'Eve' }], [notAsked('userById', "''")], { user: null }],
     [one, 'userById', undefined, ['loader userById: its function returned undefined, and no array'], { user: null }],
     [one, 'userById', { id: 1 }, ['loader userById: its function returned Object, and no array'], { user: null }],
     [one, 'userById', ['Ada'], ['loader userById: a row of type String'], { user: null }],
@@ -82,24 +101,20 @@ describe('faults', () => {
     ['{users{name}}', 'allUsers', [{ name: 'Ada' }, { age: 1 }, [{ name: 'Bob' }]], ['loader allUsers: a row of type Array'], { users: null }],
     [one, 'userById', [{}], ['loader userById: a row has no columns'], { user: null }],
     [one, 'userById', [{ id: 1 }], ['no column name'], { user: { name: null } }],
-    [one, 'userById', [{ id: 1, name: { first: 'Ada' } }], [noText('Object')], { user: null }],
-    [one, 'userById', [{ id: 1, name: Buffer.from('Ada') }], [noText('Buffer')], { user: null }],
-    [one, 'userById', [{ id: 1, name: new Date(NaN) }], [noText('Date')], { user: null }],
-    [one, 'userById', [{ id: 1, name: NaN }], ['loader userById, column name: NaN has no text'], { user: null }],
     [one, 'userById', { columns: ['id', 'name'], rows: [{ id: 1 }] }, ['loader userById: a row of type Object'], { user: null }],
-    [one, 'userById', { columns: ['name'], rows: [['Ada']] }, ["loader userById: its rows haven't all its columns"], { user: null }],
+    [one, 'userById', { columns: ['name'], rows: [['Ada']] }, ['loader userById: its rows have no column id'], { user: null }],
     [one, 'userById', { columns: ['id', 'name'], rows: [[1]] }, ['loader userById: a row of 1 values for 2 columns'], { user: null }],
-    [one, 'userById', { columns: ['id', 'name'], rows: [[2, 'Bob']] }, [notAsked('userById', '2')], { user: null }],
+    [one, 'userById', { columns: ['id', 'name'], rows: [[2, 'Bob']] }, [notAsked('userById', "'2'")], { user: null }],
     ['{user(id:1){age}}', 'userById', [{ id: 1, age: 1.5 }], ['bad value in column age'], { user: { age: null } }],
     ['{users{name}}', 'allUsers', [{ name: 'Ada' }, { name: 2 }], [], { users: [{ name: 'Ada' }, { name: '2' }] }],
     ['{users{name}}', 'allUsers', { columns: ['name'], rows: [['Ada']] }, [], { users: [{ name: 'Ada' }] }],
     ['{users{name}}', 'allUsers', [null], ['loader allUsers: a row of type null'], { users: null }],
     ['{users{name}}', 'allUsers', [], [], { users: [] }],
     ['{named(name:"ADA"){name}}', 'userByName', [{ name: 'Ada' }], [], { named: { name: 'Ada' } }],
-    ['{named(name:"Ä"){name}}', 'userByName', [{ name: 'ä' }], [notAsked('userByName', 'ä')], { named: null }],
+    ['{named(name:"Ä"){name}}', 'userByName', [{ name: 'ä' }], [notAsked('userByName', "'ä'", 'column name')], { named: null }],
     ['{named(name:"Error"){name}}', 'userByName', [new Error('gone')], ['gone'], { named: null }],
     [vote, 'voteByBoth', [{ user: 1, post: 23, stars: 5 }], [], { vote: { stars: 5 } }],
-    [vote, 'voteByBoth', [{ user: 12, post: 3, stars: 5 }], [notAsked('voteByBoth', '["12","3"]')], { vote: null }],
+    [vote, 'voteByBoth', [{ user: 12, post: 3, stars: 5 }], [notAsked('voteByBoth', "'12', '3'", 'columns user and post')], { vote: null }],
     [vote, 'voteByBoth', [{ user: 1, stars: 5 }], [], { vote: { stars: 5 } }],
     [votes, 'voteByBoth', { columns: ['stars', 'post', 'user'], rows: [[4, 3, 'é'], [5, 23, 1]] }, [], { a: { stars: 5 }, b: { stars: 4 } }],
   ];
@@ -110,6 +125,66 @@ describe('faults', () => {
       assert.deepEqual(found.data, data);
     });
   }
+
+  it('an option says how bare arrays are read', async () => {
+    const turned = [{ id: 2, name: 'Bob' }, { id: 1, name: 'Ada' }];
+    const [sorted, inOrder] = [{ a: { name: 'Ada' }, b: { name: 'Bob' } }, { a: { name: 'Bob' }, b: { name: 'Ada' } }];
+    for (const rows of ['aligned', { userById: 'aligned' }]) {
+      assert.deepEqual(await answer(two, 'userById', turned, { rows }), { data: inOrder });
+      assert.deepEqual(await answer(two, 'userById', inAnyOrder(turned), { rows }), { data: sorted });
+      assert.deepEqual((await answer(two, 'userById', [], { rows })).errors[0].message, fewerItems(0));
+    }
+    for (const rows of ['inAnyOrder', { userById: 'inAnyOrder' }]) {
+      assert.deepEqual(await answer(two, 'userById', turned, { rows }), { data: sorted });
+      assert.deepEqual(await answer(two, 'userById', aligned(turned), { rows }), { data: inOrder });
+      const { errors } = await answer(two, 'userById', [turned[1], { name: 'Bob' }], { rows });
+      assert.equal(errors[0].message, 'loader userById: row 2 has no column id');
+    }
+    assert.deepEqual(await answer('{users{name}}', 'allUsers', turned, { rows: 'aligned' }), { data: { users: [{ name: 'Bob' }, { name: 'Ada' }] } });
+    const client = server.client({ userById: () => turned }, { rows: 'aligned' });
+    assert.deepEqual(await client.answer({ query: two }), { data: inOrder });
+    client.close();
+  });
+
+  it('a column with a value that has no text fails where it is used', async () => {
+    const values = [[Buffer.from('x'), 'a value of type Buffer'], [['x'], 'a value of type Array'], [{ a: 1 }, 'a value of type Object'], [NaN, 'NaN'],
+      [new Date(NaN), 'a value of type Date'], [Symbol('x'), 'a value of type Symbol'], [() => 1, 'a value of type Function']];
+    for (const [value, what] of values) {
+      const rows = [{ id: 2, name: 'Bob', age: 7, photo: null }, { id: 1, name: 'Ada', age: value, photo: value }];
+      const forms = [rows, inAnyOrder(rows), aligned([rows[1], [rows[0]]]), { columns: ['age', 'id', 'name'], rows: [[7, 2, 'Bob'], [value, 1, 'Ada']] }];
+      for (const returned of forms) {
+        assert.deepEqual(await answer(two, 'userById', returned), { data: { a: { name: 'Ada' }, b: { name: 'Bob' } } });
+        const { errors, data } = await answer('{a:user(id:1){name age} b:user(id:2){name}}', 'userById', returned);
+        const message = `loader userById, column age, row 1 of the key '1': ${what} has no text`;
+        assert.deepEqual(errors.map((error) => [error.message, error.path]), [[message, ['a', 'age']]]);
+        assert.deepEqual(data, { a: { name: 'Ada', age: null }, b: { name: 'Bob' } });
+      }
+      const [message] = (await answer(one, 'userById', [{ id: 1 }, { id: value }])).errors.map((error) => error.message);
+      assert.equal(message, `loader userById, column id, row 2: ${what} has no text`);
+      const { errors } = await answer('{users{name age}}', 'allUsers', rows);
+      assert.equal(errors[0].message, `loader allUsers, column age, row 2: ${what} has no text`);
+    }
+  });
+
+  it('such a column is told to the hook, in each request that uses it, and forgotten with the rows', async () => {
+    const told = [];
+    const onError = (error, batch) => (told.push([error.message, batch]), new PublicError('no age', { extensions: { code: 'AGE' } }));
+    const row = { id: 1, name: 'Ada', age: ['x'] };
+    const client = server.client({ userById: () => [row] }, { onError });
+    const [plain, aged] = await client.answer([{ query: one }, { query: '{user(id:1){name age}}' }]);
+    assert.deepEqual(plain, { data: { user: { name: 'Ada' } } });
+    assert.deepEqual([aged.errors[0].message, aged.errors[0].extensions], ['no age', { code: 'AGE' }]);
+    const again = await client.answer({ query: '{a:user(id:1){age} b:user(id:1){age}}' });
+    assert.deepEqual(again.errors.map(({ path }) => path), [['a', 'age'], ['b', 'age']]);
+    const message = "loader userById, column age, row 1 of the key '1': a value of type Array has no text";
+    assert.deepEqual(told, twice([message, { loader: 'userById', keys: ['1'] }]));
+    assert.deepEqual(await client.loadMany('userById', [1]), [[{ id: '1', name: 'Ada' }]]);
+    assert.throws(() => client.prime('userById', 2, { id: 2, age: {} }), /column age, row 1 of the key '2': a value of type Object has no text/);
+    client.restart();
+    row.age = 36;
+    assert.deepEqual(await client.answer({ query: '{user(id:1){age}}' }), { data: { user: { age: 36 } } });
+    client.close();
+  });
 
   it('a getter of a row that asks the server leaves its reply as it is', async () => {
     const allUsers = () => [{ name: 'Ada'.repeat(5000) }, { name: 'Bob' }, { name: 'Cy' }];
@@ -165,6 +240,8 @@ describe('what is refused at once', () => {
     // what, the arguments after the request, and the error
     ['a name that the bindings have not', [{ userByld: () => [] }], /the bindings have no loader userByld/],
     ['a loader that is no function', [{ userById: [] }], /the loader userById is no function/],
+    ['a form that is none', [loaders, { rows: 'sorted' }], /rows is 'aligned' or 'inAnyOrder', and not sorted/],
+    ['a form of another name', [loaders, { rows: { users: 'aligned' } }], /no loader users/],
     ['a limit of another name', [loaders, { maxBatch: { users: 3 } }], /no loader users/],
     ['a limit that is no number', [loaders, { maxBatch: 1.5 }], /maxBatch is no whole number/],
     ['a limit that is too large', [loaders, { maxBatch: 65536 }], { name: 'RZ_BAD_LIMIT', code: -6 }],

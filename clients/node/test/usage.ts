@@ -1,6 +1,6 @@
 // What the types take and refuse: test/types.js has a compiler check this file, and nothing runs it.
 import {
-  executor, LoadFault, PublicError, Server,
+  aligned, executor, inAnyOrder, LoadFault, PublicError, Server,
   type BatchFunction, type Batch, type Client, type ExecutionArguments, type Item, type Key, type Loaders, type LoadersFor, type Options,
   type Request, type Requests, type Response, type Rows,
 } from 'rudzkvano';
@@ -25,6 +25,11 @@ const ofUsers: Loaders<string, User> = { userById };
 const rows: Rows<User> = [users[0], users, null, undefined, new Error('gone')];
 const item: Item<User> = users[0];
 const arrays: Rows = { columns: ['id', 'name'], rows: [[1, 'Ada'], [2n, null]] };
+const sorted: BatchFunction<string, User> = async () => inAnyOrder(users);
+const inOrder: BatchFunction<string, User> = async (ids) => aligned(ids.map((id) => users.find((user) => String(user.id) === id)));
+const ofArrays: BatchFunction = () => inAnyOrder({ columns: ['id'], rows: [[1]] });
+// @ts-expect-error: rows of nothing
+const noSuchRow: BatchFunction<string, User> = () => inAnyOrder([null]);
 // @ts-expect-error: a row of another type
 const otherRow: BatchFunction<string, User> = () => [{ id: '1' }];
 // @ts-expect-error: a key of another type
@@ -47,10 +52,13 @@ const onError: Options['onError'] = (error, { loader, keys }) => {
   if (error instanceof PublicError) return { message: error.message, extensions: { ...error.extensions, loader } };
   return keys.length > 1 ? 'internal error' : undefined;
 };
-const options: Options = { maxBatch: { userById: 100 }, maxAnswer: 0, onError, introspection: graphql, onRound: ({ batches }) => batches.map(told) };
+const options: Options = { maxBatch: { userById: 100 }, maxAnswer: 0, onError, introspection: graphql, onRound: ({ batches }) => batches.map(told), rows: 'aligned' };
 function told({ loader, keys, failed }: Batch): [string, readonly Key[], string | undefined] {
   return [loader, keys, failed];
 }
+server.answer(one, loaders, { rows: { userById: 'inAnyOrder' } });
+// @ts-expect-error: no form
+server.answer(one, loaders, { rows: 'sorted' });
 server.answer(one, loaders, { signal: new AbortController().signal, ...options });
 server.answer(one, loaders).then(({ errors }) => errors?.map(({ message, extensions }) => [message, extensions?.code]));
 // @ts-expect-error: a hook that waits says nothing
@@ -82,4 +90,4 @@ execute(executing).then(({ data }) => data?.user);
 // @ts-expect-error: no text of a document
 execute({ document: 7 });
 
-export { arrays, noRows, otherKey, otherRow, rows };
+export { arrays, inOrder, noRows, noSuchRow, ofArrays, otherKey, otherRow, rows, sorted };
