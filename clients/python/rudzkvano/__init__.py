@@ -10,14 +10,16 @@ from .client import Client, Progress, Query
 from .errors import OnError, PublicError
 from .http import HTTPError
 from .library import Library, LoadFault, Refused, RudzkvanoError, SchemaFault, WrongLibrary
-from .loaders import Batch, BatchFunction, Keys, Loaded, Loader, Loaders, Order, Ran, Returned, Round
+from .loaders import Aligned, Batch, BatchFunction, InAnyOrder, Keys, Loaded, Loader, Loaders, Order, Ran, Returned, Round, aligned, in_any_order
 from .server import Options, Server
 
 __all__ = [
+    "Aligned",
     "Batch",
     "BatchFunction",
     "Client",
     "HTTPError",
+    "InAnyOrder",
     "Keys",
     "Library",
     "LoadFault",
@@ -38,4 +40,6 @@ __all__ = [
     "SchemaFault",
     "Server",
     "WrongLibrary",
+    "aligned",
+    "in_any_order",
 ]

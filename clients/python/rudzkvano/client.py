@@ -17,8 +17,8 @@ from typing import Any, Concatenate, NamedTuple, ParamSpec, TypeAlias, TypeVar, 
 from .errors import OnError, edit_errors, fault_text, has_extensions, message_of, parted
 from .library import BUSY, Held, Library, buffer_of, cut, flat, words
 from .limits import checked_limit
-from .loaders import Batch, Keys, Loaded, Loader, Loaders, OnRound, Order, Ran, Round
-from .rows import Reply, item_of, outcomes_of, reply_of, text_of
+from .loaders import Batch, Form, Keys, Loaded, Loader, Loaders, OnRound, Order, Ran, Round
+from .rows import Reply, Unread, item_of, outcomes_of, reply_of, text_of
 
 # The text of a query; a request with `query`, `variables` and `operationName`; 1 to 16 of these, which share their rounds; or JSON text of those.
 Query: TypeAlias = Union[str, Mapping[str, Any], Sequence[Mapping[str, Any]], bytes]
@@ -56,12 +56,13 @@ def _alone(call: Callable[Concatenate[Client, _P], _T]) -> Callable[Concatenate[
 
 
 class Asks(NamedTuple):
-    """By what a client asks: the batch functions by the names of their loaders, and what is told of rounds and errors."""
+    """By what a client asks: the batch functions by the names of their loaders, how their lists are read, and what is told of rounds and errors."""
 
     functions: Loaders = MappingProxyType({})
     on_round: OnRound | None = None
     on_error: OnError | None = None
     introspect: Introspect | None = None
+    forms: Mapping[str, Form] = MappingProxyType({})
 
 
 class Client(Held):
@@ -77,8 +78,8 @@ class Client(Held):
         self._calls, self._loaders, self._limits = library.calls, loaders, limits
         self._asks = Asks()
         self._max_answer: int | None = None
-        # columns that were left out of a reply, with the order and the reason
-        self._unread: dict[str, tuple[Order, Exception]] = {}
+        # columns that were left out of a reply, with the loader and the reason
+        self._unread: dict[str, tuple[Loader, Unread]] = {}
         self._has_extensions = False
         self._sizes = array("Q", bytes(48))
         self._sizes_at = self._sizes.buffer_info()[0]
@@ -198,7 +199,7 @@ class Client(Held):
         start = perf_counter()
         try:
             returned = self._asked(order)
-            reply = None if hasattr(returned, "__await__") else reply_of(order.loader, order.keys, returned)
+            reply = None if hasattr(returned, "__await__") else self._read(order, returned)
         except Exception as error:
             return error, perf_counter() - start
         if reply is not None:
@@ -214,7 +215,7 @@ class Client(Held):
             returned = self._asked(order)
             if hasattr(returned, "__await__"):
                 returned = await returned
-            return reply_of(order.loader, order.keys, returned), perf_counter() - start
+            return self._read(order, returned), perf_counter() - start
         except Exception as error:
             return error, perf_counter() - start
 
@@ -227,6 +228,9 @@ class Client(Held):
             for task in tasks:
                 task.cancel()
             raise
+
+    def _read(self, order: Order, returned: Any) -> Reply:
+        return reply_of(order.loader, order.keys, returned, self._asks.forms.get(order.loader.name))
 
     def _asked(self, order: Order) -> Any:
         function = self._asks.functions.get(order.loader.name)
@@ -317,13 +321,13 @@ class Client(Held):
 
     def _reply(self, order: Order, returned: Any) -> None:
         """Takes the reply to an order: what a batch function returns."""
-        self._take(order, reply_of(order.loader, order.keys, returned))
+        self._take(order, self._read(order, returned))
 
     def _take(self, order: Order, reply: Reply) -> None:
         columns, rows, ends, data, _, unread = self._with_faults(order.loader, reply)
         self._call(self._calls.rz_take_rows, order.number, columns, *buffer_of(rows), *buffer_of(ends), data, len(data))
-        for column, error in unread.items():
-            self._unread[column] = order, error
+        for column, why in unread.items():
+            self._unread[column] = order.loader, why
 
     def _fail(self, order: Order, text: str) -> None:
         """Takes it that the batch of an order failed as a whole."""
@@ -345,8 +349,9 @@ class Client(Held):
         message = error["message"]
         column = message.removeprefix("no column ")
         if column != message and column in self._unread:
-            order, why = self._unread[column]
-            message = reasons[column] = reasons.get(column) or self._fault_text(why, order.loader, order.keys)
+            loader, (why, key) = self._unread[column]
+            keys: Keys = [] if key is None else [key]
+            message = reasons[column] = reasons.get(column) or self._fault_text(why, loader, keys)
         error["message"], extensions = parted(message)
         if extensions:
             error["extensions"] = extensions

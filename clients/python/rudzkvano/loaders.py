@@ -3,9 +3,10 @@
 from __future__ import annotations
 
 from collections.abc import Awaitable, Callable, Iterable, Mapping, Sequence
+from dataclasses import dataclass
 from datetime import date
 from decimal import Decimal
-from typing import Any, NamedTuple, Protocol, TypeAlias, Union
+from typing import Any, Literal, NamedTuple, Protocol, TypeAlias, Union, get_args
 from uuid import UUID
 
 # Keys of one batch: texts for a loader by one column, pairs of texts for one by two, and none for a loader of all rows.
@@ -33,7 +34,47 @@ class Cursor(Protocol):
 
 Item: TypeAlias = Union[Row, Sequence[Row], Exception, None]
 Table: TypeAlias = tuple[Sequence[str], Iterable[Sequence[Any]]]
-Returned: TypeAlias = Union[Iterable[Item], Table, Cursor]
+
+
+@dataclass(frozen=True)
+class Aligned:
+    """What `aligned` makes."""
+
+    items: Iterable[Item]
+
+
+@dataclass(frozen=True)
+class InAnyOrder:
+    """What `in_any_order` makes."""
+
+    rows: Iterable[Row] | Table | Cursor
+
+
+def aligned(items: Iterable[Item]) -> Aligned:
+    """An item for each key, in the order of the keys: rows, one row, None, or an error."""
+    return Aligned(items)
+
+
+def in_any_order(rows: Iterable[Row] | Table | Cursor) -> InAnyOrder:
+    """Rows of all keys, each of which has its key in the columns of the loader."""
+    return InAnyOrder(rows)
+
+
+# How a list is read that is neither: of all loaders by columns, or by their names. Where nobody says it, a list is read by its elements.
+Form: TypeAlias = Literal["aligned", "in_any_order"]
+Forms: TypeAlias = Union[Form, Mapping[str, Form], None]
+
+
+def checked_forms(forms: Forms, names: Iterable[str]) -> Mapping[str, Form]:
+    """How the lists of the loaders of these names are read."""
+    by_name = forms if isinstance(forms, Mapping) else dict.fromkeys(names, forms) if forms is not None else {}
+    for form in by_name.values():
+        if form not in get_args(Form):
+            raise ValueError(f"rows is 'aligned' or 'in_any_order', and not {form!r}")
+    return by_name
+
+
+Returned: TypeAlias = Union[Aligned, InAnyOrder, Iterable[Item], Table, Cursor]
 BatchFunction: TypeAlias = Callable[[Any], Union[Returned, Awaitable[Returned]]]
 Loaders: TypeAlias = Mapping[str, BatchFunction]
 # the rows of a key that was loaded, by the names of their columns; or why it has none, as a `LoadFault`

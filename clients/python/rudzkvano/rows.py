@@ -16,16 +16,24 @@ from uuid import UUID
 
 from .errors import parted
 from .library import BATCH_FAULT, KEY_FAULT, SAME_COLUMNS, LoadFault, flat
-from .loaders import Keys, Loaded, Loader
+from .loaders import Aligned, Form, InAnyOrder, Keys, Loaded, Loader
 
-_NOTHING: Mapping[str, Exception] = MappingProxyType({})
+
+class Unread(NamedTuple):
+    """Why a column is left out: a value in it has no text. And the key of the row that has it, which a loader of all rows has not."""
+
+    error: Exception
+    key: Any = None
+
+
+_NOTHING: Mapping[str, Any] = MappingProxyType({})
 
 
 class Reply(NamedTuple):
     """The reply to a batch: how many columns, for each key the number of its rows, where each text ends, and their bytes.
 
     `faults` are the errors of keys, each with its key. Their texts are those that come last, and aren't there before `with_faults` adds them.
-    `unread` are the columns that are left out, since a value in them has no text, each with the reason.
+    `unread` are the columns that are left out.
     """
 
     columns: int
@@ -33,7 +41,7 @@ class Reply(NamedTuple):
     ends: array[int]
     data: bytes
     faults: Sequence[tuple[Any, Exception]] = ()
-    unread: Mapping[str, Exception] = _NOTHING
+    unread: Mapping[str, Unread] = _NOTHING
 
     def with_faults(self, texts: list[str]) -> Reply:
         ends, data = flat(texts)
@@ -54,14 +62,23 @@ class _Shape(NamedTuple):
 _Table: TypeAlias = tuple[_Shape, list[Any]]
 
 
-def reply_of(loader: Loader, keys: Keys, returned: Any) -> Reply:
-    """The reply that a batch function returned for these keys. Raises TypeError or ValueError for what is none."""
-    table = None if type(returned) is list else _as_table(loader, returned)
+def reply_of(loader: Loader, keys: Keys, returned: Any, form: Form | None = None) -> Reply:
+    """The reply that a batch function returned for these keys. `form` is how a bare list is read, if somebody says it. Raises TypeError or ValueError
+    for what is none."""
+    if isinstance(returned, Aligned):
+        if not loader.columns:
+            raise TypeError(f"loader {loader.name}: it has no keys that items are aligned with")
+        return _aligned(loader, keys, _as_list(loader, returned.items))
+    is_sorted = isinstance(returned, InAnyOrder)
+    rows = returned.rows if is_sorted else returned
+    table = None if type(rows) is list else _as_table(loader, rows)
     if table is None:
-        items = returned if type(returned) is list else _as_list(loader, returned)
-        table = _with_keys(loader, items)
-        if table is None:
+        items = rows if type(rows) is list else _as_list(loader, rows)
+        if form == "aligned" and loader.columns and not is_sorted:
             return _aligned(loader, keys, items)
+        table = _with_keys(loader, items, is_sorted or form == "in_any_order")
+        if table is None:
+            return _bare(loader, keys, items)
     return _grouped(loader, keys, table)
 
 
@@ -72,9 +89,10 @@ def item_of(loader: Loader, key: Any, item: Any) -> Reply:
         reply = _aligned(loader, [key], [item])
     else:
         shape, values = table
-        reply = _flat_reply(loader, [len(values) // len(shape.columns)], _texts_of(loader, shape.columns, values))
-    for error in reply.unread.values():
-        raise error
+        counts = [len(values) // len(shape.columns)]
+        reply = _flat_reply(loader, counts, _texts_of(shape.columns, values), _by_counts([key], counts))
+    for unread in reply.unread.values():
+        raise unread.error
     return reply
 
 
@@ -122,14 +140,15 @@ def text_of(value: Any) -> str:
 
 
 class _Texts(NamedTuple):
-    """The texts of rows, row after row, in these columns. `unread` are the columns that are left out."""
+    """The texts of rows, row after row, in these columns. `unread` are the columns that are left out, each with the number of a row whose value has
+    no text, from 0, and the reason."""
 
     columns: Sequence[str]
     texts: list[str]
-    unread: Mapping[str, Exception] = _NOTHING
+    unread: Mapping[str, tuple[int, Exception]] = _NOTHING
 
 
-def _texts_of(loader: Loader, columns: Sequence[str], values: list[Any]) -> _Texts:
+def _texts_of(columns: Sequence[str], values: list[Any]) -> _Texts:
     """The texts of values, row after row."""
     kinds = set(map(type, values))
     if kinds <= _STRINGS:
@@ -139,22 +158,21 @@ def _texts_of(loader: Loader, columns: Sequence[str], values: list[Any]) -> _Tex
     try:
         return _Texts(columns, [value if type(value) is str else _TEXTS[type(value)](value) for value in values])
     except (KeyError, ValueError):
-        return _column_by_column(loader, columns, values)
+        return _column_by_column(columns, values)
 
 
-def _column_by_column(loader: Loader, columns: Sequence[str], values: list[Any]) -> _Texts:
+def _column_by_column(columns: Sequence[str], values: list[Any]) -> _Texts:
     """The texts of values, without the columns that have a value of no text."""
-    read: list[tuple[str, list[str]]] = []
-    unread: dict[str, Exception] = {}
+    read: dict[str, list[str]] = {}
+    unread: dict[str, tuple[int, Exception]] = {}
     for place, column in enumerate(columns):
+        texts: list[str] = []
         try:
-            read.append((column, list(map(text_of, values[place :: len(columns)]))))
+            texts.extend(map(text_of, values[place :: len(columns)]))
+            read[column] = texts
         except (TypeError, ValueError) as error:
-            unread[column] = TypeError(f"loader {loader.name}, column {column}: {error}")
-    if not read:
-        raise next(iter(unread.values()))
-    names, texts = zip(*read)
-    return _Texts(names, list(chain.from_iterable(zip(*texts))), unread)
+            unread[column] = len(texts), error
+    return _Texts(tuple(read), list(chain.from_iterable(zip(*read.values()))), unread)
 
 
 # ---- Rows.
@@ -220,8 +238,8 @@ def _by_name(row: Any) -> Any:
     return dict(zip(row._fields, row)) if hasattr(row, "_fields") else row
 
 
-def _with_keys(loader: Loader, items: list[Any]) -> _Table | None:
-    """Rows that all have the columns of the loader; or none, where there is an item for each key."""
+def _with_keys(loader: Loader, items: list[Any], are_rows: bool) -> _Table | None:
+    """Rows that all have the columns of the loader; or none, where there is an item for each key. `are_rows`: these are to be such rows."""
     if not items:
         return _NO_SHAPE, []
     kinds = set(map(type, items))
@@ -229,9 +247,21 @@ def _with_keys(loader: Loader, items: list[Any]) -> _Table | None:
         table = _fields(loader, items)
         if table[0].key_places is not None:
             return table
+        if are_rows:
+            raise ValueError(next(f"loader {loader.name}: row {n} has no column {it}" for n, it in _lacking(loader, items) if it is not None))
+    elif are_rows:
+        other = next(kind for kind in map(type, items) if not _is_row_type(kind))
+        raise TypeError(f"loader {loader.name}: a row of type {other.__name__}")
     if not loader.columns:
         raise TypeError(f"loader {loader.name}: its function returned something else than rows")
     return None
+
+
+def _lacking(loader: Loader, rows: Iterable[Any]) -> Iterator[tuple[int, str | None]]:
+    """The number of each row, from 1, and the first column of the loader that it hasn't."""
+    for number, row in enumerate(rows, 1):
+        names = _by_name(row).keys()
+        yield number, next((column for column in loader.columns if column not in names), None)
 
 
 @lru_cache(1024)
@@ -277,59 +307,71 @@ def _folded(key: Any) -> Any:
 def _grouped(loader: Loader, keys: Keys, table: _Table) -> Reply:
     """The reply of rows in any order, which have their keys in the columns of the loader."""
     (columns, _, key_places), values = table
-    read = _texts_of(loader, columns, values)
+    read = _texts_of(columns, values)
     if not loader.columns or not values:
         return _flat_reply(loader, [len(values) // max(len(columns), 1)] * max(len(keys), 1), read)
     if key_places is None:
-        raise ValueError(f"loader {loader.name}: its rows haven't all its columns")
+        raise ValueError(f"loader {loader.name}: its rows have no column {next(it for it in loader.columns if it not in columns)}")
     if read.unread:
-        key_places = _places_in(read, loader.columns)
+        key_places = _places_in(loader, read)
     parts = [read.texts[place :: len(read.columns)] for place in key_places]
     asked, found = list[Any](keys), parts[0] if len(parts) == 1 else list[Any](zip(*parts))
     if loader.folds:
         asked, found = list(map(_folded, asked)), list(map(_folded, found))
     if found == asked:
-        return _flat_reply(loader, [1] * len(keys), read)
+        return _flat_reply(loader, [1] * len(keys), read, _by_counts(keys, [1] * len(keys)))
     return _sorted(loader, dict(zip(asked, keys)), found, read)
 
 
-def _places_in(read: _Texts, columns: Sequence[str]) -> list[int]:
-    """Where these columns are, of which none may have been left out."""
-    for column in columns:
+def _places_in(loader: Loader, read: _Texts) -> list[int]:
+    """Where the columns of the loader are, of which none may have been left out."""
+    for column in loader.columns:
         if column in read.unread:
-            raise read.unread[column]
-    return [read.columns.index(column) for column in columns]
+            row, why = read.unread[column]
+            raise TypeError(f"loader {loader.name}, column {column}, row {row + 1}: {why}")
+    return [read.columns.index(column) for column in loader.columns]
 
 
 def _sorted(loader: Loader, keys: Mapping[Any, Any], found: list[Any], read: _Texts) -> Reply:
     """The reply of rows that have these keys, in the order of the keys that were asked for."""
     groups: dict[Any, list[Sequence[str]]] = {key: [] for key in keys}
-    others: dict[Any, None] = {}
-    for key, row in zip(found, zip(*[iter(read.texts)] * len(read.columns))):
+    # rows of other keys, by their numbers
+    others: dict[Any, int] = {}
+    for number, (key, row) in enumerate(zip(found, zip(*[iter(read.texts)] * len(read.columns))), 1):
         if key in groups:
             groups[key].append(row)
         else:
-            others[key] = None
+            others.setdefault(key, number)
     read = read._replace(texts=list(chain.from_iterable(chain.from_iterable(groups.values()))))
+
+    def owner(row: int) -> _Owner:
+        return keys.get(found[row], found[row]), found[:row].count(found[row])
+
     if not others:
-        return _flat_reply(loader, list(map(len, groups.values())), read)
+        return _flat_reply(loader, list(map(len, groups.values())), read, owner)
     faults = _faults_of_casts(loader, {key: keys[key] for key, rows in groups.items() if not rows}, others)
     counts = [KEY_FAULT if key in faults else len(rows) for key, rows in groups.items()]
-    return _flat_reply(loader, counts, read, [(keys[key], faults[key]) for key in groups if key in faults])
+    return _flat_reply(loader, counts, read, owner, [(keys[key], faults[key]) for key in groups if key in faults])
 
 
-def _faults_of_casts(loader: Loader, without_rows: Mapping[Any, Any], others: Iterable[Any]) -> dict[Any, Exception]:
+def _faults_of_casts(loader: Loader, without_rows: Mapping[Any, Any], others: Mapping[Any, int]) -> dict[Any, Exception]:
     """The faults of keys for which there are rows of other keys, since the database takes both for the same, as 1 and 01."""
     alike: dict[Any, list[Any]] = {}
     for key in without_rows:
         alike.setdefault(_as_cast(key), []).append(key)
     faults: dict[Any, Exception] = {}
-    for other in others:
+    for other, number in others.items():
         if _as_cast(other) not in alike:
-            raise ValueError(f"loader {loader.name}: a row of the key {other!r}, which wasn't asked for")
+            columns = f"column{'s' * (len(loader.columns) - 1)} {' and '.join(loader.columns)}"
+            raise ValueError(f"loader {loader.name}: row {number} has the key {_quoted(other)} in {columns}, which wasn't asked for")
         for key in alike[_as_cast(other)]:
-            faults[key] = ValueError(f"loader {loader.name}: a row of the key {other!r} for the key {without_rows[key]!r}")
+            faults[key] = ValueError(f"loader {loader.name}: a row of the key {_quoted(other)} for the key {_quoted(without_rows[key])}")
     return faults
+
+
+def _quoted(key: Any) -> str:
+    """What a message says of a key: a text, or a pair."""
+    return ", ".join(map(repr, key)) if isinstance(key, tuple) else repr(key)
 
 
 def _as_cast(key: Any) -> Any:
@@ -344,10 +386,44 @@ def _as_cast(key: Any) -> Any:
     return number if number.is_finite() else text.casefold()
 
 
+def _bare(loader: Loader, keys: Keys, items: list[Any]) -> Reply:
+    """The reply of a list of which nobody says how it is read, and which isn't all rows with the columns of the loader."""
+    if len(items) != len(keys):
+        raise ValueError(f"loader {loader.name}: {len(items)} items for {len(keys)} keys, which aren't all rows with its columns")
+    if why := _doubt(loader, keys, items):
+        raise TypeError(f"loader {loader.name}: {why}: its function has to return aligned(items) or in_any_order(rows)")
+    return _aligned(loader, keys, items)
+
+
+def _doubt(loader: Loader, keys: Keys, items: list[Any]) -> str | None:
+    """Why items are read as aligned only because of what was found: some rows among them have the columns of the loader, so that these would be sorted
+    where there is nothing else."""
+    kinds = {kind for kind in set(map(type, items)) if _is_row_type(kind)}
+    rows = [(place, item) for place, item in enumerate(items) if type(item) in kinds]
+    lacking = [column for _, column in _lacking(loader, [row for _, row in rows])]
+    whole = [row for row, column in zip(rows, lacking) if column is None]
+    for place, row in whole:
+        found = _key_in(loader, place, _by_name(row))
+        if (_folded(found) != _folded(keys[place])) if loader.folds else found != keys[place]:
+            return f"row {place + 1} has the key {_quoted(found)}, and stands for the key {_quoted(keys[place])}"
+    if not whole or len(whole) == len(rows):
+        return None
+    other, column = next((place, column) for (place, _), column in zip(rows, lacking) if column is not None)
+    return f"row {other + 1} has no column {column}, which row {whole[0][0] + 1} has"
+
+
+def _key_in(loader: Loader, place: int, row: Any) -> Any:
+    """The key that a row has in the columns of the loader."""
+    read = _texts_of(loader.columns, [row[column] for column in loader.columns])
+    for column, (_, why) in read.unread.items():
+        raise TypeError(f"loader {loader.name}, column {column}, row {place + 1}: {why}")
+    return tuple(read.texts) if len(loader.columns) == 2 else read.texts[0]
+
+
 def _aligned(loader: Loader, keys: Keys, items: list[Any]) -> Reply:
     """The reply of an item for each key: its rows, one row, None, or the error that is its fault."""
     if len(items) != len(keys):
-        raise ValueError(f"loader {loader.name}: {len(items)} items for {len(keys)} keys, which aren't all rows with its columns")
+        raise ValueError(f"loader {loader.name}: {len(items)} items for {len(keys)} keys")
     kinds, faults = set(map(type, items)), list[tuple[Any, Exception]]()
     if kinds <= _DICT_OR_NONE:
         rows, counts = [item for item in items if item is not None], [0 if item is None else 1 for item in items]
@@ -360,7 +436,7 @@ def _aligned(loader: Loader, keys: Keys, items: list[Any]) -> Reply:
         if not _is_row_type(kind):
             raise TypeError(f"loader {loader.name}: a row of type {kind.__name__}")
     shape, values = _fields(loader, rows) if rows else (_NO_SHAPE, [])
-    return _flat_reply(loader, counts, _texts_of(loader, shape.columns, values), faults)
+    return _flat_reply(loader, counts, _texts_of(shape.columns, values), _by_counts(keys, counts), faults)
 
 
 def _one_by_one(loader: Loader, items: list[Any]) -> tuple[list[Any], list[int]]:
@@ -383,12 +459,45 @@ def _one_by_one(loader: Loader, items: list[Any]) -> tuple[list[Any], list[int]]
     return rows, counts
 
 
-def _flat_reply(loader: Loader, counts: list[int], read: _Texts, faults: Sequence[tuple[Any, Exception]] = ()) -> Reply:
+# the key that a row is of, and the place of the row among those of the key
+_Owner: TypeAlias = tuple[Any, int]
+
+
+def _by_counts(keys: Sequence[Any], counts: list[int]) -> Callable[[int], _Owner]:
+    """The owner of each row, of which the keys have these numbers."""
+
+    def owner(row: int) -> _Owner:
+        for key, count in zip(keys, counts):
+            if count != KEY_FAULT and row < count:
+                return key, row
+            row -= count if count != KEY_FAULT else 0
+        raise IndexError(row)
+
+    return owner
+
+
+def _flat_reply(
+    loader: Loader,
+    counts: list[int],
+    read: _Texts,
+    owner: Callable[[int], _Owner] | None = None,
+    faults: Sequence[tuple[Any, Exception]] = (),
+) -> Reply:
+    unread = {column: _unread(loader, column, *why, owner) for column, why in read.unread.items()} if read.unread else _NOTHING
+    if unread and not read.columns:
+        raise next(iter(unread.values())).error
     try:
         ends, data = flat([*read.columns, *read.texts])
     except TypeError:
         raise TypeError(f"loader {loader.name}: the name of a column is no text") from None
-    return Reply(len(read.columns), array("I", counts), ends, data, faults, read.unread)
+    return Reply(len(read.columns), array("I", counts), ends, data, faults, unread)
+
+
+def _unread(loader: Loader, column: str, row: int, why: Exception, owner: Callable[[int], _Owner] | None) -> Unread:
+    if owner is None or not loader.columns:
+        return Unread(TypeError(f"loader {loader.name}, column {column}, row {row + 1}: {why}"))
+    key, number = owner(row)
+    return Unread(TypeError(f"loader {loader.name}, column {column}, row {number + 1} of the key {_quoted(key)}: {why}"), key)
 
 
 # ---- The rows of loaded keys.

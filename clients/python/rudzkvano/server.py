@@ -14,7 +14,7 @@ from .errors import OnError
 from .introspection import GraphQL, Introspection
 from .library import BAD_SCHEMA, Held, Library, Refused, SchemaFault, buffer_of, cut, words
 from .limits import checked_limit
-from .loaders import Loader, Loaders, OnRound
+from .loaders import Forms, Loader, Loaders, OnRound, checked_forms
 from .schema_faults import reason_of
 
 if TYPE_CHECKING:
@@ -31,13 +31,14 @@ class _AskOptions(TypedDict, total=False):
     on_round: Union[OnRound, None]
     on_error: Union[OnError, None]
     introspection: Union[GraphQL, None]
+    rows: Forms
 
 
 class Options(_AskOptions, total=False):
     """`max_batch`: the greatest number of keys in one batch, for all loaders or by their names, 1 to 65,535. `max_answer`: the greatest number of
     bytes in an answer. `on_round`: what is called after each round. `on_error`: what is called with each error of a batch function, and says what
     callers are told of it. `introspection`: the module `graphql` of graphql-core, which answers operations that ask for `__schema` or `__type`
-    alone. Each may be None."""
+    alone. `rows`: how the lists of all loaders, or of loaders by their names, are read: "aligned" or "in_any_order". Each may be None."""
 
     max_batch: MaxBatch
     max_answer: Union[int, None]
@@ -173,9 +174,18 @@ class Server(Held):
         if ended is not None:
             ended.close()
 
-    def _asks(self, loaders: Loaders, on_round: OnRound | None = None, on_error: OnError | None = None, introspection: GraphQL | None = None) -> Asks:
+    def _asks(
+        self,
+        loaders: Loaders,
+        on_round: OnRound | None = None,
+        on_error: OnError | None = None,
+        introspection: GraphQL | None = None,
+        rows: Forms = None,
+    ) -> Asks:
         self._check(loaders)
-        return Asks(loaders, on_round, on_error, self._introspect(introspection) if introspection else None)
+        forms = checked_forms(rows, self._names)
+        self._check(forms)
+        return Asks(loaders, on_round, on_error, self._introspect(introspection) if introspection else None, forms)
 
     def _introspect(self, graphql: GraphQL) -> Introspect:
         """What answers introspection by this module."""

@@ -281,7 +281,7 @@ class Errors(Calls):
             found = self.server.answer(USER, each, on_error=lambda *given: calls.append(given))
             self.assertEqual([message for message, _, _ in self.told(found)], ["internal error"])
         wanted = ["no function for loader userById", "loader userById: its function returned int, and no list"]
-        wanted.append("loader userById, column name: a value of type list has no text")
+        wanted.append("loader userById, column name, row 1 of the key '1': a value of type list has no text")
         self.assertEqual([(str(error), loader, keys) for error, loader, keys in calls], [(it, "userById", ["1"]) for it in wanted])
 
     def test_extensions_stand_in_their_own_errors(self) -> None:
@@ -380,7 +380,7 @@ class Known(Calls):
             self.assertTrue(client.prime("allUsers", None, [row]))
             self.assertEqual(client.answer("{users{name}}"), {"data": {"users": [{"name": "Eve"}]}})
             self.assertTrue(client.clear("allUsers", None))
-            with self.assertRaisesRegex(TypeError, "^loader userById, column name: a value of type bytes has no text$"):
+            with self.assertRaisesRegex(TypeError, "^loader userById, column name, row 1 of the key '1': a value of type bytes has no text$"):
                 client.prime("userById", 1, {"name": b"x"})
             for key in (None, (), ("1", "2")):
                 with self.assertRaisesRegex(ValueError, "^loader userById: a key of [02] values for 1 columns$"):

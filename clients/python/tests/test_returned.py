@@ -11,7 +11,7 @@ from types import MappingProxyType
 from typing import Any, NamedTuple
 
 import worlds
-from rudzkvano import Server
+from rudzkvano import Server, aligned, in_any_order
 
 SCHEMA = """type Query { item(id: ID!): Item  items(ids: [ID!]!): [Item]!  all: [Item!]!  of(name: String!): [Item!]!  pair(a: ID!, b: ID!): Item }
 type Item { id: ID  text: String  other: String  count: Int  yes: Boolean }"""
@@ -134,7 +134,9 @@ NO_VALUES: list[tuple[Any, str]] = [
 ONE, TWO = {"id": 1, "text": "one"}, {"id": 2, "text": "two"}
 ONE_OF_ALCHEMY, TWO_OF_ALCHEMY = AlchemyRow(id=1, text="one"), AlchemyRow(id=2, text="two")
 ALCHEMY = AlchemyResult(["id", "text"], [TWO_OF_ALCHEMY, ONE_OF_ALCHEMY])
-NOT_ASKED = "loader itemById: a row of the key '3', which wasn't asked for"
+LOADER, BY_ID = "loader itemById", "in column id, which wasn't asked for"
+NOT_ASKED = f"{LOADER}: row 1 has the key '3' {BY_ID}"
+IN_DOUBT = "its function has to return aligned(items) or in_any_order(rows)"
 # what itemById returns for the keys 1 and 2, and the texts of both, or the fault of the batch
 RETURNED: list[tuple[Any, list[str | None] | str]] = [
     ([ONE, TWO], ["one", "two"]),
@@ -149,7 +151,25 @@ RETURNED: list[tuple[Any, list[str | None] | str]] = [
     ([[], (TWO,)], [None, "two"]),
     ([{"text": "one"}, {"text": "two"}], ["one", "two"]),
     ([{"text": "one"}, None], ["one", None]),
-    ([{"text": "one"}, {"id": 2, "text": "two"}], ["one", "two"]),
+    ([{"text": "one"}, {"id": 2, "text": "two"}], f"{LOADER}: row 1 has no column id, which row 2 has: {IN_DOUBT}"),
+    ([ONE, {"text": "two"}, None][:2], f"{LOADER}: row 2 has no column id, which row 1 has: {IN_DOUBT}"),
+    ([TWO, None], f"{LOADER}: row 1 has the key '2', and stands for the key '1': {IN_DOUBT}"),
+    ([ValueError("no"), ONE], f"{LOADER}: row 2 has the key '1', and stands for the key '2': {IN_DOUBT}"),
+    ([None, {"id": [2], "text": "two"}], f"{LOADER}, column id, row 2: a value of type list has no text"),
+    (aligned([TWO, None]), ["two", None]),
+    (aligned([{"text": "one"}, {"id": 2, "text": "two"}]), ["one", "two"]),
+    (aligned(iter([ONE_OF_ALCHEMY, [TWO]])), ["one", "two"]),
+    (aligned([TWO, ONE]), ["two", "one"]),
+    (aligned([]), f"{LOADER}: 0 items for 2 keys"),
+    (aligned([ONE]), f"{LOADER}: 1 items for 2 keys"),
+    (in_any_order([TWO]), [None, "two"]),
+    (in_any_order([]), [None, None]),
+    (in_any_order((["id", "text"], [(2, "two")])), [None, "two"]),
+    (in_any_order(Cursor(["id", "text"], [(2, "two"), (1, "one")])), ["one", "two"]),
+    (in_any_order([ONE, {"text": "two"}]), f"{LOADER}: row 2 has no column id"),
+    (in_any_order([{"text": "one"}, {"text": "two"}]), f"{LOADER}: row 1 has no column id"),
+    (in_any_order([ONE, None]), f"{LOADER}: a row of type NoneType"),
+    (in_any_order([ONE, {"id": 3}]), f"{LOADER}: row 2 has the key '3' {BY_ID}"),
     ([{"text": "one"}, {"other": "two"}], ["one", None]),
     ([{"id": 2, "text": "two"}, {"text": "one", "id": 1}], ["one", "two"]),
     ([{"id": 2, "text": "two", "other": "x"}, ONE], ["one", "two"]),
@@ -176,12 +196,12 @@ RETURNED: list[tuple[Any, list[str | None] | str]] = [
     ([Item(2, "two"), Item(1, "one")], ["one", "two"]),
     ([Item(1, "one"), None], ["one", None]),
     ([{"id": 3, "text": "three"}], NOT_ASKED),
-    ([ONE, {"id": 3, "text": "three"}], NOT_ASKED),
+    ([ONE, {"id": 3, "text": "three"}], f"{LOADER}: row 2 has the key '3' {BY_ID}"),
     ((["id", "text"], [(3, "three")]), NOT_ASKED),
-    ([{"id": None, "text": "none"}], "loader itemById: a row of the key '', which wasn't asked for"),
+    ([{"id": None, "text": "none"}], f"{LOADER}: row 1 has the key '' {BY_ID}"),
     ([ONE, None, TWO], "loader itemById: 3 items for 2 keys, which aren't all rows with its columns"),
     ([{"text": "one"}], "loader itemById: 1 items for 2 keys, which aren't all rows with its columns"),
-    ((["text"], [("one",)]), "loader itemById: its rows haven't all its columns"),
+    ((["text"], [("one",)]), "loader itemById: its rows have no column id"),
     ((["id", "text"], [(1,)]), "loader itemById: a row of 1 values for 2 columns"),
     ((["id", "text"], ["1x"]), "loader itemById: a row of type str"),
     ([1, 2], "loader itemById: an item of type int"),
@@ -221,7 +241,7 @@ class Returned(unittest.TestCase):
         for value, why in NO_VALUES:
             with self.subTest(value=value):
                 found = self.answer("{item(id:1){text}}", itemById=lambda keys: [{"id": 1, "text": value}])
-                self.assertEqual(found["errors"][0]["message"], f"loader itemById, column text: {why}")
+                self.assertEqual(found["errors"][0]["message"], f"loader itemById, column text, row 1 of the key '1': {why}")
 
     def test_numbers_and_booleans_are_values_of_their_types(self) -> None:
         row = {"id": 1, "count": 3.0, "yes": True}
@@ -238,25 +258,53 @@ class Returned(unittest.TestCase):
                     self.assertNotIn("errors", found)
                     self.assertEqual([item and item["text"] for item in found["data"]["items"]], wanted)
 
+    def test_how_lists_are_read_is_said_once(self) -> None:
+        cases: list[tuple[Any, Any, list[str | None] | str]] = [
+            ("aligned", [TWO, ONE], ["two", "one"]),
+            ("aligned", [], f"{LOADER}: 0 items for 2 keys"),
+            ("aligned", in_any_order([TWO, ONE]), ["one", "two"]),
+            ({"itemById": "in_any_order"}, [TWO], [None, "two"]),
+            ({"itemById": "in_any_order"}, [TWO, {"text": "one"}], f"{LOADER}: row 2 has no column id"),
+            ("in_any_order", [TWO, None], f"{LOADER}: a row of type NoneType"),
+            ("in_any_order", aligned([TWO, None]), ["two", None]),
+            ({"itemsByName": "aligned"}, [TWO, ONE], ["one", "two"]),
+        ]
+        for rows, returned, wanted in cases:
+            with self.subTest(rows=rows, returned=returned):
+                functions = {"itemById": lambda keys: returned, "allItems": lambda keys: [ONE]}
+                found = self.server.answer("{items(ids:[1,2]){text} all{text}}", functions, rows=rows)
+                self.assertEqual(found["data"]["all"] if found["data"] else [{"text": "one"}], [{"text": "one"}])
+                if isinstance(wanted, str):
+                    self.assertEqual({error["message"] for error in found["errors"]}, {wanted})
+                else:
+                    self.assertEqual([item and item["text"] for item in found["data"]["items"]], wanted)
+        for wrong in ("sorted", {"items": "aligned"}, {"itemById": None}):
+            with self.assertRaises(ValueError):
+                self.server.answer("{all{text}}", {}, rows=wrong)
+        found = self.answer("{all{text}}", allItems=lambda keys: aligned([[ONE]]))
+        self.assertEqual(found["errors"][0]["message"], "loader allItems: it has no keys that items are aligned with")
+
     def test_a_column_that_is_not_used_may_have_any_value(self) -> None:
         for value, why in NO_VALUES:
-            rows: list[Any] = [{"id": 1, "text": "one", "other": value, "blob": value}, {"id": 2, "text": "two", "other": "x", "blob": None}]
-            table: Any = (["text", "other", "id"], [("one", value, 1), ("two", "x", 2)])
-            for returned in (rows, [rows[0], [rows[1]]], table, Cursor(table[0], table[1])):
+            rows: list[Any] = [{"id": 2, "text": "two", "other": "x", "blob": None}, {"id": 1, "text": "one", "other": value, "blob": value}]
+            table: Any = (["text", "other", "id"], [("two", "x", 2), ("one", value, 1)])
+            for returned in (rows, aligned([rows[1], [rows[0]]]), table, Cursor(table[0], table[1])):
                 with self.subTest(value=value, returned=returned):
                     found = self.answer("{items(ids:[1,2]){text}}", itemById=lambda keys: returned)
                     self.assertEqual(found, {"data": {"items": [{"text": "one"}, {"text": "two"}]}})
                     found = self.answer("{items(ids:[1,2]){text other}}", itemById=lambda keys: returned)
-                    self.assertEqual({error["message"] for error in found["errors"]}, {f"loader itemById, column other: {why}"})
+                    self.assertEqual({error["message"] for error in found["errors"]}, {f"{LOADER}, column other, row 1 of the key '1': {why}"})
                     self.assertEqual(found["data"]["items"], [{"text": "one", "other": None}, {"text": "two", "other": None}])
-            found = self.answer("{items(ids:[1,2]){text}}", itemById=lambda keys: [{"id": value, "text": "one"}])
-            self.assertEqual({error["message"] for error in found["errors"]}, {f"loader itemById, column id: {why}"})
+            found = self.answer("{items(ids:[1,2]){text}}", itemById=lambda keys: [rows[0], {"id": value, "text": "one"}])
+            self.assertEqual({error["message"] for error in found["errors"]}, {f"{LOADER}, column id, row 2: {why}"})
         requests: list[Any] = [{"query": "{item(id:1){text}}"}, {"query": "{item(id:1){other}}"}]
         plain, wrong = self.server.answer(requests, {"itemById": lambda keys: [{"id": 1, "text": "one", "other": [1]}]})
         self.assertEqual((plain, wrong["data"]), ({"data": {"item": {"text": "one"}}}, {"item": {"other": None}}))
-        self.assertEqual(wrong["errors"][0]["message"], "loader itemById, column other: a value of type list has no text")
+        self.assertEqual(wrong["errors"][0]["message"], f"{LOADER}, column other, row 1 of the key '1': a value of type list has no text")
         with self.server.client({"itemById": lambda keys: [{"id": 1, "text": "one", "other": [1]}]}) as client:
             self.assertEqual(client.load_many("itemById", [1]), [[{"id": "1", "text": "one"}]])
+        found = self.answer("{all{text other}}", allItems=lambda keys: [ONE, {"text": "two", "other": b"x"}])
+        self.assertEqual({error["message"] for error in found["errors"]}, {"loader allItems, column other, row 2: a value of type bytes has no text"})
 
     def test_what_a_database_casts(self) -> None:
         database = sqlite3.connect(":memory:")
@@ -279,7 +327,7 @@ class Returned(unittest.TestCase):
         found = self.answer('{p:pair(a:"1",b:"x "){text} q:pair(a:1,b:"X"){text} r:pair(a:"01",b:"X"){text}}', itemByBoth=lambda keys: [row])
         self.assertEqual(found, {"data": {"p": None, "q": {"text": "one"}, "r": None}})
         found = self.answer('{p:pair(a:"01",b:"x "){text}}', itemByBoth=lambda keys: [row])
-        self.assertEqual(found["errors"][0]["message"], "loader itemByBoth: a row of the key ('1', 'X') for the key ('01', 'x ')")
+        self.assertEqual(found["errors"][0]["message"], "loader itemByBoth: a row of the key '1', 'X' for the key '01', 'x '")
         found = self.answer('{of(name:"ADA "){text}}', itemsByName=lambda keys: [row])
         self.assertEqual(found["errors"][0]["message"], "loader itemsByName: a row of the key 'ada' for the key 'ADA '")
 
