@@ -109,23 +109,33 @@ func flatKeys(loader *Loader, keys []Key) (flat texts, err error) {
 }
 
 // reply is what the library is given: for each key its number of rows or keyFault; and the names of the columns, the values of all rows and
-// the faults.
+// the faults. unread are the columns that are left out, since a value in them has no text, each with the reason.
 type reply struct {
 	columns int
 	rows    []uint32
 	texts   texts
+	unread  map[string]error
 }
 
 func flatten(loader *Loader, keys []Key, rows Rows) (reply, error) {
-	done, err := reply{columns: len(rows.Columns)}, error(nil)
-	items := rows.Items
+	items, err := rows.Items, error(nil)
 	if items == nil {
 		items, err = group(loader, keys, rows)
+	} else if rows.Rows != nil {
+		err = loader.misfit("both Rows and Items")
 	}
 	if err != nil {
+		return reply{}, err
+	}
+	whole := reply{unread: map[string]error{}}
+	if err := whole.add(loader, keys, rows.Columns, items); err != nil || len(whole.unread) == 0 {
+		return whole, err
+	}
+	done := reply{unread: whole.unread}
+	if err := done.add(loader, keys, rows.Columns, items); err != nil || done.columns > 0 {
 		return done, err
 	}
-	return done, done.add(loader, keys, rows.Columns, items)
+	return done, done.unread[rows.Columns[0]]
 }
 
 // misfit says why rows don't fit the keys that they are for.
@@ -133,15 +143,7 @@ func (l *Loader) misfit(format string, values ...any) error {
 	return fmt.Errorf("loader %s: %s", l.Name, fmt.Sprintf(format, values...))
 }
 
-// text has the text of a value in a column.
-func (l *Loader) text(column string, value any) (string, error) {
-	text, err := textOf(value)
-	if err != nil {
-		return "", fmt.Errorf("loader %s, column %s: %w", l.Name, column, err)
-	}
-	return text, nil
-}
-
+// add adds all but the columns that are unread already. It notes those that can't be read.
 func (r *reply) add(loader *Loader, keys []Key, columns []string, items []Item) error {
 	wanted := len(keys)
 	if len(loader.Columns) == 0 {
@@ -150,19 +152,24 @@ func (r *reply) add(loader *Loader, keys []Key, columns []string, items []Item) 
 	if len(items) != wanted {
 		return loader.misfit("%d items for %d keys", len(items), wanted)
 	}
-	for _, column := range columns {
-		r.texts.add(strings.ToValidUTF8(column, "\uFFFD"))
+	left := make([]bool, len(columns))
+	for place, column := range columns {
+		if _, left[place] = r.unread[column]; !left[place] {
+			r.columns++
+			r.texts.add(strings.ToValidUTF8(column, "\uFFFD"))
+		}
 	}
-	for _, item := range items {
+	for number, item := range items {
 		if item.Err != nil {
 			r.rows = append(r.rows, keyFault)
 			continue
 		}
 		r.rows = append(r.rows, uint32(len(item.Rows)))
-		for _, row := range item.Rows {
-			if err := r.addRow(loader, columns, row); err != nil {
+		for place, row := range item.Rows {
+			if err := loader.check(columns, row); err != nil {
 				return err
 			}
+			r.addRow(columns, left, row, func(column string, err error) error { return loader.noText(column, place, keys, number, err) })
 		}
 	}
 	for _, item := range items {
@@ -176,18 +183,27 @@ func (r *reply) add(loader *Loader, keys []Key, columns []string, items []Item) 
 	return nil
 }
 
-func (r *reply) addRow(loader *Loader, columns []string, row []any) error {
-	if err := loader.check(columns, row); err != nil {
-		return err
-	}
+// addRow adds a row without the columns that are left out. It notes what noText makes of a value without a text.
+func (r *reply) addRow(columns []string, left []bool, row []any, noText func(column string, err error) error) {
 	for place, value := range row {
-		text, err := loader.text(columns[place], value)
-		if err != nil {
-			return err
+		if left[place] {
+			continue
+		}
+		text, err := textOf(value)
+		if _, isNoted := r.unread[columns[place]]; err != nil && !isNoted {
+			r.unread[columns[place]] = noText(columns[place], err)
 		}
 		r.texts.add(text)
 	}
-	return nil
+}
+
+// noText says that a value in a column has no text: in the row of this place, from 0, of the key of this number.
+func (l *Loader) noText(column string, place int, keys []Key, number int, err error) error {
+	of := ""
+	if len(l.Columns) > 0 {
+		of = " of the key " + l.quoted(keys[number])
+	}
+	return fmt.Errorf("loader %s, column %s, row %d%s: %w", l.Name, column, place+1, of, err)
 }
 
 func (l *Loader) check(columns []string, row []any) error {
@@ -210,26 +226,32 @@ func group(loader *Loader, keys []Key, rows Rows) ([]Item, error) {
 	for number, key := range keys {
 		numbers[loader.compared(key)] = number
 	}
-	var others []Key
-	for _, row := range rows.Rows {
+	var others []otherRow
+	for place, row := range rows.Rows {
 		if err := loader.check(rows.Columns, row); err != nil {
 			return nil, err
 		}
-		key, err := loader.keyOf(rows.Columns, row)
+		key, err := loader.keyOf(rows.Columns, place, row)
 		if err != nil {
 			return nil, err
 		}
 		if number, found := numbers[loader.compared(key)]; found {
 			items[number].Rows = append(items[number].Rows, row)
 		} else {
-			others = append(others, key)
+			others = append(others, otherRow{key, place + 1})
 		}
 	}
 	return items, loader.faultCasts(keys, items, others)
 }
 
+// otherRow is a row, by its number from 1, of a key that wasn't asked for.
+type otherRow struct {
+	key    Key
+	number int
+}
+
 // faultCasts gives a fault to each key for which there are rows of another key, since the database takes both for the same, as 1 and 01.
-func (l *Loader) faultCasts(keys []Key, items []Item, others []Key) error {
+func (l *Loader) faultCasts(keys []Key, items []Item, others []otherRow) error {
 	if others == nil {
 		return nil
 	}
@@ -240,12 +262,16 @@ func (l *Loader) faultCasts(keys []Key, items []Item, others []Key) error {
 		}
 	}
 	for _, other := range others {
-		numbers, found := alike[asCast(other)]
+		numbers, found := alike[asCast(other.key)]
 		if !found {
-			return l.misfit("a row of the key %s, which wasn't asked for", l.quoted(other))
+			columns := "column " + l.Columns[0]
+			if len(l.Columns) == 2 {
+				columns = "columns " + strings.Join(l.Columns, " and ")
+			}
+			return l.misfit("row %d has the key %s in %s, which wasn't asked for", other.number, l.quoted(other.key), columns)
 		}
 		for _, number := range numbers {
-			items[number].Err = l.misfit("a row of the key %s for the key %s", l.quoted(other), l.quoted(keys[number]))
+			items[number].Err = l.misfit("a row of the key %s for the key %s", l.quoted(other.key), l.quoted(keys[number]))
 		}
 	}
 	return nil
@@ -269,8 +295,8 @@ func asCast(key Key) Key {
 	return key
 }
 
-// keyOf has the key that a row belongs to.
-func (l *Loader) keyOf(columns []string, row []any) (key Key, err error) {
+// keyOf has the key that a row, of this place from 0, belongs to.
+func (l *Loader) keyOf(columns []string, number int, row []any) (key Key, err error) {
 	for part, wanted := range l.Columns {
 		place := 0
 		for place < len(columns) && columns[place] != wanted {
@@ -279,8 +305,8 @@ func (l *Loader) keyOf(columns []string, row []any) (key Key, err error) {
 		if place == len(columns) {
 			return key, l.misfit("its rows have no column %s", wanted)
 		}
-		if key[part], err = l.text(wanted, row[place]); err != nil {
-			return key, err
+		if key[part], err = textOf(row[place]); err != nil {
+			return key, fmt.Errorf("loader %s, column %s, row %d: %w", l.Name, wanted, number+1, err)
 		}
 	}
 	return key, nil

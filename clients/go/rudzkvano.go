@@ -409,7 +409,7 @@ func limit(most int) uint32 {
 }
 
 func (s *Server) newMemory(limits []uint32, options *Options) (*memory, error) {
-	made := &memory{newHandle(), s.loaders, limits}
+	made := &memory{newHandle(), s.loaders, limits, map[string]error{}}
 	_, err := s.handle.call(func(at *C.rz_handle) C.int32_t {
 		return C.rz_client(at, &made.handle.at, wordsAt(limits), C.size_t(len(limits)))
 	})
@@ -443,6 +443,8 @@ type memory struct {
 	handle  *handle
 	loaders []Loader
 	limits  []uint32
+	// unread are the columns that are left out of what is known, each with the reason.
+	unread map[string]error
 }
 
 // order is a batch that is to be asked for.
@@ -472,6 +474,9 @@ func (m *memory) limitAnswers(options *Options) error {
 
 func (m *memory) restart() error {
 	_, err := m.handle.call(func(at *C.rz_handle) C.int32_t { return C.rz_restart(at) })
+	if err == nil {
+		m.unread = map[string]error{}
+	}
 	return err
 }
 
@@ -614,6 +619,9 @@ func (m *memory) take(done outcome) error {
 		return C.rz_take_rows(at, number, C.size_t(reply.columns), wordsAt(reply.rows), C.size_t(len(reply.rows)),
 			wordsAt(reply.texts.ends), C.size_t(len(reply.texts.ends)), bytesAt(reply.texts.bytes), C.size_t(len(reply.texts.bytes)))
 	})
+	for column, why := range done.reply.unread {
+		m.unread[column] = why
+	}
 	return err
 }
 
@@ -649,7 +657,10 @@ func (m *memory) text() ([]byte, error) {
 	}
 	text := make([]byte, sizes.answer)
 	_, err = m.handle.call(func(at *C.rz_handle) C.int32_t { return C.rz_answer(at, bytesAt(text), sizes.answer) })
-	return text, err
+	if err != nil || len(m.unread) == 0 {
+		return text, err
+	}
+	return explained(text, m.unread)
 }
 
 func (m *memory) loaded() ([]Loaded, error) {
@@ -719,6 +730,9 @@ func (c *Client) Prime(loader string, key Key, rows Rows) (bool, error) {
 	if err != nil {
 		return false, err
 	}
+	for _, why := range told.unread {
+		return false, why
+	}
 	var primed C.uint32_t
 	_, err = c.memory.handle.call(func(at *C.rz_handle) C.int32_t {
 		return C.rz_prime(at, C.size_t(number), wordsAt(flat.ends), C.size_t(len(flat.ends)), bytesAt(flat.bytes), C.size_t(len(flat.bytes)),
@@ -763,7 +777,13 @@ func (c *Client) ClearAll(loader string) error {
 }
 
 // Restart forgets all keys, logs and rounds.
-func (c *Client) Restart() error { return c.memory.restart() }
+func (c *Client) Restart() error {
+	if !c.answering.TryLock() {
+		return refusal(C.RZ_BUSY)
+	}
+	defer c.answering.Unlock()
+	return c.memory.restart()
+}
 
 // Log has the batches that a loader was asked for since the client was made or started again.
 func (c *Client) Log(loader string) ([]Batch, error) {

@@ -87,7 +87,7 @@ func (t table) ask(loader Loader, keys []Key, aligned bool) Rows {
 	}
 	found := Rows{Columns: t.columns}
 	for _, row := range t.rows {
-		key := must(loader.keyOf(t.columns, row))
+		key := must(loader.keyOf(t.columns, 0, row))
 		number, isAsked := asked[loader.compared(key)]
 		if len(keys) == 0 || isAsked && key[0] != "" {
 			found.Rows = append(found.Rows, row)
@@ -251,15 +251,10 @@ func TestABatchThatFailsIsAFaultOfItsKeysAlone(t *testing.T) {
 		{rows: Rows{Columns: columns, Rows: [][]any{{1}}}, message: "loader userById: a row of 1 values for 2 columns"},
 		{rows: Rows{Rows: [][]any{{}}}, message: "loader userById: a row has no columns"},
 		{rows: Rows{Columns: columns[1:], Rows: [][]any{{"Ada"}}}, message: "loader userById: its rows have no column id"},
-		{rows: Rows{Columns: columns, Rows: [][]any{{9, "Eve"}}}, message: "loader userById: a row of the key '9', which wasn't asked for"},
-		{rows: Rows{Columns: columns, Rows: [][]any{{nil, nil}}}, message: "loader userById: a row of the key '', which wasn't asked for"},
-		{
-			rows:    Rows{Columns: columns, Rows: [][]any{{1, []int{7}}}},
-			message: "loader userById, column name: a value of type []int has no text",
-		},
-		{rows: Rows{Columns: columns, Rows: [][]any{{1, math.NaN()}}}, message: "loader userById, column name: NaN has no text"},
-		{rows: Rows{Columns: columns, Rows: [][]any{{1, []byte("\xff")}}}, message: "loader userById, column name: a text isn't UTF-8"},
-		{rows: Rows{Columns: columns, Items: []Item{{Rows: [][]any{{1, "\xff"}}}}}, message: "loader userById, column name: a text isn't UTF-8"},
+		{rows: Rows{Columns: columns, Rows: [][]any{{9, "Eve"}}}, message: "loader userById: row 1 has the key '9' in column id, which wasn't asked for"},
+		{rows: Rows{Columns: columns, Rows: [][]any{{nil, nil}}}, message: "loader userById: row 1 has the key '' in column id, which wasn't asked for"},
+		{rows: Rows{Columns: columns, Rows: [][]any{{[]int{7}, "Eve"}}}, message: "loader userById, column id, row 1: a value of type []int has no text"},
+		{rows: Rows{Columns: columns, Rows: [][]any{}, Items: []Item{{}}}, message: "loader userById: both Rows and Items"},
 	}
 	world := readWorld("")
 	defer world.server.Close()
@@ -280,6 +275,54 @@ func TestABatchThatFailsIsAFaultOfItsKeysAlone(t *testing.T) {
 		text := answer(world.server.AnswerText(context.Background(), request, loaders, options))
 		expect(t, options, text, "the bindings have no loader userByID")
 		delete(loaders, "userByID")
+	}
+}
+
+func TestAColumnThatCantBeReadFailsWhereItIsUsed(t *testing.T) {
+	schema := "type Query { user(id: ID!): User users: [User] } type User { id: ID name: String age: Int }"
+	bindings := "bindings 1\nloader userById users by id\nloader allUsers users\nfield Query.user one userById arg id\nfield Query.users many allUsers all\n"
+	server := must(Open(schema, bindings))
+	defer server.Close()
+	columns := []string{"id", "age", "name"}
+	query := "{a:user(id:1){name} b:user(id:2){name age}}"
+	plain := `{"data":{"a":{"name":"Ada"},"b":{"name":"<Bob>"}}}`
+	cases := []struct {
+		value any
+		what  string
+	}{
+		{[]int{7}, "a value of type []int has no text"}, {math.NaN(), "NaN has no text"}, {[]byte("\xff"), "a text isn't UTF-8"},
+	}
+	for _, each := range cases {
+		ada, bob := []any{1, each.value, "Ada"}, []any{2, 7, "<Bob>"}
+		forms := []Rows{
+			{Columns: columns, Rows: [][]any{bob, ada}},
+			{Columns: columns, Items: []Item{{Rows: [][]any{ada}}, {Rows: [][]any{bob}}}},
+		}
+		for _, rows := range forms {
+			rows := rows
+			loaders := Loaders{
+				"userById": func(context.Context, []Key) (Rows, error) { return rows, nil },
+				"allUsers": func(context.Context, []Key) (Rows, error) {
+					return Rows{Columns: columns, Rows: [][]any{bob, ada}}, nil
+				},
+			}
+			ask := func(query string) string {
+				return answer(server.AnswerText(context.Background(), Request{Query: query}, loaders, nil))
+			}
+			expect(t, each.what, ask("{a:user(id:1){name} b:user(id:2){name}}"), plain)
+			wanted := `{"errors":[{"message":"loader userById, column age, row 1 of the key '1': ` + each.what +
+				`","locations":[{"line":1,"column":39}],"path":["b","age"]}],"data":{"a":{"name":"Ada"},"b":{"name":"<Bob>","age":null}}}`
+			expect(t, each.what, ask(query), wanted)
+			expect(t, each.what, strings.Contains(ask("{users{age}}"), "loader allUsers, column age, row 2: "+each.what), true)
+			text := answer(server.AnswerText(context.Background(), Request{JSON: []byte(`[{"query":"` + query + `"},{"query":"{user(id:1){name}}"}]`)}, loaders, nil))
+			expect(t, each.what, text, "["+wanted+`,{"data":{"user":{"name":"Ada"}}}]`)
+			client := must(server.Client(loaders, nil))
+			loaded := must(client.LoadMany(context.Background(), "userById", Key{"1"}, Key{"2"}))
+			expect(t, each.what, loaded[1].Rows, []LoadedRow{{[]string{"id", "name"}, []string{"2", "<Bob>"}}})
+			_, err := client.Prime("userById", Key{"3"}, Rows{Columns: columns, Rows: [][]any{{3, each.value, ""}}})
+			expect(t, each.what, err.Error(), "loader userById, column age, row 1 of the key '3': "+each.what)
+			client.Close()
+		}
 	}
 }
 
@@ -311,7 +354,7 @@ func TestWhatADatabaseCastsIsAFaultOfItsKey(t *testing.T) {
 		}
 	}
 	_, err := group(loader, []Key{{"-1"}, {"."}, {""}}, Rows{Columns: columns, Rows: [][]any{{1, ""}}})
-	expect(t, "another number", err.Error(), "loader one: a row of the key '1', which wasn't asked for")
+	expect(t, "another number", err.Error(), "loader one: row 1 has the key '1' in column id, which wasn't asked for")
 }
 
 func TestALoaderThatFoldsComparesKeysWithoutTheirCase(t *testing.T) {
@@ -464,7 +507,7 @@ func TestAClientKeepsWhatItKnows(t *testing.T) {
 	expect(t, "restarted", client.Restart(), nil)
 	expect(t, "forgotten", len(must(client.Log("userById"))), 0)
 	_, err := client.Prime("userById", Key{"2"}, eve)
-	expect(t, "another key", err.Error(), "loader userById: a row of the key '1', which wasn't asked for")
+	expect(t, "another key", err.Error(), "loader userById: row 1 has the key '1' in column id, which wasn't asked for")
 	_, err = client.Clear("nobody", Key{"1"})
 	expect(t, "unknown", err.Error(), "the bindings have no loader nobody")
 	_, err = world.server.Client(Loaders{"nobody": nil}, nil)

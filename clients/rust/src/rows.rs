@@ -253,11 +253,11 @@ fn group(loader: &Loader, keys: &[Key], columns: &[String], rows: Vec<Row>) -> R
         let compared = |text: &str| if loader.folds { text.to_ascii_lowercase() } else { text.to_owned() };
         let numbered = keys.iter().enumerate();
         let numbers: HashMap<Vec<_>, _> = numbered.map(|(number, key)| (key.texts().into_iter().map(compared).collect(), number)).collect();
-        for row in rows {
+        for (number, row) in (1..).zip(rows) {
             let texts: Vec<_> = places.iter().map(|&place| row[place].as_deref().map_or_else(String::new, compared)).collect();
             match numbers.get(&texts) {
                 Some(&number) => groups[number].push(row),
-                None => others.push(texts),
+                None => others.push((number, texts)),
             }
         }
     }
@@ -266,8 +266,9 @@ fn group(loader: &Loader, keys: &[Key], columns: &[String], rows: Vec<Row>) -> R
     Ok(items)
 }
 
-/// Gives a fault to each key for which there are rows of another key, since the database takes both for the same, as `1` and `01`.
-fn fault_casts(loader: &Loader, keys: &[Key], items: &mut [Item], others: &[Vec<String>]) -> Result<(), String> {
+/// Gives a fault to each key for which there are rows of another key, since the database takes both for the same, as `1` and `01`. `others` are the
+/// numbers and the keys of such rows.
+fn fault_casts(loader: &Loader, keys: &[Key], items: &mut [Item], others: &[(usize, Vec<String>)]) -> Result<(), String> {
     if others.is_empty() {
         return Ok(());
     }
@@ -277,10 +278,11 @@ fn fault_casts(loader: &Loader, keys: &[Key], items: &mut [Item], others: &[Vec<
             alike.entry(key.texts().into_iter().map(as_cast).collect()).or_default().push(number);
         }
     }
-    for other in others {
+    let columns = format!("column{} {}", if loader.columns.len() == 2 { "s" } else { "" }, loader.columns.join(" and "));
+    for (row, other) in others {
         let texts = other.join("', '");
         let cast: Vec<_> = other.iter().map(|text| as_cast(text)).collect();
-        let numbers = alike.get(&cast).ok_or_else(|| format!("a row of the key '{texts}', which wasn't asked for"))?;
+        let numbers = alike.get(&cast).ok_or_else(|| format!("row {row} has the key '{texts}' in {columns}, which wasn't asked for"))?;
         for &number in numbers {
             let key = keys[number].texts().join("', '");
             items[number] = Item::Fault(format!("loader {}: a row of the key '{texts}' for the key '{key}'", loader.name));

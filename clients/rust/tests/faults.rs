@@ -44,8 +44,8 @@ fn a_batch_that_fails_is_a_fault_of_its_keys_alone() {
         (Ok(Rows::grouped(columns, [row(&["1"])])), "loader userById: a row of 1 values for 2 columns"),
         (Ok(Rows::grouped([""; 0], [vec![]])), "loader userById: a row has no columns"),
         (Ok(Rows::grouped(["name"], [row(&["Ada"])])), "loader userById: its rows have no column id"),
-        (Ok(Rows::grouped(columns, [row(&["9", "Eve"])])), "loader userById: a row of the key '9', which wasn't asked for"),
-        (Ok(Rows::grouped(columns, [vec![None, None]])), "loader userById: a row of the key '', which wasn't asked for"),
+        (Ok(Rows::grouped(columns, [row(&["9", "Eve"])])), "loader userById: row 1 has the key '9' in column id, which wasn't asked for"),
+        (Ok(Rows::grouped(columns, [vec![None, None]])), "loader userById: row 1 has the key '' in column id, which wasn't asked for"),
     ];
     let world = World::read("");
     for (reply, message) in cases {
@@ -74,7 +74,7 @@ fn what_a_database_casts_is_a_fault_of_its_key() {
         match (fault, &loaded[..]) {
             (Some(text), [Loaded::KeyFault(found), Loaded::Rows(rows)]) => assert_eq!((&**found, rows.len()), (text, 1)),
             (None, [Loaded::BatchFault(found), _]) => {
-                assert_eq!(*found, format!("loader userById: a row of the key '{id}', which wasn't asked for"));
+                assert_eq!(*found, format!("loader userById: row 1 has the key '{id}' in column id, which wasn't asked for"));
             }
             _ => panic!("{key}: {loaded:?}"),
         }
@@ -213,7 +213,7 @@ fn a_client_keeps_what_it_knows() {
     assert_eq!(client.answer_text(&Request::query("{users{id}}"), &mut loaders).as_deref(), Ok(r#"{"data":{"users":[]}}"#));
     client.restart().expect("restarted");
     assert_eq!(client.log("userById"), Ok(vec![]));
-    let misfit = Error::Misfit("loader userById: a row of the key '1', which wasn't asked for".to_owned());
+    let misfit = Error::Misfit("loader userById: row 1 has the key '1' in column id, which wasn't asked for".to_owned());
     assert_eq!(client.prime("userById", "2", eve()), Err(misfit));
     assert_eq!(client.clear("nobody", "1"), Err(Error::NoLoader("nobody".to_owned())));
     let misfit = Error::Misfit("loader userById: a key of 2 texts for 1 columns".to_owned());
