@@ -313,7 +313,7 @@ static void takes_wrong_texts(world *w, int h) {
     CHECK(rz_take_rows(&w->at[h], 0, 3, rows, 1, past, 6, TEXT(REPLY)), if_order(model, 0, RZ_BAD_ENDS));
     CHECK(rz_take_rows(&w->at[h], 0, 3, rows, 1, inside, 6, TEXT("idnamebest1\xc3\xa4" "a2")), if_order(model, 0, RZ_BAD_ENDS));
     CHECK(rz_take_rows(&w->at[h], 0, 3, rows, 1, REPLY_ENDS, 6, TEXT("idnamebest1A\xff" "a2")), if_order(model, 0, RZ_NOT_UTF8));
-    CHECK(rz_take_failed(&w->at[h], 0, (const uint8_t *)"\xff", 1), of_client(model, is_busy(model) ? RZ_NOT_UTF8 : RZ_NO_ORDER));
+    CHECK(rz_take_failed(&w->at[h], 0, (const uint8_t *)"\xff", 1), if_order(model, 0, RZ_NOT_UTF8));
 }
 
 static void reads_answer(world *w, int h) {
@@ -370,17 +370,19 @@ static void clears_all(world *w, int h) {
     lets_go(&w->of[h]);
 }
 
-/* Keys and items that are none: they are refused before the client is asked. */
+/* Keys and items that are none. An answer or outcomes stay. */
 static void knows_wrong_texts(world *w, int h) {
     const uint32_t key_ends[] = {1, 2, 3};
     uint32_t told = 9;
     const handle_model *model = &w->of[h];
-    CHECK(rz_prime(&w->at[h], 0, key_ends, 3, TEXT("123"), 3, 1, REPLY_ENDS, 6, TEXT(REPLY), &told), of_client(model, RZ_BAD_KEY));
-    CHECK(rz_prime(&w->at[h], 0, key_ends, 2, TEXT("1"), 3, 1, REPLY_ENDS, 6, TEXT(REPLY), &told), of_client(model, RZ_BAD_ENDS));
-    CHECK(rz_prime(&w->at[h], 0, key_ends, 1, TEXT("1"), 3, 2, REPLY_ENDS, 6, TEXT(REPLY), &told), of_client(model, RZ_TOO_FEW_TEXTS));
-    CHECK(rz_prime(&w->at[h], 0, key_ends, 1, TEXT("1"), 0, 1, REPLY_ENDS, 6, TEXT(REPLY), &told), of_client(model, RZ_NO_COLUMN));
-    CHECK(rz_clear(&w->at[h], 0, key_ends, 3, TEXT("123"), &told), of_client(model, RZ_BAD_KEY));
-    CHECK(rz_clear(&w->at[h], 0, key_ends, 1, (const uint8_t *)"\xff", 1, &told), of_client(model, RZ_NOT_UTF8));
+    CHECK(rz_prime(&w->at[h], 0, key_ends, 3, TEXT("123"), 3, 1, REPLY_ENDS, 6, TEXT(REPLY), &told), unless_busy(model, RZ_BAD_KEY));
+    CHECK(rz_prime(&w->at[h], 0, key_ends, 2, TEXT("12"), 3, 1, REPLY_ENDS, 6, TEXT(REPLY), &told), unless_busy(model, RZ_BAD_KEY));
+    CHECK(rz_prime(&w->at[h], 0, key_ends, 2, TEXT("1"), 3, 1, REPLY_ENDS, 6, TEXT(REPLY), &told), unless_busy(model, RZ_BAD_ENDS));
+    CHECK(rz_prime(&w->at[h], 0, key_ends, 1, TEXT("1"), 3, 2, REPLY_ENDS, 6, TEXT(REPLY), &told), unless_busy(model, RZ_TOO_FEW_TEXTS));
+    CHECK(rz_prime(&w->at[h], 0, key_ends, 1, TEXT("1"), 0, 1, REPLY_ENDS, 6, TEXT(REPLY), &told), unless_busy(model, RZ_NO_COLUMN));
+    CHECK(rz_clear(&w->at[h], 0, key_ends, 3, TEXT("123"), &told), unless_busy(model, RZ_BAD_KEY));
+    CHECK(rz_clear(&w->at[h], 0, key_ends, 0, TEXT(""), &told), unless_busy(model, RZ_BAD_KEY));
+    CHECK(rz_clear(&w->at[h], 0, key_ends, 1, (const uint8_t *)"\xff", 1, &told), unless_busy(model, RZ_NOT_UTF8));
     is_same("told", told, 9);
 }
 
@@ -392,7 +394,6 @@ static void knows_no_loader(world *w, int h) {
     CHECK(rz_clear(&w->at[h], SIZE_MAX, key_ends, 1, TEXT("1"), &told), unless_busy(model, RZ_NO_LOADER));
     CHECK(rz_clear_all(&w->at[h], 6), unless_busy(model, RZ_NO_LOADER));
     is_same("told", told, 9);
-    lets_go(&w->of[h]);
 }
 
 static void reads_log(world *w, int h) {

@@ -57,6 +57,8 @@ static void handles(rz_handle *server, rz_handle *client) {
     WANTS(rz_sizes(server, &sizes), RZ_BAD_HANDLE);
     WANTS(rz_orders(server, none, 0, none, 0, none, 0, none, 0, byte, 0), RZ_BAD_HANDLE);
     WANTS(rz_take_rows(server, 0, 0, none, 0, none, 0, byte, 0), RZ_BAD_HANDLE);
+    WANTS(rz_take_keyed_rows(server, 0, 0, 0, none, 0, byte, 0, &word), RZ_BAD_HANDLE);
+    WANTS(rz_take_keyed_rows(&empty, 0, 0, 0, none, 0, byte, 0, &word), RZ_BAD_HANDLE);
     WANTS(rz_take_failed(&empty, 0, TEXT("down")), RZ_BAD_HANDLE);
     WANTS(rz_answer(server, byte, 0), RZ_BAD_HANDLE);
     WANTS(rz_cancel(server), RZ_BAD_HANDLE);
@@ -192,17 +194,24 @@ static void known(rz_handle *client) {
     WANTS(stored[1], 1);
     WANTS(bytes[0], '1');
     WANTS(rz_clear_all(client, 99), RZ_NO_LOADER);
-    WANTS(rz_answer(client, byte, 0), RZ_IDLE);
     WANTS(rz_clear(client, 99, ends, 1, TEXT("1"), &word), RZ_NO_LOADER);
     WANTS(rz_clear(client, 0, ends, 3, TEXT("123"), &word), RZ_BAD_KEY);
+    WANTS(rz_clear(client, 0, ends, 2, TEXT("12"), &word), RZ_BAD_KEY);
+    WANTS(rz_clear(client, 0, ends, 0, TEXT(""), &word), RZ_BAD_KEY);
+    WANTS(rz_clear(client, 1, ends, 1, TEXT("1"), &word), RZ_BAD_KEY);
     WANTS(rz_clear(client, 0, ends, 2, TEXT("1"), &word), RZ_BAD_ENDS);
     WANTS(rz_clear(client, 0, ends, 1, (const uint8_t *)"\xff", 1, &word), RZ_NOT_UTF8);
+    WANTS(rz_prime(client, 99, ends, 1, TEXT("1"), 1, 0, fault_ends, 1, TEXT("id"), &word), RZ_NO_LOADER);
+    WANTS(rz_prime(client, 0, ends, 2, TEXT("12"), 1, 0, fault_ends, 1, TEXT("id"), &word), RZ_BAD_KEY);
+    WANTS(rz_prime(client, 0, ends, 1, TEXT("1"), 1, 1, fault_ends, 1, TEXT("id"), &word), RZ_TOO_FEW_TEXTS);
     WANTS(word, 9);
+    /* what is refused lets no answer go */
+    WANTS(rz_answer(client, byte, 0), RZ_BAD_SIZE);
     WANTS(rz_clear(client, 0, ends, 1, TEXT("1"), &word), RZ_DONE);
+    WANTS(rz_answer(client, byte, 0), RZ_IDLE);
     WANTS(word, 1);
     WANTS(rz_clear(client, 0, ends, 1, TEXT("1"), &word), RZ_DONE);
     WANTS(word, 0);
-    WANTS(rz_prime(client, 0, ends, 1, TEXT("1"), 1, 1, fault_ends, 1, TEXT("id"), &word), RZ_TOO_FEW_TEXTS);
     WANTS(rz_prime(client, 0, ends, 1, TEXT("1"), 1, RZ_KEY_FAULT, fault_ends, 2, TEXT("idgone"), &word), RZ_DONE);
     WANTS(word, 1);
     WANTS(rz_prime(client, 0, ends, 1, TEXT("1"), 1, 0, fault_ends, 1, TEXT("id"), &word), RZ_DONE);
@@ -281,6 +290,64 @@ static void many_rows(rz_handle *client) {
     WANTS(rz_cancel(client), RZ_DONE);
 }
 
+/* Rows in any order, for the ids 1, 2 and 3, of which 3 has none: what is refused, with the number of the row, and then the answer. */
+static void keyed_rows(rz_handle *client) {
+    const uint32_t ends[] = {4, 6, 9, 10, 13, 14}, other[] = {4, 6, 9, 10, 13, 14, 17, 18}, twice[] = {2, 4, 5, 6};
+    uint32_t row = 9;
+    WANTS(rz_take_keyed_rows(client, 0, 2, 0, ends, 0, TEXT(""), &row), RZ_NO_ORDER);
+    WANTS(rz_begin(client, TEXT("{\"query\":\"{a:user(id:1){name} b:user(id:2){name} c:user(id:3){name}}\"}")), RZ_DONE);
+    WANTS(rz_next(client), RZ_ROUND);
+    WANTS(rz_take_keyed_rows(client, 1, 2, 2, ends, 6, TEXT("nameidBob2Ada1"), &row), RZ_NO_ORDER);
+    WANTS(rz_take_keyed_rows(client, 0, 2, 2, ends, 6, TEXT("nameidBob2Ada\xff"), &row), RZ_NOT_UTF8);
+    WANTS(rz_take_keyed_rows(client, 0, 2, 2, ends, 6, TEXT("nameidBob2Ada1left"), &row), RZ_BAD_ENDS);
+    WANTS(rz_take_keyed_rows(client, 0, 0, 2, ends, 0, TEXT(""), &row), RZ_NO_COLUMN);
+    WANTS(rz_take_keyed_rows(client, 0, 2, 3, ends, 6, TEXT("nameidBob2Ada1"), &row), RZ_TOO_FEW_TEXTS);
+    WANTS(rz_take_keyed_rows(client, 0, 2, UINT32_MAX, ends, 6, TEXT("nameidBob2Ada1"), &row), RZ_TOO_FEW_TEXTS);
+    WANTS(rz_take_keyed_rows(client, 0, 2, 1, ends, 6, TEXT("nameidBob2Ada1"), &row), RZ_TEXTS_LEFT);
+    WANTS(rz_take_keyed_rows(client, 0, 2, 2, ends, 6, TEXT("nameIDBob2Ada1"), &row), RZ_NO_KEY_COLUMN);
+    WANTS(row, 9);
+    WANTS(rz_take_keyed_rows(client, 0, 2, 3, other, 8, TEXT("nameidBob2Ada1Eve4"), &row), RZ_NOT_ASKED);
+    WANTS(row, 3);
+    WANTS(rz_take_keyed_rows(client, 0, 2, 1, twice, 4, TEXT("idid41"), &row), RZ_NOT_ASKED);
+    WANTS(row, 1);
+    WANTS(rz_next(client), RZ_WAITING);
+    WANTS(rz_take_keyed_rows(client, 0, 2, 2, ends, 6, TEXT("nameidBob2Ada1"), &row), RZ_DONE);
+    WANTS(rz_take_keyed_rows(client, 0, 2, 2, ends, 6, TEXT("nameidBob2Ada1"), &row), RZ_REPLIED);
+    WANTS(row, 1);
+    WANTS(rz_next(client), RZ_DONE);
+    print_answer(client);
+    WANTS(rz_restart(client), RZ_DONE);
+}
+
+/* A null pointer to no elements is as good as any. */
+static void nulls(rz_handle *server) {
+    rz_handle client = {0}, opened = {0};
+    rz_fault fault;
+    rz_sizes_t sizes;
+    uint32_t loaders[1], keys[1], texts[1], rows[1] = {0}, ends[1], row;
+    uint8_t bytes[1];
+    WANTS(rz_code_name(RZ_NO_MEMORY, NULL, 0), 12);
+    WANTS(rz_open(&opened, NULL, 0, NULL, 0, &fault), RZ_BAD_SCHEMA);
+    WANTS(rz_client(server, &client, NULL, 0), RZ_DONE);
+    WANTS(rz_begin(&client, NULL, 0), RZ_DONE);
+    WANTS(rz_next(&client), RZ_DONE);
+    WANTS(rz_answer(&client, NULL, 0), RZ_BAD_SIZE);
+    WANTS(rz_begin_request(&client, TEXT("{user(id:1){name}}"), NULL, 0, NULL, 0), RZ_DONE);
+    WANTS(rz_orders(&client, NULL, 0, NULL, 0, NULL, 0, NULL, 0, NULL, 0), RZ_DONE);
+    WANTS(rz_next(&client), RZ_ROUND);
+    WANTS(rz_sizes(&client, &sizes), RZ_DONE);
+    WANTS(rz_orders(&client, loaders, 1, keys, 1, texts, 1, ends, 1, bytes, 1), RZ_DONE);
+    WANTS(rz_take_rows(&client, 0, 0, NULL, 0, NULL, 0, NULL, 0), RZ_BAD_COUNT);
+    WANTS(rz_take_keyed_rows(&client, 0, 0, 1, NULL, 0, NULL, 0, &row), RZ_NO_COLUMN);
+    WANTS(rz_take_rows(&client, 0, 0, rows, 1, NULL, 0, NULL, 0), RZ_DONE);
+    WANTS(rz_next(&client), RZ_DONE);
+    WANTS(rz_begin_load(&client, 0, NULL, 0, NULL, 0, NULL, 0), RZ_DONE);
+    WANTS(rz_next(&client), RZ_DONE);
+    WANTS(rz_loaded(&client, NULL, 0, NULL, 0, NULL, 0, NULL, 0, NULL, 0, NULL, 0), RZ_DONE);
+    WANTS(rz_clear(&client, 0, NULL, 0, NULL, 0, &row), RZ_BAD_KEY);
+    rz_close(&client);
+}
+
 /* The outcomes of keys that were loaded, in buffers that are large enough. */
 typedef struct { rz_load_sizes_t sizes; uint32_t rows[8], columns[8], ends[32], fault_ends[8]; uint8_t bytes[128], fault_bytes[64]; } loaded;
 
@@ -336,12 +403,15 @@ static int32_t begin_keys(rz_handle *client, const char *letters) {
 
 /* Keys that are no keys of a loader: what was loaded before stays. */
 static void no_keys(rz_handle *client) {
-    const uint32_t texts[] = {1, 3, 1}, ends[] = {1, 2, 3}, falls[] = {2, 1, 3};
+    const uint32_t texts[] = {1, 3, 1}, ends[] = {1, 2, 3}, falls[] = {2, 1, 3}, pair[] = {2}, none[] = {0};
     WANTS(rz_begin_load(client, 99, texts, 1, ends, 1, TEXT("1")), RZ_NO_LOADER);
     WANTS(rz_begin_load(client, 0, texts, 1, ends, 1, (const uint8_t *)"\xff", 1), RZ_NOT_UTF8);
     WANTS(rz_begin_load(client, 0, texts, 3, falls, 3, TEXT("123")), RZ_BAD_ENDS);
     WANTS(rz_begin_load(client, 0, texts, 1, ends, 1, TEXT("12")), RZ_BAD_ENDS);
     WANTS(rz_begin_load(client, 0, texts, 2, ends, 3, TEXT("123")), RZ_BAD_KEY);
+    WANTS(rz_begin_load(client, 0, pair, 1, ends, 2, TEXT("12")), RZ_BAD_KEY);
+    WANTS(rz_begin_load(client, 0, none, 1, ends, 0, TEXT("")), RZ_BAD_KEY);
+    WANTS(rz_begin_load(client, 1, texts, 1, ends, 1, TEXT("1")), RZ_BAD_KEY);
     WANTS(rz_begin_load(client, 0, texts, 1, ends, 0, TEXT("")), RZ_TOO_FEW_TEXTS);
     WANTS(rz_begin_load(client, 0, texts, 1, ends, 2, TEXT("12")), RZ_TEXTS_LEFT);
     WANTS(rz_next(client), RZ_DONE);
@@ -442,9 +512,9 @@ static void codes(void) {
     uint8_t name[64];
     WANTS(rz_version() >= RZ_VERSION, 1);
     WANTS(rz_code_name(0, name, 64), 0);
-    WANTS(rz_code_name(-20, name, 64), 0);
+    WANTS(rz_code_name(-22, name, 64), 0);
     WANTS(rz_code_text(RZ_BAD_HANDLE, name, 3) > 3, 1);
-    for (int32_t code = -1; code >= -19; code--) {
+    for (int32_t code = -1; code >= -21; code--) {
         size_t len = rz_code_name(code, name, 64);
         WANTS(len > 3 && len < 64 && memcmp(name, "RZ_", 3) == 0, 1);
         printf("%d %.*s\n", code, (int)len, (char *)name);
@@ -473,6 +543,8 @@ int main(int argc, char **argv) {
     known(&client);
     parts(&client);
     many_rows(&client);
+    keyed_rows(&client);
+    nulls(&other);
     requests(&client);
     loads(&client);
     WANTS(rz_client(&other, &client, none, 0), RZ_DONE);

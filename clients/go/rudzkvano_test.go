@@ -395,12 +395,12 @@ func TestTheLibraryHasTheVersionOfTheHeader(t *testing.T) {
 		version uint32
 		text    string
 	}{
-		{0x10100, ""}, {0x10101, ""}, {0x10200, ""}, {0x100FF, "1.0.255"}, {0x10000, "1.0.0"}, {0x20000, "2.0.0"},
+		{0x10200, ""}, {0x10201, ""}, {0x10300, ""}, {0x101FF, "1.1.255"}, {0x10000, "1.0.0"}, {0x20000, "2.0.0"},
 	}
 	for _, each := range cases {
 		var wanted error
 		if each.text != "" {
-			wanted = fmt.Errorf("librudzkvano_c.so is version %s of the library, and this package needs 1.1.0 or a later 1.x", each.text)
+			wanted = fmt.Errorf("librudzkvano_c.so is version %s of the library, and this package needs 1.2.0 or a later 1.x", each.text)
 		}
 		expect(t, each.version, checkVersion(each.version), wanted)
 	}

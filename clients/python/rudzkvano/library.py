@@ -14,7 +14,7 @@ from pathlib import Path
 from typing import Any, TypeVar
 
 # The version of clients/c/rudzkvano.h that this package calls: 65536 * major + 256 * minor + patch.
-HEADER_VERSION = 65792
+HEADER_VERSION = 66048
 BUSY = -7
 BAD_SCHEMA = -4
 KEY_FAULT = 0xFFFFFFFF

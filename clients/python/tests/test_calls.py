@@ -145,10 +145,10 @@ class Refusals(Calls):
 
     @unittest.skipUnless(shutil.which("cc"), "there is no C compiler, so libraries of other versions aren't tried")
     def test_a_library_of_another_version(self) -> None:
-        needs = "of the library, and this package needs 1.1.0 or a later 1.x"
+        needs = "of the library, and this package needs 1.2.0 or a later 1.x"
         cases = [
             ("unsigned rz_version(void) { return 65536; }", f"is version 1.0.0 {needs}"),
-            ("unsigned rz_version(void) { return 65791; }", f"is version 1.0.255 {needs}"),
+            ("unsigned rz_version(void) { return 66047; }", f"is version 1.1.255 {needs}"),
             ("unsigned rz_version(void) { return 131072; }", f"is version 2.0.0 {needs}"),
             ("int other;", "is no library of Rudzkvano"),
         ]

@@ -22,9 +22,6 @@ use std::thread::Threads;
 /// this many workers at the same time, 1 to 16. The calling thread is one of them, and a round of one batch starts no thread.
 /// All workers have ended when it returns.
 ///
-/// A call's condition has a lifetime in it, and the prover doesn't always find by itself that threads may
-/// share the sources. Such a call has a proof of one line (`answer_with-requires`).
-///
 /// # Errors
 ///
 /// [`BadCount`](WorkFault::BadCount) exactly if the number of workers isn't 1 to 16: nothing was asked then, and the session is
@@ -35,10 +32,10 @@ use std::thread::Threads;
 ///
 /// `answer`; out of memory, `stopped`; any number of workers but 1 to 16 is refused, and nothing changes
 /// (`bad_count`, `refused`)
-pub fn answer_with<'p, S: Source, E: Drop, P: Execute<'p, E>, R: Threads + Wait + Sync>(
+pub fn answer_with<S: Source, E: Drop, P: Execute<E>, R: Threads + Wait + Sync>(
     rt: &R,
     session: &mut Session<S>,
-    plan: &'p P,
+    plan: &P,
     workers: usize,
 ) -> Result<Answer, WorkFault>
     requires loaders { P.loaders plan.now
@@ -62,10 +59,10 @@ pub fn answer_with<'p, S: Source, E: Drop, P: Execute<'p, E>, R: Threads + Wait 
 }
 
 // Makes round after round until nothing is missing, over one execution of the plan.
-fn answer_in_rounds<'p, S: Source, E: Drop, P: Execute<'p, E>, R: Threads + Wait + Sync>(
+fn answer_in_rounds<S: Source, E: Drop, P: Execute<E>, R: Threads + Wait + Sync>(
     rt: &R,
     session: &mut Session<S>,
-    plan: &'p P,
+    plan: &P,
     workers: usize,
 ) -> Result<Answer, AllocError>
     requires count { (0 < workers) × (workers ≤ 16) }
@@ -87,10 +84,10 @@ fn answer_in_rounds<'p, S: Source, E: Drop, P: Execute<'p, E>, R: Threads + Wait
 }
 
 // Runs the orders of the round that is out, and stores their replies.
-fn make_round<'p, S: Source, E, P: Execute<'p, E>, R: Threads + Wait + Sync>(
+fn make_round<S: Source, E, P: Execute<E>, R: Threads + Wait + Sync>(
     rt: &R,
     session: &mut Session<S>,
-    run: &mut RoundsByHand<'p, P>,
+    run: &mut RoundsByHand<'_, P>,
     orders: Vec<Order>,
     workers: usize,
 ) -> Result<(), AllocError>

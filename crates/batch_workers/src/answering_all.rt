@@ -28,22 +28,22 @@ use std::thread::Threads;
 /// # Headline
 ///
 /// `answers`, `stopped`, `bad_count` and `refused`, as `answer_with`
-pub fn answer_all_with<'p, S: Source, E: Drop, P: Execute<'p, E>, R: Threads + Wait + Sync>(
+pub fn answer_all_with<S: Source, E: Drop, P: Execute<E> + Drop, R: Threads + Wait + Sync>(
     rt: &R,
     session: &mut Session<S>,
-    plans: &'p [P],
+    plans: Vec<P>,
     workers: usize,
 ) -> Result<Vec<Answer>, WorkFault>
     requires loaders { All (λ plan. P.loaders plan
-        ≤ length session.old.loaders) plans.now }
+        ≤ length session.old.loaders) plans.items }
     ensures bad_count { IsErrOf result WorkFault.BadCount
         ↔ IsBadCount workers }
     ensures refused { IsErrOf result WorkFault.BadCount
         → session.new ≡ session.old }
     ensures answers { IfOk result (AreAnswers S.may_answer (state_of session.old)
-        (state_of session.new) (requests P.program P.text_of plans.now)) }
+        (state_of session.new) (requests P.program P.text_of plans.items)) }
     ensures stopped { IsErrOf result WorkFault.NoMemory
-        → Stops S.may_answer session.old session.new (joint P.program P.text_of plans.now) }
+        → Stops S.may_answer session.old session.new (joint P.program P.text_of plans.items) }
 {
     if workers == 0 || workers > MOST_WORKERS {
         return Err(WorkFault::BadCount);
@@ -55,19 +55,19 @@ pub fn answer_all_with<'p, S: Source, E: Drop, P: Execute<'p, E>, R: Threads + W
 }
 
 // Makes round after round until nothing is missing for any plan.
-fn answer_all_in_rounds<'p, S: Source, E: Drop, P: Execute<'p, E>, R: Threads + Wait + Sync>(
+fn answer_all_in_rounds<S: Source, E: Drop, P: Execute<E> + Drop, R: Threads + Wait + Sync>(
     rt: &R,
     session: &mut Session<S>,
-    plans: &'p [P],
+    plans: Vec<P>,
     workers: usize,
 ) -> Result<Vec<Answer>, AllocError>
     requires count { (0 < workers) × (workers ≤ 16) }
     requires loaders { All (λ plan. P.loaders plan
-        ≤ length session.old.loaders) plans.now }
+        ≤ length session.old.loaders) plans.items }
     ensures answers { IfOk result (AreAnswers S.may_answer (state_of session.old)
-        (state_of session.new) (requests P.program P.text_of plans.now)) }
+        (state_of session.new) (requests P.program P.text_of plans.items)) }
     ensures stopped { OnErr result
-        (Stops S.may_answer session.old session.new (joint P.program P.text_of plans.now)) }
+        (Stops S.may_answer session.old session.new (joint P.program P.text_of plans.items)) }
 {
     let mut run = session.begin_all(plans)?;
     loop {
@@ -79,10 +79,10 @@ fn answer_all_in_rounds<'p, S: Source, E: Drop, P: Execute<'p, E>, R: Threads + 
 }
 
 // Runs the orders of the round that is out, and stores their replies.
-fn make_round<'p, S: Source, E: Drop, P: Execute<'p, E>, R: Threads + Wait + Sync>(
+fn make_round<S: Source, E, P: Execute<E>, R: Threads + Wait + Sync>(
     rt: &R,
     session: &mut Session<S>,
-    run: &mut AllRoundsByHand<'p, P, E>,
+    run: &mut AllRoundsByHand<P, E>,
     orders: Vec<Order>,
     workers: usize,
 ) -> Result<(), AllocError>

@@ -52,7 +52,6 @@ impl Links {
 ///
 /// It is built from the last row up, in linear time whatever the texts are; texts that were made to collide
 /// slow look-ups alone.
-#[derive(Drop)]
 pub struct ColumnIndex {
     sheet: Arc<Sheet>,
     column: usize,
@@ -70,6 +69,17 @@ impl Model for ColumnIndex {
     ghost view = { λ x. index_of (arc_value x.sheet) x.column x.mode };
 
     ghost invariant = { λ x. IsIndex (arc_value x.sheet) x.column x.mode x.links.first.items x.links.next.items };
+}
+
+impl Drop for ColumnIndex {
+    fn drop(self) {
+        let ColumnIndex {
+            sheet: _sheet,
+            column: _,
+            mode: _,
+            links: _links,
+        } = self;
+    }
 }
 
 // Puts a row before the rows that come after it.

@@ -10,7 +10,6 @@ use std::sync::Arc;
 ///
 /// A contract sees it as the list of its column names and the list of its rows. Its rows share its
 /// memory, and so do its indices.
-#[derive(Drop)]
 pub struct Table {
     pub(crate) sheet: Arc<Sheet>,
 }
@@ -25,6 +24,12 @@ impl Model for Table {
     ghost view = { λ t. arc_value t.sheet };
 
     ghost invariant = { λ t. length (arc_value t.sheet).rows ≤ 1000000 };
+}
+
+impl Drop for Table {
+    fn drop(self) {
+        let Table { sheet: _sheet } = self;
+    }
 }
 
 impl Table {

@@ -1,4 +1,4 @@
-//! Each call of `server`, and a client by hand that owns its plan, in an example of a few lines. The command prints what each gives.
+//! Each call of `server`, in an example of a few lines. The command prints what each gives.
 #![tactic(auto)]
 
 mod books;
@@ -7,11 +7,10 @@ use anyhow::bail;
 use books::{Books, fetch_books};
 use futures::executor::block_on;
 use server::{
-    ByHand, ClientAdvance, ClientSession, CountedDevice, FetchFault, Item, Key, LoadAdvance,
-    LoadByHand, Outcome, Pending, Request, Row, Server, Sessions, Workers, serve, serve_with,
-    source_fn,
+    ByHand, ClientAdvance, ClientSession, CountedDevice, FetchFault, HandedIn, Item, Key,
+    LoadAdvance, LoadByHand, Outcome, Pending, Request, Row, Server, Sessions, Workers, serve,
+    serve_with, source_fn,
 };
-use server_owned::{HandedIn, OwnedByHand};
 use std::alloc::{AllocError, AllocGlobal, Global};
 use std::random::RandomSource;
 use std::sync::Wait;
@@ -107,7 +106,7 @@ fn answer_text_with_workers<R: Threads + Wait + AllocGlobal + Sync>(
 }
 
 // The caller answers the orders of a round itself, here the last one first. A batch may fail as a whole.
-fn answer_orders(alloc: Global, by_hand: &mut ByHand<'_, Books>) -> anyhow::Result<()> {
+fn answer_orders(alloc: Global, by_hand: &mut ByHand<Books>) -> anyhow::Result<()> {
     for number in (0..by_hand.orders().len()).rev() {
         if let Some(Pending::Out(order)) = by_hand.orders().get(number) {
             let items = fetch_books(alloc, order.keys());
@@ -121,7 +120,7 @@ fn answer_orders(alloc: Global, by_hand: &mut ByHand<'_, Books>) -> anyhow::Resu
 fn by_hand(alloc: Global, server: &Server) -> anyhow::Result<String> {
     let mut client = server.session(alloc, Some(1), |_line| Books)?;
     let planned = client.plan(&asking("{books(ids:[1,3,1]){title}}"))?;
-    let mut by_hand = client.by_hand(&planned);
+    let mut by_hand = client.by_hand(planned);
     for _round in 0..MOST_ROUNDS {
         match by_hand.advance()? {
             ClientAdvance::Answered(answer) => return Ok(answer.text),
@@ -135,7 +134,7 @@ fn by_hand(alloc: Global, server: &Server) -> anyhow::Result<String> {
 fn refused_by_hand(alloc: Global, server: &Server) -> anyhow::Result<String> {
     let mut client = server.session(alloc, None, |_line| Books)?;
     let planned = client.plan_text("{}".as_bytes())?;
-    let mut by_hand = client.by_hand(&planned);
+    let mut by_hand = client.by_hand(planned);
     let step = by_hand.advance()?;
     let asked = by_hand
         .into_client()
@@ -152,44 +151,36 @@ fn refused_by_hand(alloc: Global, server: &Server) -> anyhow::Result<String> {
     }
 }
 
-// Returns what the books give for the orders of a round that is out, of which none is answered yet.
-fn fetch_orders(
-    alloc: Global,
-    orders: &[Pending],
-) -> Result<Vec<Result<Vec<Item>, FetchFault>>, AllocError> {
-    let mut answers = Vec::new(alloc);
-    for order in orders {
-        if let Pending::Out(order) = order {
-            answers.push(fetch_books(alloc, order.keys()))?;
+// Answers the orders of a round that is out.
+fn answer_round(alloc: Global, by_hand: &mut ByHand<HandedIn>) -> anyhow::Result<()> {
+    for number in 0..by_hand.orders().len() {
+        if let Some(Pending::Out(order)) = by_hand.orders().get(number) {
+            let items = fetch_books(alloc, order.keys());
+            by_hand.answer(number, items)?;
         }
     }
-    Ok(answers)
+    Ok(())
 }
 
 // Takes a request by hand to its answer, on whichever thread has it.
-fn answer_owned(alloc: Global, owned: OwnedByHand) -> anyhow::Result<String> {
-    let mut owned = owned;
+fn answer_elsewhere(alloc: Global, by_hand: ByHand<HandedIn>) -> anyhow::Result<String> {
+    let mut by_hand = by_hand;
     for _round in 0..MOST_ROUNDS {
-        if let ClientAdvance::Answered(answer) = owned.advance()? {
+        if let ClientAdvance::Answered(answer) = by_hand.advance()? {
             return Ok(answer.text);
         }
-        let answers = owned.see_orders(&mut (), |orders, _| fetch_orders(alloc, orders))?;
-        for (number, items) in answers.into_iter().enumerate() {
-            owned.answer(number, items)?;
-        }
+        answer_round(alloc, &mut by_hand)?;
     }
     bail!("too many rounds")
 }
 
-// A client and its plan in one value, which goes to another thread.
-fn owned_by_hand<R: Threads + AllocGlobal>(rt: &R, server: &Server) -> anyhow::Result<String> {
+// A request by hand owns its client and its plan, so it goes to another thread.
+fn on_another_thread<R: Threads + AllocGlobal>(rt: &R, server: &Server) -> anyhow::Result<String> {
     let alloc = rt.alloc();
     let mut client = server.session(alloc, Some(1), |_line| HandedIn)?;
     let planned = client.plan(&asking("{books(ids:[3,1]){title}}"))?;
-    let Ok(owned) = OwnedByHand::new(alloc, client, planned) else {
-        bail!("out of memory")
-    };
-    let answering = thread::spawn(rt, move || answer_owned(alloc, owned))?;
+    let by_hand = client.by_hand(planned);
+    let answering = thread::spawn(rt, move || answer_elsewhere(alloc, by_hand))?;
     answering.join(rt)
 }
 
@@ -255,7 +246,7 @@ fn as_a_future<R: Wait + RandomSource + AllocGlobal>(
 ) -> anyhow::Result<String> {
     let mut client = server.session(rt.alloc(), None, |_line| Books)?;
     let planned = client.plan_all(&[Some(asking("{book(id:2){title}}")), None])?;
-    let (_client, answer) = block_on(rt, client.into_answering(&planned))?;
+    let (_client, answer) = block_on(rt, client.into_answering(planned))?;
     Ok(answer?.text)
 }
 
@@ -374,28 +365,47 @@ fn show_keys(
     Ok(())
 }
 
+// The calls of one session, in turn.
+fn show_session(rt: &impl Print, alloc: Global, server: &Server) -> anyhow::Result<()> {
+    let mut session = server.session(alloc, None, |_line| Books)?;
+    show_requests(rt, alloc, &mut session)?;
+    show_keys(rt, alloc, &mut session)?;
+    println!(rt; "serve: {}", serve_lines(alloc, &mut session)?)?;
+    Ok(())
+}
+
+// The calls that ask by workers.
+fn show_workers<R: Print + Threads + Wait + AllocGlobal + Sync>(
+    rt: &R,
+    server: &Server,
+) -> anyhow::Result<()> {
+    println!(rt; "answer_with: {}", answer_with_workers(rt, server)?)?;
+    println!(rt; "answer_all_with: {}", answer_all_with_workers(rt, server)?)?;
+    println!(rt;
+        "answer_text_with: {}",
+        answer_text_with_workers(rt, server)?
+    )?;
+    println!(rt; "serve_with: {}", serve_lines_with_workers(rt, server)?)?;
+    Ok(())
+}
+
+// The calls whose rounds the caller runs.
+fn show_by_hand<R: Print + Threads + AllocGlobal>(rt: &R, server: &Server) -> anyhow::Result<()> {
+    let alloc = rt.alloc();
+    println!(rt; "by_hand: {}", by_hand(alloc, server)?)?;
+    println!(rt; "refused by hand: {}", refused_by_hand(alloc, server)?)?;
+    println!(rt; "owned by hand: {}", on_another_thread(rt, server)?)?;
+    println!(rt; "load by hand: {}", load_by_hand(alloc, server)?)?;
+    Ok(())
+}
+
 fn main(rt: HostRuntime) -> anyhow::Result<()> {
     let alloc = rt.alloc();
     let server = Server::read(alloc, SCHEMA, BINDINGS)?;
-    let mut session = server.session(alloc, None, |_line| Books)?;
-    show_requests(&rt, alloc, &mut session)?;
-    show_keys(&rt, alloc, &mut session)?;
-    println!(rt; "serve: {}", serve_lines(alloc, &mut session)?)?;
+    show_session(&rt, alloc, &server)?;
     println!(rt; "source_fn: {}", source_of_a_function(alloc, &server)?)?;
-    println!(rt; "answer_with: {}", answer_with_workers(&rt, &server)?)?;
-    println!(rt;
-        "answer_all_with: {}",
-        answer_all_with_workers(&rt, &server)?
-    )?;
-    println!(rt;
-        "answer_text_with: {}",
-        answer_text_with_workers(&rt, &server)?
-    )?;
-    println!(rt; "serve_with: {}", serve_lines_with_workers(&rt, &server)?)?;
-    println!(rt; "by_hand: {}", by_hand(alloc, &server)?)?;
-    println!(rt; "refused by hand: {}", refused_by_hand(alloc, &server)?)?;
-    println!(rt; "owned by hand: {}", owned_by_hand(&rt, &server)?)?;
-    println!(rt; "load by hand: {}", load_by_hand(alloc, &server)?)?;
+    show_workers(&rt, &server)?;
+    show_by_hand(&rt, &server)?;
     println!(rt; "a shared server: {}", share_a_server(&rt, &server)?)?;
     println!(rt; "into_answering: {}", as_a_future(&rt, &server)?)?;
     println!(rt; "loads_read: {}", loads_read(alloc, &server)?)?;

@@ -41,11 +41,12 @@ fn write_both(
     calls: &Calls,
 ) -> Result<()> {
     ensure!(session.loaders().len() >= 2, "too few loaders");
-    let totals = [total_of(alloc, "ada")?, total_of(alloc, "bob")?];
-    for (total, answer) in totals.iter().zip(session.answer_all(&totals)?) {
+    let customers = ["ada", "bob"];
+    let totals = vec![in alloc; total_of(alloc, "ada")?, total_of(alloc, "bob")?]?;
+    for (customer, answer) in customers.iter().zip(session.answer_all(totals)?) {
         println!(rt;
-            "  total of {}: {}, rounds {}",
-            total.customer, answer.text, answer.rounds
+            "  total of {customer}: {}, rounds {}",
+            answer.text, answer.rounds
         )?;
     }
     let record = record(alloc, session, calls)?;

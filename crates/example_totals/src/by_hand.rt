@@ -123,9 +123,9 @@ fn note(
 }
 
 /// Answers what can be executed in rounds by hand, and notes what each asks.
-pub fn answer_by_hand<'p, E: Drop, P: Execute<'p, E>>(
+pub fn answer_by_hand<E: Drop, P: Execute<E>>(
     alloc: Global,
-    plan: &'p P,
+    plan: &P,
     session: &mut Session<CountedTable<'_>>,
     elsewhere: Elsewhere,
     notes: &mut String,

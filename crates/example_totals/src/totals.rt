@@ -145,7 +145,7 @@ impl FriendsTotal {
     }
 }
 
-impl<'p> Execute<'p, Anew> for FriendsTotal {
+impl Execute<Anew> for FriendsTotal {
     ghost program = { λ total. total_of_friends (string_bytes total.customer) };
 
     ghost text_of = { λ _. total_text };
@@ -154,12 +154,12 @@ impl<'p> Execute<'p, Anew> for FriendsTotal {
 
     ghost fits = { λ _ _ _. ⊤ };
 
-    fn start(&'p self) -> Anew {
+    fn start(&self) -> Anew {
         Anew
     }
 
     fn execute(
-        &'p self,
+        &self,
         _progress: &mut Anew,
         alloc: Global,
         memory: &Memory,

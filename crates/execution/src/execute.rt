@@ -18,10 +18,9 @@ use std::alloc::{AllocError, Global};
 /// same pairs.
 ///
 /// `E` is a parameter and no associated type: an `impl` of another crate's trait has to name a type of its own
-/// crate, as that of `gq_resolve` for plans names its progress. The trait has a lifetime, since a progress
-/// borrows the plan, and laws of such a trait can't be used by a caller; so [`execute`](Execute::execute)
-/// itself says which loaders are asked (`within`).
-pub trait Execute<'p, E> {
+/// crate, as that of `gq_resolve` for plans names its progress. [`execute`](Execute::execute) itself says which
+/// loaders are asked (`within`).
+pub trait Execute<E> {
     // the program: the loads that it asks for, one at a time
     ghost program: { Self → Program };
 
@@ -35,7 +34,7 @@ pub trait Execute<'p, E> {
     ghost fits: { Self → E → MemoryOf → Type 0 };
 
     /// An execution of which nothing is done.
-    fn start(&'p self) -> E
+    fn start(&self) -> E
         ensures { (m : MemoryOf) → fits self.now result m };
 
     /// Goes on with an execution over the memory. If loads are missing, adds them to the wants.
@@ -45,7 +44,7 @@ pub trait Execute<'p, E> {
     /// When out of memory. The trait says nothing then of the wants, which a session drops, nor of the
     /// progress, which fails with its answer.
     fn execute(
-        &'p self,
+        &self,
         progress: &mut E,
         alloc: Global,
         memory: &Memory,

@@ -22,7 +22,6 @@ pub struct KeySizes {
 /// Lists of keys in flat buffers.
 ///
 /// A contract sees them as lists of keys.
-#[derive(Drop)]
 pub struct KeyLists {
     // for each list how many keys it has
     counts: Vec<u32>,
@@ -41,6 +40,16 @@ impl Model for KeyLists {
     ghost view = { λ l. lists_said l.counts.items l.shapes.items l.texts };
 
     ghost invariant = { λ l. AreWritten (lists_said l.counts.items l.shapes.items l.texts) l.counts.items l.shapes.items l.texts };
+}
+
+impl Drop for KeyLists {
+    fn drop(self) {
+        let KeyLists {
+            counts: _counts,
+            shapes: _shapes,
+            texts: _texts,
+        } = self;
+    }
 }
 
 // Writes a key at the end. When out of memory, nothing is known of what was written.

@@ -18,7 +18,6 @@ use std::marker::Model;
 ///
 /// Orders are written once, when their round is made, so the sizes that a host asks for are those of what it
 /// copies then, and a copy is a few moves of bytes.
-#[derive(Drop)]
 pub struct FlatOrders {
     loaders: Vec<u32>,
     keys: KeyLists,
@@ -34,6 +33,15 @@ impl Model for FlatOrders {
     ghost view = { λ o. paired_orders o.loaders.items o.keys };
 
     ghost invariant = { λ o. length o.loaders.items ≡ length o.keys };
+}
+
+impl Drop for FlatOrders {
+    fn drop(self) {
+        let FlatOrders {
+            loaders: _loaders,
+            keys: _keys,
+        } = self;
+    }
 }
 
 impl FlatOrders {

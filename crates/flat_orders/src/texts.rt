@@ -15,7 +15,6 @@ pub struct WrongSize;
 /// Texts in one buffer, each from where the one before it ends.
 ///
 /// A contract sees them as a list.
-#[derive(Drop)]
 pub struct TextBuffer {
     text: String,
     ends: Vec<u32>,
@@ -30,6 +29,15 @@ impl Model for TextBuffer {
     ghost view = { λ b. cut (string_bytes b.text) 0 b.ends.items };
 
     ghost invariant = { λ b. IsCut (string_bytes b.text) 0 b.ends.items };
+}
+
+impl Drop for TextBuffer {
+    fn drop(self) {
+        let TextBuffer {
+            text: _text,
+            ends: _ends,
+        } = self;
+    }
 }
 
 impl TextBuffer {

@@ -86,7 +86,6 @@ fn write_outcome<'a>(
 /// The outcomes of keys in flat buffers.
 ///
 /// A contract sees them as outcomes, one for each key, in order.
-#[derive(Drop)]
 pub struct FlatOutcomes {
     buffers: Buffers,
 }
@@ -101,6 +100,12 @@ impl Model for FlatOutcomes {
     ghost view = { λ o. said_by o.buffers };
 
     ghost invariant = { λ o. AreWhole o.buffers };
+}
+
+impl Drop for FlatOutcomes {
+    fn drop(self) {
+        let FlatOutcomes { buffers: _buffers } = self;
+    }
 }
 
 impl FlatOutcomes {

@@ -1,2 +1,4 @@
 pub mod EndLaws
+pub mod KeyedItems
+pub mod KeyedLaws
 pub mod ReplyLaws

@@ -1,2 +1,5 @@
+pub mod Examples
 pub mod Faults
+pub mod Grouped
+pub mod Keyed
 pub mod Replies

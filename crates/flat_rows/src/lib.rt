@@ -4,10 +4,13 @@
 //! whole or refused with its first fault (`ReplyFault`). All rows of a reply share one sheet.
 #![tactic(auto)]
 
+pub mod examples;
 mod fault;
+mod keyed;
 mod reply;
 mod texts;
 
 pub use fault::FlatFault;
+pub use keyed::{KeyedBy, KeyedFault, KeyedReply};
 pub use reply::{FlatReply, KEY_FAULT};
 pub use texts::FlatTexts;

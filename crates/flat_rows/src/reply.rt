@@ -31,9 +31,9 @@ pub struct FlatReply<'h> {
 
 // Numbers of rows of all keys, and of keys with a fault.
 #[derive(Clone, Copy)]
-struct Totals {
-    rows: u32,
-    faults: usize,
+pub(crate) struct Totals {
+    pub(crate) rows: u32,
+    pub(crate) faults: usize,
 }
 
 // `None` where there are more rows than 32 bits count.
@@ -92,7 +92,7 @@ fn add_row(sheet: &mut SheetBuilder, texts: &FlatTexts<'_>, at: usize) -> Result
 }
 
 // The sheet of `columns` columns and `rows` rows.
-fn sheet_of(
+pub(crate) fn sheet_of(
     alloc: Global,
     columns: usize,
     rows: u32,
@@ -113,7 +113,7 @@ fn sheet_of(
 }
 
 // The sheet, to be shared by its rows.
-fn share_sheet(alloc: Global, sheet: Sheet) -> Result<Arc<Sheet>, AllocError>
+pub(crate) fn share_sheet(alloc: Global, sheet: Sheet) -> Result<Arc<Sheet>, AllocError>
     ensures { IfOk result
         (λ shared. arc_value shared ≡ sheet) }
 {
@@ -202,14 +202,14 @@ fn items(
 }
 
 // Tells whether there are rows, and no column.
-fn lacks_column(columns: usize, rows: u32) -> bool
+pub(crate) fn lacks_column(columns: usize, rows: u32) -> bool
     ensures { IsTrue result ↔ (columns ≡ 0) × (0 < rows) }
 {
     columns == 0 && rows > 0
 }
 
 // The number of texts that the columns, rows and faults take. `None` where `usize` doesn't count them.
-fn wanted(columns: usize, totals: &Totals) -> Option<usize>
+pub(crate) fn wanted(columns: usize, totals: &Totals) -> Option<usize>
     ensures some { IfSome result (λ n.
         n ≡ columns + totals.now.rows * columns + totals.now.faults) }
     ensures none { IfNone result

@@ -1,5 +1,6 @@
 -- Definitions of what contracts see of loaders and bindings.
 use Rattle.std.specs.Prelude.{map, option_map, string_bytes}
+use Rattle.std.specs.Arc.{arc_value}
 use Rattle.bindings_syntax.specs.Statements.{ByOf, PartOf, argument_part, column_part, KeyOf, from_argument, from_column, from_all, from_pair}
 use Rattle.gq_bindings.specs.declared.binding.By.{By}
 use Rattle.gq_bindings.specs.declared.binding.KeyPart.{KeyPart}
@@ -42,7 +43,7 @@ binding_of (binding.Column column) = by_column (string_bytes column)
 binding_of (binding.One loader key) = by_one loader (key_of key)
 binding_of (binding.Many loader key) = by_many loader (key_of key)
 binding_of (binding.Each loader argument) = by_each loader (string_bytes argument)
-binding_of (binding.Via loader key steps) = by_via loader (key_of key) (map step_of steps.items)
+binding_of (binding.Via loader key steps) = by_via loader (key_of key) (map step_of (arc_value steps).items)
 
 abbrev pub bound_of : BoundField → BoundFieldOf
 bound_of f = record {

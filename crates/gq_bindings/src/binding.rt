@@ -1,5 +1,7 @@
 //! Loaders and bindings: the parts of the lines of a bindings text.
 
+use std::sync::Arc;
+
 /// By which column of its table, or by which two, a loader finds the rows of a key.
 #[derive(Debug, Drop)]
 pub struct By {
@@ -74,7 +76,7 @@ pub enum Binding {
         loader: usize,
         key: KeyOrigin,
         /// One to three loaders after the first.
-        steps: Vec<ViaLoader>,
+        steps: Arc<Vec<ViaLoader>>,
     },
 }
 

@@ -41,7 +41,6 @@ fn place_of(places: &FieldIndices, type_name: &str, field_name: &str) -> Option<
 }
 
 /// The bindings of fields in the order in which they came, each field of a type once.
-#[derive(Drop)]
 pub struct BoundFields {
     entries: Vec<BoundField>,
     places: FieldIndices,
@@ -59,6 +58,15 @@ impl Model for BoundFields {
     ghost view = { λ s. map bound_of s.entries.items };
 
     ghost invariant = { λ s. (q r : List ℕ) → place_in s.places q r ≡ place_from 0 (binds q r) (map bound_of s.entries.items) };
+}
+
+impl Drop for BoundFields {
+    fn drop(self) {
+        let BoundFields {
+            entries: _entries,
+            places: _places,
+        } = self;
+    }
 }
 
 impl BoundFields {

@@ -22,6 +22,7 @@ use bindings_syntax::{
 use gq_schema::Schema;
 use schema_syntax::FieldDefinition;
 use std::alloc::{AllocError, Global};
+use std::sync::Arc;
 
 /// The number of a loader that finds its rows by exactly one column.
 fn keyed_loader(loaders: &Loaders, name: &str) -> Option<usize>
@@ -281,6 +282,7 @@ impl Target<'_> {
             return Ok(None);
         };
         let key = owned_key(alloc, key)?;
+        let steps = Arc::new(alloc, steps)?;
         Ok(Some(Binding::Via { loader, key, steps }))
     }
 

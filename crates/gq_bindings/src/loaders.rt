@@ -26,7 +26,6 @@ fn note(
 }
 
 /// The loaders in order, each name once.
-#[derive(Drop)]
 pub struct Loaders {
     lines: Vec<LoaderLine>,
     numbers: HashMap<String, usize>,
@@ -44,6 +43,15 @@ impl Model for Loaders {
     ghost view = { λ s. map loader_of s.lines.items };
 
     ghost invariant = { λ s. (q : List ℕ) → get_by_text s.numbers q ≡ number_of (loader_in (map loader_of s.lines.items) q) };
+}
+
+impl Drop for Loaders {
+    fn drop(self) {
+        let Loaders {
+            lines: _lines,
+            numbers: _numbers,
+        } = self;
+    }
 }
 
 /// A loader with its number.

@@ -23,7 +23,6 @@ use std::marker::Model;
 
 /// Bindings of a schema's fields: the loaders, and the binding of each field of an object
 /// type.
-#[derive(Drop)]
 pub struct Bindings {
     loaders: Loaders,
     fields: BoundFields,
@@ -35,6 +34,15 @@ impl Model for Bindings {
     ghost Value = { BindingsOf };
 
     ghost view = { λ b. record { loaders = b.loaders; fields = b.fields } };
+}
+
+impl Drop for Bindings {
+    fn drop(self) {
+        let Bindings {
+            loaders: _loaders,
+            fields: _fields,
+        } = self;
+    }
 }
 
 fn owned_text(alloc: Global, text: Option<&str>) -> Result<Option<String>, AllocError>

@@ -16,7 +16,6 @@ use std::collections::HashMap;
 use std::marker::Model;
 
 /// Fragments in their order, each found by its name. A contract sees the list.
-#[derive(Drop)]
 pub struct Fragments {
     items: Vec<Fragment>,
     places: PlacesByName,
@@ -40,6 +39,15 @@ impl Model for Fragments {
     ghost view = { λ f. f.items.items };
 
     ghost invariant = { λ f. ArePlaces is_fragment (fragments_of f.items.items) f.places };
+}
+
+impl Drop for Fragments {
+    fn drop(self) {
+        let Fragments {
+            items: _items,
+            places: _places,
+        } = self;
+    }
 }
 
 // The place of the first fragment of each name.

@@ -15,6 +15,7 @@ use gq_parser::{
 };
 use gq_schema::{ArgDef, FoundField, FoundType, Schema, accepts};
 use merging_members::operation_fields;
+use std::sync::Arc;
 
 // The most fields of a document that is looked at: with more, comparing the keys of a set in pairs may cost more than it spares.
 // There are no more levels than fields.
@@ -210,7 +211,7 @@ fn is_served_name(name: &str) -> bool
 fn stands_alone(
     found: &Option<FoundField>,
     arguments: &[Argument],
-    set: &Option<SelectionSet>,
+    set: &Option<Arc<SelectionSet>>,
 ) -> bool
     ensures { result ≡ stands_alone (option_map (λ f. definitions.field_of f.definition.now)
         found.now) (tree.arguments_of arguments.now) (tree.below_of set.now) }

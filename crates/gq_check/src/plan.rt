@@ -20,7 +20,6 @@ use std::sync::Arc;
 /// It shares all of these, and borrows nothing.
 ///
 /// A contract sees its parts, and `plan_of` says what they are.
-#[derive(Drop)]
 pub struct Plan {
     schema: Arc<Schema>,
     bindings: Arc<Bindings>,
@@ -48,6 +47,18 @@ impl Model for Plan {
     ghost view = { λ p. plan_parts p.schema p.bindings p.operation p.fragments p.variables };
 
     ghost invariant = { λ p. IsPlan (plan_of (plan_parts p.schema p.bindings p.operation p.fragments p.variables)) };
+}
+
+impl Drop for Plan {
+    fn drop(self) {
+        let Plan {
+            schema: _schema,
+            bindings: _bindings,
+            operation: _operation,
+            fragments: _fragments,
+            variables: _variables,
+        } = self;
+    }
 }
 
 impl Plan {

@@ -17,7 +17,6 @@ use std::marker::Model;
 const MANY_VARIABLES: usize = 8;
 
 /// Variables in their order, each found by its name. A contract sees the list.
-#[derive(Drop)]
 pub struct Variables {
     items: Vec<Variable>,
     // empty while the variables are few
@@ -40,6 +39,15 @@ impl Model for Variables {
     ghost view = { λ v. v.items.items };
 
     ghost invariant = { λ v. ArePlacesIf is_variable (variables_of v.items.items) v.places };
+}
+
+impl Drop for Variables {
+    fn drop(self) {
+        let Variables {
+            items: _items,
+            places: _places,
+        } = self;
+    }
 }
 
 // The place of the first variable of each name.

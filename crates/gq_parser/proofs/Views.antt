@@ -2,6 +2,7 @@
 use Rattle.std.proofs.Common.{◌≡◌, ℕ, Bool, List, [], ◌∷◌, ◌++◌, map, Option, Some, None, refl, sym, ap, ◌∙◌}
 use Rattle.std.specs.Global.{Vec, Global}
 use Rattle.std.specs.declared.boxed.Box.{Box}
+use Rattle.std.specs.declared.sync.Arc.{Arc}
 use Rattle.text_place.specs.declared.place.Place.{Place}
 use Rattle.gq_parser.specs.declared.tree.Argument as rust-argument
 use Rattle.gq_parser.specs.declared.tree.Literal as rust-literal
@@ -84,7 +85,7 @@ selection_spread s = ap selection_of (sym (selection.rolls-Spread s)) ∙ fold-r
 pub selection_inline : (i : rust-inline.Inline) → selection_of (selection.Inline i) ≡ inline_of i
 selection_inline i = ap selection_of (sym (selection.rolls-Inline i)) ∙ fold-roll-Selection Selection Selection Selection SelectionSet selection_step field_step inline_step set_step (open-selection.Inline i)
 
-pub of_field : (p : Place) (alias : Option (List ℕ)) (n : List ℕ) (as' : Vec rust-argument.Argument) (ds : Vec rust-directive.Directive) (s : Option rust-set.SelectionSet)
+pub of_field : (p : Place) (alias : Option (List ℕ)) (n : List ℕ) (as' : Vec rust-argument.Argument) (ds : Vec rust-directive.Directive) (s : Option (Arc rust-set.SelectionSet Global))
     → field_of (roll-Field (record { place = p; alias = alias; name = n; arguments = as'; directives = ds; selection_set = s }))
     ≡ Field p alias n (arguments_of as'.items) (directives_of ds.items) (below_of s)
 of_field p alias n as' ds None = fold-roll-Field Selection Selection Selection SelectionSet selection_step field_step inline_step set_step (record { place = p; alias = alias; name = n; arguments = as'; directives = ds; selection_set = None })

@@ -1,5 +1,8 @@
 -- The trees of the grammar, without where they lie in memory. Texts are lists of bytes.
 use Rattle.std.specs.Prelude.{ℕ, Bool, List, [], ◌∷◌, map, Option, Some, None}
+use Rattle.std.specs.Arc.{arc_value}
+use Rattle.std.specs.declared.alloc.Global.{Global}
+use Rattle.std.specs.declared.sync.Arc.{Arc}
 use Rattle.text_place.specs.declared.place.Place.{Place}
 use Rattle.gq_parser.specs.declared.tree.OperationKind.{OperationKind}
 use Rattle.gq_parser.specs.declared.tree.Argument as rust-argument
@@ -202,9 +205,9 @@ selections_then (s ∷ ss) others = and_selection s (selections_then ss others)
 abbrev pub selections_of : List Selection → Selections
 selections_of ss = selections_then ss no_selection
 
-abbrev pub below_if : Option SelectionSet → Below
+abbrev pub below_if : Option (Arc SelectionSet Global) → Below
 below_if None = nothing_below
-below_if (Some s) = below s
+below_if (Some s) = below (arc_value s)
 
 abbrev pub set_step : open-selection.SelectionSet-F Selection Selection Selection SelectionSet
     → SelectionSet
@@ -243,9 +246,9 @@ abbrev pub inline_of : rust-inline.Inline → Selection
 inline_of = fold-Inline Selection Selection Selection SelectionSet selection_step
     field_step inline_step set_step
 
-abbrev pub below_of : Option rust-set.SelectionSet → Below
+abbrev pub below_of : Option (Arc rust-set.SelectionSet Global) → Below
 below_of None = nothing_below
-below_of (Some s) = below (set_of s)
+below_of (Some s) = below (set_of (arc_value s))
 
 abbrev pub map_selections : List rust-selection.Selection → Selections
 map_selections ss = selections_of (map selection_of ss)

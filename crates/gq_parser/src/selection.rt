@@ -14,6 +14,7 @@ use crate::tree::{Field, Inline, Selection, SelectionSet, Spread, TypeCondition}
 use crate::value::Constness;
 use gq_lexer::{LocatedText, Place, Punct};
 use short_text::Text;
+use std::sync::Arc;
 
 /// Holds what a field is called.
 #[derive(Drop)]
@@ -142,7 +143,7 @@ impl Parser<'_> {
 
     /// A selection set, where a brace opens it.
     #[cycle(selection)]
-    fn maybe_set(&mut self, room: u32) -> Result<Option<SelectionSet>, Fault>
+    fn maybe_set(&mut self, room: u32) -> Result<Option<Arc<SelectionSet>>, Fault>
         ensures reads { ReadsOne (λ s. IsOptionalSet (below_of s))
             MaybeSet room self.old self.new result }
         ensures shrinks { OnOk result
@@ -154,7 +155,8 @@ impl Parser<'_> {
         if room == 0 {
             return Err(Fault::TooDeep(place));
         }
-        Ok(Some(self.selections(place, room - 1)?))
+        let set = self.selections(place, room - 1)?;
+        Ok(Some(Arc::new(self.alloc, set)?))
     }
 
     /// A selection set.

@@ -8,6 +8,7 @@ ghost use Rattle.gq_parser.specs.Types.{named_of, named_place, is_non_null, is_l
 
 use gq_lexer::Place;
 use short_text::Text;
+use std::sync::Arc;
 
 /// A document: its operations and its fragments, each in the order of the text (section 2.2).
 ///
@@ -27,7 +28,7 @@ pub enum OperationKind {
 }
 
 /// An operation (section 2.3). A selection set that stands alone is a query without a name.
-#[derive(Debug, Drop)]
+#[derive(Debug)]
 pub struct Operation {
     /// The place of its first token: its kind's word, or the `{` where it has none.
     pub place: Place,
@@ -36,6 +37,19 @@ pub struct Operation {
     pub variables: Vec<VariableDefinition>,
     pub directives: Vec<Directive>,
     pub selection_set: SelectionSet,
+}
+
+impl Drop for Operation {
+    fn drop(self) {
+        let Operation {
+            place: _,
+            kind: _,
+            name: _name,
+            variables: _variables,
+            directives: _directives,
+            selection_set: _selection_set,
+        } = self;
+    }
 }
 
 /// A fragment's definition (section 2.8). Its name is not `on`.
@@ -58,7 +72,7 @@ pub struct TypeCondition {
 }
 
 /// The definition of a variable (section 2.10). Neither its default nor its directives use variables.
-#[derive(Debug, Drop)]
+#[derive(Debug)]
 pub struct VariableDefinition {
     /// The place of its `$`.
     pub place: Place,
@@ -67,6 +81,18 @@ pub struct VariableDefinition {
     pub of_type: TypeRef,
     pub default: Option<Literal>,
     pub directives: Vec<Directive>,
+}
+
+impl Drop for VariableDefinition {
+    fn drop(self) {
+        let VariableDefinition {
+            place: _,
+            name: _name,
+            of_type: _of_type,
+            default: _default,
+            directives: _directives,
+        } = self;
+    }
 }
 
 /// Holds what is selected of an object, at least one selection (section 2.4).
@@ -87,7 +113,7 @@ pub enum Selection {
     Inline(Inline),
 }
 
-/// A field, with what is selected below it (section 2.5).
+/// A field, with what is selected below it (section 2.5), which may be shared.
 #[derive(Debug, Drop)]
 #[cycle(selection)]
 pub struct Field {
@@ -97,7 +123,7 @@ pub struct Field {
     pub name: Text,
     pub arguments: Vec<Argument>,
     pub directives: Vec<Directive>,
-    pub selection_set: Option<SelectionSet>,
+    pub selection_set: Option<Arc<SelectionSet>>,
 }
 
 /// A fragment's spread (section 2.8). Its name is not `on`.

@@ -18,3 +18,5 @@ pub mod Holding
 pub mod Limiting
 pub mod KeyByKey
 pub mod ReadingOn
+pub mod PlanCrossing
+pub mod Crossing

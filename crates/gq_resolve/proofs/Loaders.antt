@@ -9,7 +9,7 @@ use Rattle.load_memory.specs.Keys.{KeyOf, text, pair}
 use Rattle.load_memory.specs.Rows.{RowOf, cell_of}
 use Rattle.load_memory.specs.Outcomes.{OutcomeOf, known, batch_fault, rows, key_fault}
 use Rattle.schema_syntax.specs.Tree.{Definition, Field}
-use Rattle.gq_parser.specs.Tree.{TypeTree}
+use Rattle.gq_parser.specs.Tree.{TypeTree, Below}
 use Rattle.gq_schema.specs.Inputs.{Input, Items, Int, Text, Boolean, Null as NullInput}
 use Rattle.gq_schema.specs.Types.{field_in}
 use Rattle.gq_bindings.specs.Tree.{StepOf, BindingOf, by_column, by_one, by_many, by_each, by_via, binding_in}
@@ -184,10 +184,10 @@ module _ (n : ℕ) where
   places-fit non_null place i f [] each = tt
   places-fit non_null place i f (x ∷ xs) each = (refl, each x, places-fit non_null place (suc i) f xs each)
 
-  module _ (defs : List Definition) (objects : Objects) (each : (ty : List ℕ) (fields : List FieldOf) (row : RowOf) → Fits n (objects ty fields row)) where
+  module _ (defs : List Definition) (objects : Objects) (each : (ty : List ℕ) (below : List Below) (row : RowOf) → Fits n (objects ty below row)) where
     typed-fits : (below : ChildrenOf) (row : RowOf) (t : TypeOf) → Fits n (typed_object objects below row t)
     typed-fits below row (type_fault fault) = tt
-    typed-fits below row (object_type ty) = each ty below.fields row
+    typed-fits below row (object_type ty) = each ty below.below row
 
     row-fits : (below : ChildrenOf) (row : RowOf) → Fits n (row_object defs objects below row)
     row-fits below row = typed-fits below row (type_of_row defs below.type_name row)
@@ -216,10 +216,10 @@ module _ (n : ℕ) where
     fields-fit row i [] h = tt
     fields-fit row i (p ∷ ps) h = (subst (λ (part : Part). step_in ObjectOf i part ≡ part) (sym h.0.1) refl, asked-fits row p.asked h.0.2, fields-fit row (suc i) ps h.1)
 
-program-fits : (plan : PlanOf) (levels : ℕ) (ty : List ℕ) (fields : List FieldOf) (row : RowOf) → Fits (length plan.bindings.loaders) (object_program plan levels ty fields row)
-program-fits plan zero ty fields row = tt
-program-fits plan (suc levels) ty fields row =
-    fields-fit (length plan.bindings.loaders) plan.definitions (object_program plan levels) (program-fits plan levels) row 0 _ (prepared-fit plan ty (collect_subfields plan ty nothing_collected fields).groups)
+program-fits : (plan : PlanOf) (levels : ℕ) (ty : List ℕ) (below : List Below) (row : RowOf) → Fits (length plan.bindings.loaders) (object_program plan levels ty below row)
+program-fits plan zero ty below row = tt
+program-fits plan (suc levels) ty below row =
+    fields-fit (length plan.bindings.loaders) plan.definitions (object_program plan levels) (program-fits plan levels) row 0 _ (prepared-fit plan ty (collect_subfields plan ty nothing_collected below).groups)
 
 pub plan-fits : (plan : PlanOf) → Fits (length plan.bindings.loaders) (plan_program plan)
 plan-fits plan = fields-fit (length plan.bindings.loaders) plan.definitions (object_program plan most_levels) (program-fits plan most_levels) [] 0 (root_prepared plan) (prepared-fit plan _ _)

@@ -4,7 +4,7 @@ use Rattle.std.proofs.Common.{◌≡◌, ◌<◌, ℕ, zero, suc, Bool, true, fa
 use Rattle.std.proofs.lemmas.Bool.{ltb-true, and_parts}
 use Rattle.std.specs.Prelude.{nat_lt, if◌then◌else◌, bytes_eq, codes}
 use Rattle.text_place.specs.declared.place.Place.{Place}
-use Rattle.gq_parser.specs.Tree.{TypeTree}
+use Rattle.gq_parser.specs.Tree.{TypeTree, Below}
 use Rattle.schema_syntax.specs.Tree.{Definition, Field}
 use Rattle.gq_bindings.specs.Tree.{StepOf, BindingOf, by_column, by_one, by_many, by_each, by_via, binding_in}
 use Rattle.gq_schema.specs.Inputs.{Input}
@@ -136,12 +136,12 @@ module _ (n : ℕ) where
   AreAskedWithin [] = Unit {0}
   AreAskedWithin (p ∷ ps) = IsAskedWithin p.asked × AreAskedWithin ps
 
-  module _ (defs : List Definition) (objects : Objects) (h : (ty : List ℕ) (fields : List FieldOf)
-      (row : RowOf) → HasLoaders n (objects ty fields row)) where
+  module _ (defs : List Definition) (objects : Objects) (h : (ty : List ℕ) (below : List Below)
+      (row : RowOf) → HasLoaders n (objects ty below row)) where
     within-typed : (below : ChildrenOf) (row : RowOf) (t : TypeOf)
         → HasLoaders n (typed_object objects below row t)
     within-typed below row (type_fault fault) = λ R l h. absurd h
-    within-typed below row (object_type ty) = h ty below.fields row
+    within-typed below row (object_type ty) = h ty below.below row
 
     within-row : (below : ChildrenOf) (row : RowOf)
         → HasLoaders n (row_object defs objects below row)
@@ -282,14 +282,14 @@ module _ (plan : PlanOf) where
   asked-all ty [] = tt
   asked-all ty (g ∷ gs) = (asked-first ty g g.fields, asked-all ty gs)
 
-  within-object : (levels : ℕ) (ty : List ℕ) (fields : List FieldOf) (row : RowOf)
-      → HasLoaders (length plan.bindings.loaders) (object_program plan levels ty fields row)
-  within-object zero ty fields row = λ R l h. absurd h
-  within-object (suc levels) ty fields row =
+  within-object : (levels : ℕ) (ty : List ℕ) (below : List Below) (row : RowOf)
+      → HasLoaders (length plan.bindings.loaders) (object_program plan levels ty below row)
+  within-object zero ty below row = λ R l h. absurd h
+  within-object (suc levels) ty below row =
       within-fields (length plan.bindings.loaders) plan.definitions (object_program plan levels)
       (within-object levels) row
-      (all_prepared plan ty (collect_subfields plan ty nothing_collected fields).groups)
-      (asked-all ty (collect_subfields plan ty nothing_collected fields).groups)
+      (all_prepared plan ty (collect_subfields plan ty nothing_collected below).groups)
+      (asked-all ty (collect_subfields plan ty nothing_collected below).groups)
 
   -- a plan's program asks no loader but those that its bindings define
   pub plan-loads : HasLoaders (length plan.bindings.loaders) (plan_program plan)

@@ -51,12 +51,8 @@ abbrev pub FitsStopped : PlanOf → MemoryOf → Option Suspension → Type 0
 FitsStopped plan m None = Unit {0}
 FitsStopped plan m (Some s) = FitsWaiting plan m s.rooted s.waiting
 
--- gives what plan it executes
-abbrev pub plan_in : RootState → PlanOf
-plan_in s = plan_of s.plan.now
-
-abbrev pub FitsMemory : RootState → MemoryOf → Type 0
-FitsMemory s m = FitsStopped (plan_in s) m s.stopped
+abbrev pub FitsMemory : PlanOf → RootState → MemoryOf → Type 0
+FitsMemory plan s m = FitsStopped plan m s.stopped
 
 -- ---- how far a poll comes
 

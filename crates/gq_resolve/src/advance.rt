@@ -28,29 +28,29 @@ const MOST_LEVELS: u32 = 128;
 
 /// The positions of the root object, its row, which has no columns, and the groups that were met.
 #[derive(Drop)]
-pub struct RootObject<'p> {
-    pub members: Arc<Vec<Member<'p>>>,
+pub struct RootObject {
+    pub members: Arc<Vec<Member>>,
     pub row: Row,
-    pub groups: Vec<LoadingField<'p>>,
+    pub groups: Vec<LoadingField>,
 }
 
 /// A walk over a plan that came to its end: the root, whose groups may be more than before, and what it was put into.
 #[derive(Drop)]
-pub struct FinishedWalk<'p, S> {
-    pub rooted: RootObject<'p>,
+pub struct FinishedWalk<S> {
+    pub rooted: RootObject,
     pub out: S,
 }
 
 /// Says where an execution stopped: what was prepared, and the positions that wait. It begins at its root again where none are
 /// kept.
 #[derive(Drop)]
-pub struct Suspension<'p> {
-    pub rooted: RootObject<'p>,
+pub struct Suspension {
+    pub rooted: RootObject,
     pub waiting: Waiting,
 }
 
 /// The root object (section 6.2.1).
-pub fn prepare_root<'p>(walk: &Walk<'_, 'p>) -> Result<RootObject<'p>, AllocError>
+pub fn prepare_root(walk: &Walk<'_>) -> Result<RootObject, AllocError>
     ensures { IfOk result
         (IsRooted (plan_of walk.now.plan.now)) }
 {
@@ -66,9 +66,9 @@ pub fn prepare_root<'p>(walk: &Walk<'_, 'p>) -> Result<RootObject<'p>, AllocErro
     })
 }
 
-impl<'p> RootObject<'p> {
+impl RootObject {
     /// A copy, which shares the members and the row.
-    pub fn copy(&self) -> Result<RootObject<'p>, AllocError>
+    pub fn copy(&self) -> Result<RootObject, AllocError>
         ensures { IfOk result (λ copy.
             (plan : PlanOf) → IsRooted plan self.now → IsRooted plan copy) }
     {
@@ -81,12 +81,12 @@ impl<'p> RootObject<'p> {
 }
 
 /// Goes over the whole plan, into a sink in which nothing waits at a later group.
-pub fn go_over<'p, S: Sink + Drop>(
-    walk: &Walk<'_, 'p>,
-    rooted: RootObject<'p>,
+pub fn go_over<S: Sink + Drop>(
+    walk: &Walk<'_>,
+    rooted: RootObject,
     out: S,
-) -> Result<FinishedWalk<'p, S>, AllocError>
-    ensures { IsRooted (plan_on walk.now) rooted.entry → WaitsBelow S.below rooted.entry out
+) -> Result<FinishedWalk<S>, AllocError>
+    ensures { IsRooted (plan_on walk.now) rooted → WaitsBelow S.below rooted out
         → IfOk result (GoesOverTour S.goes walk.now out) }
 {
     let RootObject {
@@ -112,12 +112,12 @@ pub fn go_over<'p, S: Sink + Drop>(
 }
 
 // Goes over the whole plan, and writes as long as nothing is missing and the text isn't too long.
-fn write_output<'p>(
-    walk: &Walk<'_, 'p>,
+fn write_output(
+    walk: &Walk<'_>,
     most: usize,
-    rooted: RootObject<'p>,
-) -> Result<FinishedWalk<'p, Output>, AllocError>
-    ensures { IsRooted (plan_on walk.now) rooted.entry
+    rooted: RootObject,
+) -> Result<FinishedWalk<Output>, AllocError>
+    ensures { IsRooted (plan_on walk.now) rooted
         → IfOk result (Advanced (plan_on walk.now) walk.now.memory.now) }
 {
     let mut out = Output::new(walk.alloc, most)?;
@@ -133,11 +133,8 @@ fn write_output<'p>(
 }
 
 // Looks for the loads of the whole plan alone, and writes nothing.
-fn search_root<'p>(
-    walk: &Walk<'_, 'p>,
-    rooted: RootObject<'p>,
-) -> Result<FinishedWalk<'p, Output>, AllocError>
-    ensures { IsRooted (plan_on walk.now) rooted.entry
+fn search_root(walk: &Walk<'_>, rooted: RootObject) -> Result<FinishedWalk<Output>, AllocError>
+    ensures { IsRooted (plan_on walk.now) rooted
         → IfOk result (Advanced (plan_on walk.now) walk.now.memory.now) }
 {
     let out = Output::waiting_only(walk.alloc);
@@ -146,12 +143,12 @@ fn search_root<'p>(
 }
 
 // Goes over the whole plan. Over a memory that has no pair a root that loads can't be answered, so it writes nothing then.
-fn begin<'p>(
-    walk: &Walk<'_, 'p>,
+fn begin(
+    walk: &Walk<'_>,
     most: usize,
-    rooted: RootObject<'p>,
-) -> Result<FinishedWalk<'p, Output>, AllocError>
-    ensures { IsRooted (plan_on walk.now) rooted.entry
+    rooted: RootObject,
+) -> Result<FinishedWalk<Output>, AllocError>
+    ensures { IsRooted (plan_on walk.now) rooted
         → IfOk result (Advanced (plan_on walk.now) walk.now.memory.now) }
 {
     if rooted.groups.is_empty() || !walk.memory.is_empty() {
@@ -165,11 +162,8 @@ fn begin<'p>(
 }
 
 /// The response of a plan over a memory that has all that it needs.
-pub fn build_response<'p>(
-    walk: &Walk<'_, 'p>,
-    rooted: RootObject<'p>,
-) -> Result<ExecutionResult, AllocError>
-    ensures { IsRooted (plan_on walk.now) rooted.entry
+pub fn build_response(walk: &Walk<'_>, rooted: RootObject) -> Result<ExecutionResult, AllocError>
+    ensures { IsRooted (plan_on walk.now) rooted
         → IfOk result (IsResponse (plan_on walk.now) walk.now.memory.now) }
 {
     let walked = go_over(walk, rooted, Builder::new(walk.alloc))?;
@@ -177,12 +171,12 @@ pub fn build_response<'p>(
 }
 
 // Goes on at the positions that wait, and looks for loads alone.
-fn search_waiting<'p>(
-    walk: &Walk<'_, 'p>,
-    rooted: RootObject<'p>,
+fn search_waiting(
+    walk: &Walk<'_>,
+    rooted: RootObject,
     waiting: Waiting,
-) -> Result<FinishedWalk<'p, Output>, AllocError>
-    ensures { MayGoOn (plan_on walk.now) walk.now.memory.now rooted.entry waiting
+) -> Result<FinishedWalk<Output>, AllocError>
+    ensures { MayGoOn (plan_on walk.now) walk.now.memory.now rooted waiting
         → IfOk result (Advanced (plan_on walk.now) walk.now.memory.now) }
 {
     let RootObject {
@@ -214,12 +208,12 @@ fn search_waiting<'p>(
 }
 
 // Goes on from where an execution stopped, or begins it.
-fn advance_text<'p>(
-    walk: &Walk<'_, 'p>,
+fn advance_text(
+    walk: &Walk<'_>,
     most: usize,
-    stopped: Option<Suspension<'p>>,
-) -> Result<FinishedWalk<'p, Output>, AllocError>
-    ensures { FitsTour walk.now stopped.entry
+    stopped: Option<Suspension>,
+) -> Result<FinishedWalk<Output>, AllocError>
+    ensures { FitsTour walk.now stopped
         → IfOk result (Advanced (plan_on walk.now) walk.now.memory.now) }
 {
     let Some(Suspension { rooted, waiting }) = stopped else {
@@ -237,12 +231,12 @@ fn advance_text<'p>(
 
 /// Goes on with each load that the memory has. Where nothing is missing, it comes to the end, and has written an answer without
 /// errors that isn't longer than `most` bytes. Else it adds what is missing to the wants, and keeps where it stopped.
-pub fn advance<'p>(
-    walk: &Walk<'_, 'p>,
+pub fn advance(
+    walk: &Walk<'_>,
     most: usize,
-    stopped: &mut Option<Suspension<'p>>,
+    stopped: &mut Option<Suspension>,
     wants: &mut Wants,
-) -> Result<Option<FinishedWalk<'p, Output>>, AllocError>
+) -> Result<Option<FinishedWalk<Output>>, AllocError>
     requires { CanExecute (length (plan_on walk.now).bindings.loaders)
         walk.now.memory.now wants.old }
     ensures ok { FitsTour walk.now stopped.old

@@ -7,10 +7,19 @@ use answer_json::{FieldError, Response, write_answer};
 use std::alloc::{AllocError, Global};
 
 /// A response with its errors, in depth-first order of the response (sections 6.4.3 and 6.4.4).
-#[derive(Debug, Drop)]
+#[derive(Debug)]
 pub struct ExecutionResult {
     pub response: Response,
     pub errors: Vec<FieldError>,
+}
+
+impl Drop for ExecutionResult {
+    fn drop(self) {
+        let ExecutionResult {
+            response: _response,
+            errors: _errors,
+        } = self;
+    }
 }
 
 /// The text of an answer (section 7.1): its errors first and only where there are some, then its data, with no space between

@@ -91,10 +91,10 @@ impl Sink for Unread {
 }
 
 // Reads the load of a position, and adds the positions that wait after it.
-fn read_on<'p>(
-    walk: &Walk<'_, 'p>,
+fn read_on(
+    walk: &Walk<'_>,
     memory: &Memory,
-    at: &mut Progress<'p, Unread>,
+    at: &mut Progress<Unread>,
     position: &BlockedPosition,
 ) -> Result<(), AllocError>
     ensures { OnOk result (ReadsOn walk.now memory.now position.now at.old at.new) }
@@ -112,11 +112,7 @@ fn read_on<'p>(
 }
 
 // Returns how many loads are read from these positions on. The tour's own memory knows nothing, so that it stops at each load.
-fn read_all<'p>(
-    walk: &Walk<'_, 'p>,
-    memory: &Memory,
-    at: &mut Progress<'p, Unread>,
-) -> Result<u64, AllocError>
+fn read_all(walk: &Walk<'_>, memory: &Memory, at: &mut Progress<Unread>) -> Result<u64, AllocError>
     requires { walk.now.memory.now.pairs ≡ [] }
     ensures { IsReading (plan_on walk.now) at.old
         → IfOk result (λ count. count ≡ counted (left_read (plan_on walk.now) memory.now at.old)) }

@@ -16,12 +16,12 @@ use std::alloc::AllocError;
 /// The text of an answer of which nothing is missing. None only where it is certain that it has more than `most` bytes.
 ///
 /// It goes over the plan twice: for the errors, and where they leave nulls, and then for the text. So it holds no more than these.
-pub fn faulted_text<'p>(
-    walk: &Walk<'_, 'p>,
-    rooted: RootObject<'p>,
+pub fn faulted_text(
+    walk: &Walk<'_>,
+    rooted: RootObject,
     most: usize,
 ) -> Result<Option<String>, AllocError>
-    ensures { IsRooted (plan_on walk.now) rooted.entry → IfOk result
+    ensures { IsRooted (plan_on walk.now) rooted → IfOk result
         (AnswersWithin most (plan_program (plan_on walk.now)) (lookup walk.now.memory.now)) }
 {
     let faults = BoundedFaults::new(walk.alloc, most);
@@ -35,8 +35,8 @@ pub fn faulted_text<'p>(
 }
 
 /// Does the same without a limit.
-pub fn whole_text<'p>(walk: &Walk<'_, 'p>, rooted: RootObject<'p>) -> Result<String, AllocError>
-    ensures { IsRooted (plan_on walk.now) rooted.entry
+pub fn whole_text(walk: &Walk<'_>, rooted: RootObject) -> Result<String, AllocError>
+    ensures { IsRooted (plan_on walk.now) rooted
         → IfOk result (IsAnswerText (plan_on walk.now) walk.now.memory.now) }
 {
     match faulted_text(walk, rooted, NO_LIMIT)? {

@@ -35,7 +35,6 @@ pub struct OpenLevel {
 ///
 /// The objects and lists of the answer are numbered as they begin, from 0. One that is null has the number of the next that isn't:
 /// what begins in it isn't in the answer.
-#[derive(Drop)]
 pub struct Faults {
     alloc: Global,
     /// Holds what has begun and not ended, outermost first.
@@ -49,6 +48,21 @@ pub struct Faults {
     /// The numbers of the nulls, in order.
     pub nulls: Vec<usize>,
     pub errors: Vec<FieldError>,
+}
+
+impl Drop for Faults {
+    fn drop(self) {
+        let Faults {
+            alloc: _,
+            levels: _levels,
+            path: _path,
+            nullability: _nullability,
+            place: _,
+            count: _,
+            nulls: _nulls,
+            errors: _errors,
+        } = self;
+    }
 }
 
 /// Returns a count of one more. No memory has so many of what is counted that there is none.

@@ -25,8 +25,8 @@ mod most_groups;
 mod output;
 mod plan;
 mod prepared_plan;
-mod resolve;
 mod root_state;
+mod threads;
 mod units;
 mod wanting;
 
@@ -34,6 +34,5 @@ pub use answered::{ExecutionResult, answer_text};
 pub use counting::loads_read;
 pub use limited_plan::LimitedPlan;
 pub use prepared_plan::PreparedPlan;
-pub use resolve::Resolve;
 pub use root_state::RootState;
 pub use units::{ArgFault, Args, CompletedValue, Group, arguments_of, collect, complete, evaluate};

@@ -32,12 +32,12 @@ fn limit_text(alloc: Global, text: String, most: usize) -> Result<String, AllocE
 
 /// The text of an answer of which nothing is missing, or its refusal where that has more bytes. An answer without errors was
 /// written, if it isn't too long. Any other is written now.
-pub fn text_or_refusal<'p>(
-    walk: &Walk<'_, 'p>,
-    walked: FinishedWalk<'p, Output>,
+pub fn text_or_refusal(
+    walk: &Walk<'_>,
+    walked: FinishedWalk<Output>,
     most: usize,
 ) -> Result<String, AllocError>
-    ensures { IsDone (plan_on walk.now) walk.now.memory.now walked.entry
+    ensures { IsDone (plan_on walk.now) walk.now.memory.now walked
         → IfOk result (IsLimitedAnswer most (plan_on walk.now) walk.now.memory.now) }
 {
     let FinishedWalk { rooted, out } = walked;

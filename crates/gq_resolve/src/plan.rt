@@ -2,7 +2,7 @@
 ghost use Rattle.std.specs.Prelude.{◌≡◌, length};
 ghost use Rattle.gq_check.specs.Plans.{plan_of};
 ghost use Rattle.gq_resolve.specs.Answered.{answer_text};
-ghost use Rattle.gq_resolve.specs.Suspended.{plan_in, FitsMemory};
+ghost use Rattle.gq_resolve.specs.Suspended.{FitsMemory};
 ghost use Rattle.plan_program.specs.PlanPrograms.{plan_program};
 
 use crate::root_state::RootState;
@@ -13,26 +13,26 @@ use load_memory::Memory;
 use load_queue::Wants;
 use std::alloc::{AllocError, Global};
 
-impl<'p> Execute<'p, RootState<'p>> for Plan {
+impl Execute<RootState> for Plan {
     ghost program = { λ plan. plan_program (plan_of plan) };
 
     ghost text_of = { λ _. answer_text };
 
     ghost loaders = { λ plan. length (plan_of plan).bindings.loaders };
 
-    ghost fits = { λ plan state m. (plan_in state ≡ plan_of plan) × FitsMemory state m };
+    ghost fits = { λ plan state m. FitsMemory (plan_of plan) state m };
 
-    fn start(&'p self) -> RootState<'p> {
+    fn start(&self) -> RootState {
         RootState::new(self)
     }
 
     fn execute(
-        &'p self,
-        progress: &mut RootState<'p>,
+        &self,
+        progress: &mut RootState,
         alloc: Global,
         memory: &Memory,
         wants: &mut Wants,
     ) -> Result<Poll<String>, AllocError> {
-        progress.poll_text(alloc, memory, wants)
+        progress.poll_text(alloc, self, memory, wants)
     }
 }

@@ -1,10 +1,13 @@
 //! Plans that are prepared ahead, for requests that come again.
 
-ghost use Rattle.std.specs.Prelude.{◌≡◌, IfOk};
+ghost use Rattle.std.specs.Prelude.{◌≡◌, IfOk, OnOk};
+ghost use Rattle.load_memory.specs.Pairs.{MemoryOf};
+ghost use Rattle.gq_check.specs.Plans.{plan_of};
+ghost use Rattle.gq_resolve.specs.Suspended.{FitsMemory};
 
 use crate::advance::{RootObject, prepare_root};
-use crate::limited_plan::LimitedPlan;
 use crate::most_groups::{most_ahead_of, most_groups_of};
+use crate::root_state::RootState;
 use gq_check::Plan;
 use load_memory::Memory;
 use plan_walk::loading_fields::prepare_below;
@@ -14,63 +17,95 @@ use std::marker::Model;
 
 /// A plan, and what each execution of it would prepare anew: the fields of its root, and those of objects below.
 ///
-/// It is executed by [`within`](PreparedPlan::within) a limit, as often as is wanted. Each execution answers as that of a
-/// [`LimitedPlan`] that was not prepared: it begins with a copy, of a block of memory for all groups and one for each group
-/// below which objects of several types were prepared.
+/// It is executed within a limit ([`LimitedPlan`](crate::LimitedPlan)), as often as is wanted. Each execution answers as the plan itself
+/// does: it begins with a copy, of a block of memory for all groups and one for each group below which objects of several
+/// types were prepared.
+///
+/// It owns all of that: an `Arc` shares it between threads, and a cache or a handle keeps it.
 ///
 /// A contract sees the plan.
-#[derive(Drop)]
-pub struct PreparedPlan<'p> {
-    plan: &'p Plan,
-    rooted: RootObject<'p>,
+pub struct PreparedPlan {
+    plan: Plan,
+    // Nothing where the plan is executed once, and so prepares as it goes on.
+    rooted: Option<RootObject>,
 }
 
-impl<'p> Model for PreparedPlan<'p> {
+impl Model for PreparedPlan {
     ghost use Rattle.std.specs.Coded.{codes};
+    ghost use Rattle.std.specs.Prelude.{IfSome};
     ghost use Rattle.gq_parser.specs.contracts.tree.TypeRef as type_ref;
     ghost use Rattle.gq_parser.specs.contracts.tree.Literal as literal;
     ghost use Rattle.gq_parser.specs.contracts.tree.Argument as argument;
     ghost use Rattle.gq_parser.specs.contracts.tree.SelectionSet as set;
     ghost use Rattle.gq_schema.specs.contracts.input.Input as input;
     ghost use Rattle.gq_check.specs.Plans.{plan_of};
+    ghost use Rattle.gq_check.specs.Plans.{PlanParts};
     ghost use Rattle.gq_resolve.specs.Suspended.{IsRooted};
-    ghost use Rattle.gq_resolve.specs.PreparedPlans.{PreparedPlanOf};
 
-    ghost Value = { PreparedPlanOf };
+    ghost Value = { PlanParts };
 
     ghost coded = { Prim.hlevel (codes, type_ref.the_row.coded, literal.the_row.coded, argument.the_row.coded, set.the_row.coded, input.the_row.coded) };
 
-    ghost view = { λ p. record { plan = p.plan.now } };
+    ghost view = { λ p. p.plan };
 
-    ghost invariant = { λ p. IsRooted (plan_of p.plan.now) p.rooted };
+    ghost invariant = { λ p. IfSome p.rooted (IsRooted (plan_of p.plan)) };
 }
 
-impl<'p> PreparedPlan<'p> {
+impl Drop for PreparedPlan {
+    fn drop(self) {
+        let PreparedPlan {
+            plan: _plan,
+            rooted: _rooted,
+        } = self;
+    }
+}
+
+impl PreparedPlan {
     /// Prepares a plan.
     ///
     /// # Errors
     ///
     /// Only when out of memory.
-    pub fn new(alloc: Global, plan: &'p Plan) -> Result<PreparedPlan<'p>, AllocError>
-        ensures { IfOk result (λ prepared. prepared.plan ≡ plan.now) }
+    pub fn new(alloc: Global, plan: Plan) -> Result<PreparedPlan, AllocError>
+        ensures { IfOk result (λ prepared. prepared ≡ plan) }
     {
         let memory = Memory::new(alloc, Vec::new(alloc))?;
         let walk = Walk {
             alloc,
-            plan,
+            plan: &plan,
             memory: &memory,
-            most: most_groups_of(plan),
+            most: most_groups_of(&plan),
         };
         let mut rooted = prepare_root(&walk)?;
-        prepare_below(&walk, &mut rooted.groups, most_ahead_of(plan))?;
-        Ok(PreparedPlan { plan, rooted })
+        prepare_below(&walk, &mut rooted.groups, most_ahead_of(&plan))?;
+        Ok(PreparedPlan {
+            plan,
+            rooted: Some(rooted),
+        })
     }
 
-    /// The plan within a limit, with what was prepared of it.
-    pub fn within<'r>(&'r self, most: Option<usize>) -> LimitedPlan<'r, 'p>
-        ensures plan { result.plan ≡ self.now.plan }
-        ensures most { result.most ≡ most }
+    /// A plan that is executed once: nothing is prepared ahead, and so nothing is copied.
+    pub fn for_one_use(plan: Plan) -> PreparedPlan
+        ensures { result ≡ plan }
     {
-        LimitedPlan::with_root(self.plan, most, &self.rooted)
+        PreparedPlan { plan, rooted: None }
+    }
+
+    /// Returns the plan.
+    pub fn plan(&self) -> &Plan
+        ensures { result.now ≡ self.now }
+    {
+        &self.plan
+    }
+
+    // Begins an execution with a copy of what was prepared, where nothing of it is done yet.
+    pub(crate) fn begin(&self, progress: &mut RootState) -> Result<(), AllocError>
+        ensures { OnOk result ((m : MemoryOf) → FitsMemory (plan_of self.now) progress.old m
+            → FitsMemory (plan_of self.now) progress.new m) }
+    {
+        match &self.rooted {
+            Some(rooted) => progress.begin_prepared(rooted),
+            None => Ok(()),
+        }
     }
 }

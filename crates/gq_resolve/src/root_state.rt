@@ -3,12 +3,12 @@
 ghost use Rattle.std.specs.Prelude.{◌≡◌, length, IfOk, OnOk, OnErr};
 ghost use Rattle.load_memory.specs.Pairs.{MemoryOf};
 ghost use Rattle.execution.specs.Executes.{CanExecute, IsExecuted, GrowsTo};
-ghost use Rattle.gq_check.specs.Plans.{plan_of};
+ghost use Rattle.gq_check.specs.Plans.{PlanOf, plan_of};
 ghost use Rattle.plan_program.specs.PlanPrograms.{plan_program};
 ghost use Rattle.gq_resolve.specs.Answered.{answer_text};
-ghost use Rattle.gq_resolve.specs.Evaluated.{missing_over, AddsPart};
+ghost use Rattle.gq_resolve.specs.Evaluated.{missing_over, IsEvaluated, AddsPart};
 ghost use Rattle.gq_resolve.specs.Limited.{limited_answer};
-ghost use Rattle.gq_resolve.specs.Suspended.{plan_in, FitsMemory, IsRooted};
+ghost use Rattle.gq_resolve.specs.Suspended.{FitsMemory, IsRooted};
 
 use crate::advance::{FinishedWalk, RootObject, Suspension, advance, build_response};
 use crate::answered::ExecutionResult;
@@ -16,7 +16,6 @@ use crate::faulted_text::whole_text;
 use crate::limited::text_or_refusal;
 use crate::most_groups::most_groups_of;
 use crate::output::NO_LIMIT;
-use crate::resolve::Resolve;
 use futures::task::Poll;
 use gq_check::Plan;
 use load_memory::Memory;
@@ -25,41 +24,44 @@ use plan_walk::waiting::Waiting;
 use plan_walk::walk::Walk;
 use std::alloc::{AllocError, Global};
 
-/// The execution of a plan, which goes on where it stopped.
+/// The execution of a plan, which goes on where it stopped. It owns what it keeps, and is given its plan at each poll.
 ///
 /// A poll goes on at the positions that wait, looks below them for loads alone, and reads no cell but those of
 /// keys; over a memory without a pair it begins so at the root. When none waits, a walk from the root writes the
 /// answer, so each object is visited twice at most.
 /// Where nothing below the positions can load, what was prepared is kept alone, and the next poll is that walk.
-#[derive(Drop)]
-pub struct RootState<'p> {
-    plan: &'p Plan,
+pub struct RootState {
     /// Says how many groups are kept at most.
     most: usize,
     /// Nothing before it is polled, after it has answered, and after it was out of memory: it then begins at its root.
-    stopped: Option<Suspension<'p>>,
+    stopped: Option<Suspension>,
 }
 
-impl<'p> RootState<'p> {
+impl Drop for RootState {
+    fn drop(self) {
+        let RootState {
+            most: _,
+            stopped: _stopped,
+        } = self;
+    }
+}
+
+impl RootState {
     /// The execution of a plan, of which nothing is done. It takes no memory.
-    pub fn new(plan: &'p Plan) -> RootState<'p>
-        ensures plan { plan_in result ≡ plan_of plan.now }
-        ensures fits { (m : MemoryOf)
-            → FitsMemory result m }
+    pub fn new(plan: &Plan) -> RootState
+        ensures { (m : MemoryOf)
+            → FitsMemory (plan_of plan.now) result m }
     {
         RootState {
-            plan,
             most: most_groups_of(plan),
             stopped: None,
         }
     }
 
     /// Begins with a copy of what was prepared of the plan, where nothing is done yet.
-    pub(crate) fn begin_prepared(&mut self, prepared: &RootObject<'p>) -> Result<(), AllocError>
-        ensures same_plan { plan_in self.new
-            ≡ plan_in self.old }
-        ensures fits { OnOk result (IsRooted (plan_in self.old) prepared.now → (m : MemoryOf)
-            → FitsMemory self.old m → FitsMemory self.new m) }
+    pub(crate) fn begin_prepared(&mut self, prepared: &RootObject) -> Result<(), AllocError>
+        ensures { (plan : PlanOf) → OnOk result (IsRooted plan prepared.now → (m : MemoryOf)
+            → FitsMemory plan self.old m → FitsMemory plan self.new m) }
     {
         if self.stopped.is_none() {
             let rooted = prepared.copy()?;
@@ -72,7 +74,7 @@ impl<'p> RootState<'p> {
         Ok(())
     }
 
-    /// [`poll`](Resolve::poll) to the text of the answer (section 7.1). An answer without errors is written straight from
+    /// [`poll`](RootState::poll) to the text of the answer (section 7.1). An answer without errors is written straight from
     /// the rows.
     ///
     /// # Errors
@@ -81,22 +83,21 @@ impl<'p> RootState<'p> {
     pub fn poll_text(
         &mut self,
         alloc: Global,
+        plan: &Plan,
         memory: &Memory,
         wants: &mut Wants,
     ) -> Result<Poll<String>, AllocError>
-        requires { CanExecute (length (plan_in self.old).bindings.loaders) memory.now wants.old }
-        ensures ok { FitsMemory self.old memory.now → IfOk result (IsExecuted answer_text
-            wants.old wants.new (plan_program (plan_in self.old)) memory.now) }
-        ensures err { FitsMemory self.old memory.now → OnErr result (AddsPart wants.old
-            wants.new (missing_over memory.now (plan_program (plan_in self.old)))) }
-        ensures grown { (m : MemoryOf) → FitsMemory self.old memory.now
-            → GrowsTo memory.now m → FitsMemory self.new m }
-        ensures same_plan { plan_in self.new
-            ≡ plan_in self.old }
+        requires { CanExecute (length (plan_of plan.now).bindings.loaders) memory.now wants.old }
+        ensures ok { FitsMemory (plan_of plan.now) self.old memory.now → IfOk result (IsExecuted answer_text
+            wants.old wants.new (plan_program (plan_of plan.now)) memory.now) }
+        ensures err { FitsMemory (plan_of plan.now) self.old memory.now → OnErr result (AddsPart wants.old
+            wants.new (missing_over memory.now (plan_program (plan_of plan.now)))) }
+        ensures grown { (m : MemoryOf) → FitsMemory (plan_of plan.now) self.old memory.now
+            → GrowsTo memory.now m → FitsMemory (plan_of plan.now) self.new m }
     {
         let walk = Walk {
             alloc,
-            plan: self.plan,
+            plan,
             memory,
             most: self.most,
         };
@@ -120,23 +121,22 @@ impl<'p> RootState<'p> {
     pub fn poll_text_within(
         &mut self,
         alloc: Global,
+        plan: &Plan,
         memory: &Memory,
         wants: &mut Wants,
         most: usize,
     ) -> Result<Poll<String>, AllocError>
-        requires { CanExecute (length (plan_in self.old).bindings.loaders) memory.now wants.old }
-        ensures ok { FitsMemory self.old memory.now → IfOk result (IsExecuted (limited_answer most)
-            wants.old wants.new (plan_program (plan_in self.old)) memory.now) }
-        ensures err { FitsMemory self.old memory.now → OnErr result (AddsPart wants.old
-            wants.new (missing_over memory.now (plan_program (plan_in self.old)))) }
-        ensures grown { (m : MemoryOf) → FitsMemory self.old memory.now
-            → GrowsTo memory.now m → FitsMemory self.new m }
-        ensures same_plan { plan_in self.new
-            ≡ plan_in self.old }
+        requires { CanExecute (length (plan_of plan.now).bindings.loaders) memory.now wants.old }
+        ensures ok { FitsMemory (plan_of plan.now) self.old memory.now → IfOk result (IsExecuted (limited_answer most)
+            wants.old wants.new (plan_program (plan_of plan.now)) memory.now) }
+        ensures err { FitsMemory (plan_of plan.now) self.old memory.now → OnErr result (AddsPart wants.old
+            wants.new (missing_over memory.now (plan_program (plan_of plan.now)))) }
+        ensures grown { (m : MemoryOf) → FitsMemory (plan_of plan.now) self.old memory.now
+            → GrowsTo memory.now m → FitsMemory (plan_of plan.now) self.new m }
     {
         let walk = Walk {
             alloc,
-            plan: self.plan,
+            plan,
             memory,
             most: self.most,
         };
@@ -145,24 +145,32 @@ impl<'p> RootState<'p> {
             None => Ok(Poll::Pending),
         }
     }
-}
 
-impl<'p> Resolve for RootState<'p> {
-    ghost plan = { plan_in };
-
-    ghost program = { λ s. plan_program (plan_in s) };
-
-    ghost fits = { FitsMemory };
-
-    fn poll(
+    /// Goes on with each load that the memory has. It is ready with the answer where nothing is missing, and else adds what
+    /// is needed and missing to the wants, depth first.
+    ///
+    /// # Errors
+    ///
+    /// Only when out of memory. The wants hold what they held, and the first of what was to be added. The
+    /// execution fits every memory again, since the next poll begins anew (`err`, `grown`).
+    pub fn poll(
         &mut self,
         alloc: Global,
+        plan: &Plan,
         memory: &Memory,
         wants: &mut Wants,
-    ) -> Result<Poll<ExecutionResult>, AllocError> {
+    ) -> Result<Poll<ExecutionResult>, AllocError>
+        requires { CanExecute (length (plan_of plan.now).bindings.loaders) memory.now wants.old }
+        ensures ok { FitsMemory (plan_of plan.now) self.old memory.now → IfOk result (λ polled.
+            IsEvaluated wants.old wants.new (plan_program (plan_of plan.now)) memory.now polled) }
+        ensures err { FitsMemory (plan_of plan.now) self.old memory.now → OnErr result
+            (AddsPart wants.old wants.new (missing_over memory.now (plan_program (plan_of plan.now)))) }
+        ensures grown { (m : MemoryOf) → FitsMemory (plan_of plan.now) self.old memory.now
+            → GrowsTo memory.now m → FitsMemory (plan_of plan.now) self.new m }
+    {
         let walk = Walk {
             alloc,
-            plan: self.plan,
+            plan,
             memory,
             most: self.most,
         };

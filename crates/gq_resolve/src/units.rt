@@ -15,7 +15,6 @@ ghost use Rattle.gq_resolve.specs.Evaluated.{missing_over, IsEvaluated, AddsPart
 
 use crate::answered::ExecutionResult;
 use crate::level::is_null;
-use crate::resolve::Resolve;
 use crate::root_state::RootState;
 use answer_json::Response;
 use futures::task::Poll;
@@ -77,5 +76,5 @@ pub fn evaluate(
         (AddsPart wants.old wants.new (missing_over memory.now (plan_program (plan_of plan.now)))) }
 {
     let mut state = RootState::new(plan);
-    state.poll(alloc, memory, wants)
+    state.poll(alloc, plan, memory, wants)
 }

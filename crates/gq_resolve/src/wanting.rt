@@ -132,7 +132,7 @@ fn want_all(
 }
 
 // Tells whether something below one of them may load.
-fn any_may_load(groups: &[LoadingField<'_>], waiting: &Waiting) -> bool {
+fn any_may_load(groups: &[LoadingField], waiting: &Waiting) -> bool {
     waiting
         .as_slice()
         .iter()
@@ -143,7 +143,7 @@ fn any_may_load(groups: &[LoadingField<'_>], waiting: &Waiting) -> bool {
 /// below them can load, that walk is the last one anyway.
 pub fn add_wants(
     alloc: Global,
-    groups: &[LoadingField<'_>],
+    groups: &[LoadingField],
     waiting: Waiting,
     loaders: usize,
     wants: &mut Wants,

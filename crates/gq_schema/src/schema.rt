@@ -23,7 +23,6 @@ use std::marker::Model;
 /// The types of a schema with their fields, arguments, values and possible types, each found by its name (section 3).
 ///
 /// The four built-in scalars are types of each schema.
-#[derive(Drop)]
 pub struct Schema {
     definitions: Vec<IndexedDefinition>,
     root: Option<String>,
@@ -52,6 +51,19 @@ impl Model for Schema {
 
     ghost invariant = { λ s. IsIndexed s.definitions.items s.root s.types s.possible
         s.root_entry s.field_entries.items };
+}
+
+impl Drop for Schema {
+    fn drop(self) {
+        let Schema {
+            definitions: _definitions,
+            root: _root,
+            types: _types,
+            possible: _possible,
+            root_entry: _root_entry,
+            field_entries: _field_entries,
+        } = self;
+    }
 }
 
 // The name of the root, where `schema` names this one.

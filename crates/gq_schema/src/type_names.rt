@@ -9,7 +9,6 @@ use std::collections::HashSet;
 use std::marker::Model;
 
 /// Names in the order in which they came, each once. A clause sees the list of their texts.
-#[derive(Drop)]
 pub struct TypeNames {
     names: Vec<String>,
     present: HashSet<String>,
@@ -25,6 +24,15 @@ impl Model for TypeNames {
     ghost view = { λ s. map string_bytes s.names.items };
 
     ghost invariant = { λ s. (q : List ℕ) → contains_text s.present q ≡ list_any (bytes_eq q) (map string_bytes s.names.items) };
+}
+
+impl Drop for TypeNames {
+    fn drop(self) {
+        let TypeNames {
+            names: _names,
+            present: _present,
+        } = self;
+    }
 }
 
 impl TypeNames {

@@ -2,7 +2,7 @@
 use Rattle.std.proofs.Common.{◌≡◌, ◌∙◌, sym, ap, subst, Some, Ok, Err}
 use Rattle.std.specs.Prelude.{Result, IfErr, OnOk, OnErr}
 use Rattle.server.specs.Clients.{ClientOf}
-use Rattle.server_owned.specs.declared.handed_in.HandedIn.{HandedIn}
+use Rattle.rounds_by_hand.specs.declared.handed_in.HandedIn.{HandedIn}
 use Rattle.host_clients.specs.Asked.{HostAsked}
 use Rattle.host_clients.specs.Clients.{Begins, IsBegun, client_in}
 use Rattle.host_clients.specs.Refused.{BeginFault}

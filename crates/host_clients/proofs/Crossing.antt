@@ -4,24 +4,22 @@ use denote.Param.Send.{IsSend, sendable}
 use denote.Param.SendFields.{declared_send, variants_send, VariantsHave}
 use Rattle.std.proofs.Crossing as over
 use Rattle.rounds_by_hand.proofs.load_hand.LoadHand.TheSendSync as load_hand_crosses
-use Rattle.server.proofs.Crossing.{client_send, reader_send, request_cache_send, server_send}
+use Rattle.server.proofs.Crossing.{by_hand_send as request_by_hand_send, client_send, queries_send, server_send}
 use Rattle.server.specs.contracts.client.ClientSession as session
 use Rattle.server.specs.contracts.load_by_hand.LoadByHand as by_hand
 use Rattle.server.specs.contracts.load_by_hand.LoadByHand.TheInside as by_hand_inside
-use Rattle.server_owned.proofs.handed_in.HandedIn.TheSendSync as handed_in_crosses
-use Rattle.server_owned.specs.contracts.handed_in.HandedIn as handed_in
-use Rattle.server_owned.proofs.owned.OwnedByHand.TheSendSync as owned_crosses
+use Rattle.rounds_by_hand.proofs.handed_in.HandedIn.TheSendSync as handed_in_crosses
+use Rattle.rounds_by_hand.specs.contracts.handed_in.HandedIn as handed_in
 use Rattle.flat_orders.proofs.orders.FlatOrders.TheSendSync as orders_cross
 use Rattle.flat_outcomes.proofs.outcomes.FlatOutcomes.TheSendSync as outcomes_cross
 use Rattle.host_clients.specs.contracts.answered.AnsweredClient as answered
 use Rattle.host_clients.specs.contracts.answered.AnsweredClient.TheInside as answered_inside
-use Rattle.host_clients.specs.contracts.asked.AskedTexts as asked
-use Rattle.host_clients.specs.contracts.asked_keys.AskedKeys as asked_keys
 use Rattle.host_clients.specs.contracts.client.HostClient as client
 use Rattle.host_clients.specs.contracts.loaded.LoadedClient as loaded
 use Rattle.host_clients.specs.contracts.loaded.LoadedClient.TheInside as loaded_inside
 use Rattle.host_clients.specs.contracts.loading.LoadUnderWay as loading
 use Rattle.host_clients.specs.contracts.loading.LoadUnderWay.TheInside as loading_inside
+use Rattle.host_clients.proofs.note.AskedNote.TheSendSync as note_crosses
 use Rattle.host_clients.specs.contracts.object.Object as object
 use Rattle.host_clients.specs.contracts.under_way.UnderWay as under_way
 use Rattle.host_clients.specs.contracts.under_way.UnderWay.TheInside as under_way_inside
@@ -29,40 +27,34 @@ use Rattle.host_clients.specs.contracts.under_way.UnderWay.TheInside as under_wa
 session_send : IsSend (session.the_row handed_in.the_row)
 session_send = client_send handed_in.the_row handed_in_crosses.the_send
 
-asked_send : IsSend asked.the_row
-asked_send = search (over.crosses, sendable) depth 20
-
 answered_inside_send : IsSend answered_inside.the_row
-answered_inside_send = declared_send answered_inside.the_type (session_send, (asked_send, (search (over.crosses, sendable) depth 20, (search sendable depth 20, tt))))
+answered_inside_send = declared_send answered_inside.the_type (session_send, (search (over.crosses, sendable) depth 20, (search sendable depth 20, (note_crosses.the_send, tt))))
 
 answered_send : IsSend answered.the_row
 answered_send = let i = answered_inside_send in record { owned = λ d vs x. (i.owned x.0 vs, tt); leaving = λ k d w. tt }
 
 under_way_inside_send : IsSend under_way_inside.the_row
-under_way_inside_send = declared_send under_way_inside.the_type (owned_crosses.the_send, (asked_send, (orders_cross.the_send, tt)))
+under_way_inside_send = declared_send under_way_inside.the_type (request_by_hand_send handed_in.the_row handed_in_crosses.the_send, (server_send, (orders_cross.the_send, (note_crosses.the_send, tt))))
 
 under_way_send : IsSend under_way.the_row
 under_way_send = let i = under_way_inside_send in record { owned = λ d vs x. (i.owned x.0 vs, tt); leaving = λ k d w. tt }
 
-keys_send : IsSend asked_keys.the_row
-keys_send = search (over.crosses, sendable) depth 20
-
 by_hand_inside_send : IsSend (by_hand_inside.the_row handed_in.the_row)
 by_hand_inside_send =
     declared_send (by_hand_inside.the_type handed_in.the_row)
-    (search sendable depth 20, (search request_cache_send, (search reader_send, (search sendable depth 20, (search (load_hand_crosses.the_send, sendable, handed_in_crosses.the_send) depth 20, tt)))))
+    (search sendable depth 20, (search queries_send, (search sendable depth 20, (search (load_hand_crosses.the_send, sendable, handed_in_crosses.the_send) depth 20, tt))))
 
 by_hand_send : IsSend (by_hand.the_row handed_in.the_row)
 by_hand_send = let i = by_hand_inside_send in record { owned = λ d vs x. (i.owned x.0 vs, tt); leaving = λ k d w. tt }
 
 loading_inside_send : IsSend loading_inside.the_row
-loading_inside_send = declared_send loading_inside.the_type (by_hand_send, (keys_send, (orders_cross.the_send, tt)))
+loading_inside_send = declared_send loading_inside.the_type (by_hand_send, (server_send, (orders_cross.the_send, tt)))
 
 loading_send : IsSend loading.the_row
 loading_send = let i = loading_inside_send in record { owned = λ d vs x. (i.owned x.0 vs, tt); leaving = λ k d w. tt }
 
 loaded_inside_send : IsSend loaded_inside.the_row
-loaded_inside_send = declared_send loaded_inside.the_type (session_send, (keys_send, (outcomes_cross.the_send, tt)))
+loaded_inside_send = declared_send loaded_inside.the_type (session_send, (outcomes_cross.the_send, (search (over.crosses, sendable) depth 20, tt)))
 
 loaded_send : IsSend loaded.the_row
 loaded_send = let i = loaded_inside_send in record { owned = λ d vs x. (i.owned x.0 vs, tt); leaving = λ k d w. tt }

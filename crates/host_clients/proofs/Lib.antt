@@ -1,3 +1,4 @@
+pub mod Lines
 pub mod Lists
 pub mod NewLoaders
 pub mod Asking
@@ -8,4 +9,5 @@ pub mod ReadKeys
 pub mod LaidKeys
 pub mod Replies
 pub mod Refusals
+pub mod ByKey
 pub mod Crossing

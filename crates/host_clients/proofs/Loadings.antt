@@ -2,6 +2,7 @@
 use Rattle.std.proofs.Common.{◌≡◌, ◌∙◌, ℕ, List, [], map, refl, sym, ap, subst}
 use Rattle.std.specs.Prelude.{◌⊎◌, Result, IfSome, slice_get}
 use Rattle.std.specs.Global.{Vec}
+use Rattle.load_memory.specs.Keys.{KeyOf}
 use Rattle.load_memory.specs.Outcomes.{outcome_of}
 use Rattle.load_memory.specs.declared.outcome.Item.{Item}
 use Rattle.load_memory.specs.declared.outcome.Outcome.{Outcome}
@@ -12,19 +13,20 @@ use Rattle.rounds_by_hand.specs.LoadHands.{AdvancesLoad, IsSameLoad, LoadGoesOn,
 use Rattle.rounds_by_hand.specs.Pending.{TakesAnswer, order_in}
 use Rattle.rounds_by_hand.specs.declared.load_hand.LoadAdvance.TheVariants.{Loaded, Round}
 use Rattle.rounds_by_hand.specs.declared.pending.Pending.TheVariants.{Out}
+use Rattle.plan_requests.specs.Servers.{ServerOf}
 use Rattle.server.specs.Clients.{ClientOf, IsClientCall, IsSameClient}
-use Rattle.server.specs.LoadsByHand.{LoadByHandOf, ClientLoads, ClientStopsLoad, load_by_hand_of, load_in}
-use Rattle.server_owned.specs.declared.handed_in.HandedIn.{HandedIn}
+use Rattle.server.specs.LoadsByHand.{LoadByHandOf, ClientLoads, ClientStopsLoad, ClientStores, load_by_hand_of, load_in}
+use Rattle.rounds_by_hand.specs.declared.handed_in.HandedIn.{HandedIn}
 use Rattle.host_clients.specs.Clients.{LoadsIt, MakesLoadRound, StopsForLoad, StopsLoad, TakesForLoad, WaitsAt}
 use Rattle.host_clients.specs.Loads.{KeysOf, IsLoadOf, AreOutcomesOf, HoldsLoading, asked_by, load_orders}
 use Rattle.host_clients.proofs.Underway.{may-answer, orders-kept}
 
 -- a load is begun
-pub holds-load-begun : (hand : LoadByHandOf HandedIn) (c : ClientOf HandedIn) (asked : KeysOf) (orders : List OrderOf) → hand ≡ load_by_hand_of c asked.loader asked.keys handed → orders ≡ []
-    → HoldsLoading hand asked orders
-holds-load-begun hand c asked orders is none = rw (is, none) (record {
+pub holds-load-begun : (hand : LoadByHandOf HandedIn) (c : ClientOf HandedIn) (server : ServerOf) (loader : ℕ) (keys : List KeyOf) (orders : List OrderOf) → hand ≡ load_by_hand_of c loader keys handed
+    → server ≡ c.server → orders ≡ [] → HoldsLoading hand server orders
+holds-load-begun hand c server loader keys orders is same none = rw (is, none) (record {
   is_of = record { begun = c; of_server = refl; underway = refl };
-  asked_is = refl;
+  server_is = same;
   orders_are = refl;
 })
 
@@ -45,11 +47,11 @@ module _ (old new : LoadByHandOf HandedIn) (keys : IsSameLoad (load_in old) (loa
     is-load-of-after : IsLoadOf old → IsLoadOf new
     is-load-of-after of = record { begun = of.begun; of_server = client.server ∙ of.of_server; underway = goes of.begun.session of.underway }
 
-    pub holds-load-after : (asked : KeysOf) (before orders : List OrderOf) → HoldsLoading old asked before → orders ≡ load_orders new → HoldsLoading new asked orders
-    holds-load-after asked before orders h are = record { is_of = is-load-of-after h.is_of; asked_is = h.asked_is ∙ sym asked-same; orders_are = are }
+    pub holds-load-after : (server : ServerOf) (before orders : List OrderOf) → HoldsLoading old server before → orders ≡ load_orders new → HoldsLoading new server orders
+    holds-load-after server before orders h are = record { is_of = is-load-of-after h.is_of; server_is = h.server_is ∙ sym client.server; orders_are = are }
 
-    pub makes-load-round : AdvancesLoad (load_in old) (load_in new) Round → MakesLoadRound old new
-    makes-load-round round = record { first = round.0; same_keys = keys; same = client; goes_on = goes; round = round.1 }
+    pub makes-load-round : AdvancesLoad (load_in old) (load_in new) Round → ClientStores old new.client → MakesLoadRound old new
+    makes-load-round round stored = record { first = round.0; same_keys = keys; same = client; goes_on = goes; stored = stored; round = round.1 }
 
     -- it is given up
     pub stops-load : (c : ClientOf HandedIn) → c ≡ new.client → ClientStopsLoad any_tell new c → StopsLoad old c
@@ -74,11 +76,12 @@ module _ (old new : LoadByHandOf HandedIn) (outcomes : Vec Outcome) (loads : Cli
     loads = loads-from of.begun (loads of.begun of.underway);
   }
 
-  pub loads-it : AdvancesLoad (load_in old) (load_in new) (Loaded outcomes) → LoadsIt old (record { client = c; asked = asked; outcomes = map outcome_of outcomes.items })
-  loads-it advances = record {
+  pub loads-it : AdvancesLoad (load_in old) (load_in new) (Loaded outcomes) → ClientStores old new.client → LoadsIt old (record { client = c; asked = asked; outcomes = map outcome_of outcomes.items })
+  loads-it advances stored = record {
     ready = advances.0;
     asked_is = asks;
     same = subst (IsSameClient old.client) (sym is) client;
+    stored = subst (ClientStores old) (sym is) stored;
     loads = λ begun underway. rw is (loads begun underway);
   }
 
@@ -90,10 +93,10 @@ module _ (old new : LoadByHandOf HandedIn) (number : ℕ) (answer : Result (Vec 
   goes-on-taken : LoadGoesOn any_tell (load_in old) (load_in new)
   goes-on-taken = (rw takes.was at goes) (may-answer old.client.session.loaders (order_in (Out takes.order)) answer)
 
-  pub holds-load-taken : (asked : KeysOf) (orders : List OrderOf) → HoldsLoading old asked orders → HoldsLoading new asked orders
-  holds-load-taken asked orders h =
+  pub holds-load-taken : (server : ServerOf) (orders : List OrderOf) → HoldsLoading old server orders → HoldsLoading new server orders
+  holds-load-taken server orders h =
       holds-load-after old new keys goes-on-taken
-      (record { server = ap (λ (x : ClientOf HandedIn). x.server) client; most = ap (λ (x : ClientOf HandedIn). x.most) client }) asked orders orders h
+      (record { server = ap (λ (x : ClientOf HandedIn). x.server) client; most = ap (λ (x : ClientOf HandedIn). x.most) client }) server orders orders h
       (h.orders_are ∙ sym (orders-kept _ _ number answer takes))
 
   pub takes-for-load : TakesForLoad number answer old new
@@ -105,9 +108,9 @@ pub load-stopped-at : (old new : LoadByHandOf HandedIn) (number : ℕ) → LoadG
 load-stopped-at old new number goes client keys waited is = record { same_keys = keys; client_is = client; goes_on = goes; waited = waited; is_over = is }
 
 -- no orders are left where memory ran out
-pub holds-load-over : (old new : LoadByHandOf HandedIn) (asked : KeysOf) (before orders : List OrderOf) → LoadGoesOn any_tell (load_in old) (load_in new) → new.client ≡ old.client
-    → IsSameLoad (load_in old) (load_in new) → new.far ≡ over → orders ≡ [] → HoldsLoading old asked before → HoldsLoading new asked orders
-holds-load-over old new asked before orders goes client keys is none h =
+pub holds-load-over : (old new : LoadByHandOf HandedIn) (server : ServerOf) (before orders : List OrderOf) → LoadGoesOn any_tell (load_in old) (load_in new) → new.client ≡ old.client
+    → IsSameLoad (load_in old) (load_in new) → new.far ≡ over → orders ≡ [] → HoldsLoading old server before → HoldsLoading new server orders
+holds-load-over old new server before orders goes client keys is none h =
     holds-load-after old new keys goes
-    (record { server = ap (λ (x : ClientOf HandedIn). x.server) client; most = ap (λ (x : ClientOf HandedIn). x.most) client }) asked before orders h
+    (record { server = ap (λ (x : ClientOf HandedIn). x.server) client; most = ap (λ (x : ClientOf HandedIn). x.most) client }) server before orders h
     (none ∙ sym (ap (λ far. map order_in (load_pending_in far)) is))

@@ -9,7 +9,7 @@ use Rattle.gq_bindings.specs.Tree as bindings
 use Rattle.gq_bindings.specs.Seen.{loader_of}
 use Rattle.gq_bindings.specs.declared.binding.LoaderLine.{LoaderLine}
 use Rattle.server.specs.Opening.{new_loader}
-use Rattle.server_owned.specs.declared.handed_in.HandedIn.{HandedIn}
+use Rattle.rounds_by_hand.specs.declared.handed_in.HandedIn.{HandedIn}
 use Rattle.host_clients.specs.Faults.{queue_fault}
 use Rattle.host_clients.specs.Opening.{AreNewLoaders, LimitsFault, handed_in, limit_at, limits_after}
 

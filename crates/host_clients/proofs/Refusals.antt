@@ -1,6 +1,6 @@
 -- Lemmas on why calls of a client are refused, and on what is left after want of memory.
 use Rattle.std.proofs.Common.{◌≡◌, ◌∙◌, ◌<◌, ◌≤◌, ℕ, List, length, map, refl, sym, ap, subst, true, false, inl, inr, arith, Ok, Err, Some, None}
-use Rattle.std.specs.Prelude.{◌⊎◌, ◌↔◌, MatchOption, Result, IfErr, IsErrAnd, option_map, slice_get}
+use Rattle.std.specs.Prelude.{◌↔◌, MatchOption, Option, Result, IfErr, IsErrAnd, option_map, slice_get}
 use Rattle.std.proofs.Math.Nat.{lt_of_not-le}
 use Rattle.std.proofs.lemmas.Bool.{false_from_ne_true}
 use Rattle.std.proofs.lemmas.Option.{slice_get_cases, slice_get-map}
@@ -16,12 +16,12 @@ use Rattle.load_rounds.specs.Histories.{Forgetting, any_tell}
 use Rattle.flat_rows.specs.Faults.{ReplyFault}
 use Rattle.flat_rows.specs.declared.fault.FlatFault.{FlatFault}
 use Rattle.server.specs.Clients.{ClientOf, IsClientCall, IsSameClient}
-use Rattle.server_owned.specs.declared.handed_in.HandedIn.{HandedIn}
-use Rattle.host_clients.specs.Clients.{HasCount, KeepsOrStops, LacksLoader, StopsAt, WaitsAt, client_in, is_busy, orders_in, pending_of}
+use Rattle.rounds_by_hand.specs.declared.handed_in.HandedIn.{HandedIn}
+use Rattle.host_clients.specs.Clients.{HasCount, HasLoader, KeepsOrStops, StopsAt, WaitsAt, client_in, is_busy, orders_in, pending_of, width_in}
 use Rattle.host_clients.specs.Faults.{flat_fault, session_fault, take_fault}
 use Rattle.host_clients.specs.Known.{Forgets, KeepsOrForgets, OnClient}
 use Rattle.host_clients.specs.Laid.{AreKeyTexts, KeyFault, LaidReply, TextsOf}
-use Rattle.host_clients.specs.Refused.{FailureFault, KnownFault, OrderFault, PrimeFault, RowsFault, of_client, of_key, of_order, of_reply}
+use Rattle.host_clients.specs.Refused.{ClearFault, FailureFault, KnownFault, LoaderFault, OrderFault, PrimeFault, RowsFault, of_client, of_key, of_order, of_reply}
 use Rattle.host_clients.specs.declared.client.HostClient.{HostClient}
 use Rattle.host_clients.specs.declared.client.HostClient.TheVariants.{Idle, Asked, Answered, Loading, Loaded, Moved}
 use Rattle.host_clients.specs.declared.fault.Fault.{Fault}
@@ -72,7 +72,7 @@ session-memory session.NoMemory is = refl
 -- ---- replies
 
 -- the orders of a round, with the replies that are there
-orders-of : (client : HostClient) → orders_in client ≡ map order_in (pending_of client)
+pub orders-of : (client : HostClient) → orders_in client ≡ map order_in (pending_of client)
 orders-of (Idle c) = refl
 orders-of (Asked u) = refl
 orders-of (Answered a) = refl
@@ -150,10 +150,36 @@ same-if old (Ok x) = tt
 same-if old (Err e) = λ no. inl refl
 
 module _ {T : Type 0} (loader : ℕ) (key : TextsOf) (reply : LaidReply) (client : HostClient) where
-  pub prime-key : (r : Result T Fault) → IfErr r (KeyFault key) → IfErr r (PrimeFault loader key reply client)
-  prime-key (Ok x) is = tt
-  prime-key (Err e) is = of_key is
+  pub prime-client : (r : Result T Fault) → IfErr r (LoaderFault loader client) → IfErr r (PrimeFault loader key reply client)
+  prime-client (Ok x) is = tt
+  prime-client (Err e) is = of_client is
 
-  pub prime-known : AreKeyTexts key → (r : Result T Fault) → IfErr r (KnownFault loader client) → IfErr r (PrimeFault loader key reply client)
-  prime-known are (Ok x) is = tt
-  prime-known are (Err e) is = of_client are is
+  pub prime-key : HasLoader client loader → (r : Result T Fault) → IfErr r (KeyFault (width_in client loader) key) → IfErr r (PrimeFault loader key reply client)
+  prime-key has (Ok x) is = tt
+  prime-key has (Err e) is = of_key has is
+
+-- a client that has the loader is refused for want of memory alone
+known-memory : (loader : ℕ) (client : HostClient) → HasLoader client loader → (e : Fault) → KnownFault loader client e → e ≡ fault.NoMemory
+known-memory loader client has fault.Busy is = let idle = has.0 in cc
+known-memory loader client has fault.NoLoader is = absurd (lacks-none (client_in client) is.1 has.1) where
+  lacks-none : (o : Option (ClientOf HandedIn)) → MatchOption o ⊥ (λ (c : ClientOf HandedIn). length c.session.loaders ≤ loader) → MatchOption o ⊥ (λ (c : ClientOf HandedIn). loader < length c.session.loaders) → ⊥
+  lacks-none None lacks has = lacks
+  lacks-none (Some c) lacks has = absurd (omega (arith, lacks, has))
+known-memory loader client has fault.NoMemory is = refl
+known-memory loader client has e is = absurd is
+
+module _ {T : Type 0} (loader : ℕ) (key : TextsOf) (client : HostClient) (has : HasLoader client loader) (are : AreKeyTexts (width_in client loader) key) where
+  pub known-key : (r : Result T Fault) → IfErr r (KnownFault loader client) → IfErr r (KeyFault (width_in client loader) key)
+  known-key (Ok x) is = tt
+  known-key (Err e) is = subst (KeyFault (width_in client loader) key) (sym (known-memory loader client has e is)) are
+
+  pub prime-known : (reply : LaidReply) (r : Result T Fault) → IfErr r (KnownFault loader client) → IfErr r (PrimeFault loader key reply client)
+  prime-known reply r is = prime-key loader key reply client has r (known-key r is)
+
+pub clear-key : {T : Type 0} (loader : ℕ) (key : TextsOf) (client : HostClient) → HasLoader client loader → (r : Result T Fault) → IfErr r (KeyFault (width_in client loader) key) → IfErr r (ClearFault loader key client)
+clear-key loader key client has (Ok x) is = tt
+clear-key loader key client has (Err e) is = inr (has, is)
+
+pub clear-client : {T : Type 0} (loader : ℕ) (key : TextsOf) (client : HostClient) (r : Result T Fault) → IfErr r (LoaderFault loader client) → IfErr r (ClearFault loader key client)
+clear-client loader key client (Ok x) is = tt
+clear-client loader key client (Err e) is = inl is

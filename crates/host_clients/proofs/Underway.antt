@@ -16,21 +16,23 @@ use Rattle.rounds_by_hand.specs.Hands.{handed, pending_in, IsNewRound, IsOver}
 use Rattle.rounds_by_hand.specs.Pending.{MayAnswer, TakesAnswer, order_in}
 use Rattle.rounds_by_hand.specs.declared.pending.Pending.{Pending}
 use Rattle.rounds_by_hand.specs.declared.pending.Pending.TheVariants.{In, Out}
+use Rattle.plan_requests.specs.Servers.{ServerOf}
 use Rattle.server.specs.Clients.{ClientOf, IsSameClient}
-use Rattle.server.specs.Hands.{ByHandOf, by_hand_of, IsUnderway, GoesOn, GoesOnIfMay, GivesUp, Responds}
+use Rattle.server.specs.Hands.{ByHandOf, by_hand_of, IsUnderway, GoesOn, GoesOnIfMay, GivesUp, Responds, StoresReplies}
 use Rattle.server.specs.Planned.{PlannedOf, PlansAsked}
 use Rattle.load_rounds.specs.SharedRounds.{report_of}
 use Rattle.server.specs.declared.by_hand.ClientAdvance.TheVariants.{Answered}
-use Rattle.server_owned.specs.declared.handed_in.HandedIn.{HandedIn}
+use Rattle.rounds_by_hand.specs.declared.handed_in.HandedIn.{HandedIn}
 use Rattle.host_clients.specs.Asked.{HostAsked, PlansHost, AnswersHost}
 use Rattle.host_clients.specs.Clients.{AnswersIt, IsBegunWith, MakesRound, Stops, StopsIt, Takes, WaitsAt}
 use Rattle.host_clients.specs.UnderWay.{UnderWayOf, IsOf, IsAnswerOf, HoldsUnderWay, orders_out}
 
 -- a request is begun
-pub holds-begun : (hand : ByHandOf HandedIn) (c : ClientOf HandedIn) (planned : PlannedOf) (asked : HostAsked) (orders : List OrderOf) → hand ≡ by_hand_of c planned handed
-    → PlansHost c asked planned → orders ≡ [] → HoldsUnderWay hand asked orders
-holds-begun hand c planned asked orders is plans none = rw (is, none) (record {
+pub holds-begun : (hand : ByHandOf HandedIn) (c : ClientOf HandedIn) (server : ServerOf) (planned : PlannedOf) (asked : HostAsked) (orders : List OrderOf) → hand ≡ by_hand_of c planned handed
+    → server ≡ c.server → PlansHost c asked planned → orders ≡ [] → HoldsUnderWay hand server asked orders
+holds-begun hand c server planned asked orders is same plans none = rw (is, none) (record {
   is_of = record { begun = c; of_server = refl; underway = refl; planned = plans };
+  server_is = same;
   orders_are = refl;
 })
 
@@ -72,11 +74,12 @@ module _ (u : UnderWayOf) (new : ByHandOf HandedIn) (client : IsSameClient u.han
   same-client : IsSameClient u.hand.client c
   same-client = subst (IsSameClient u.hand.client) (sym is) client
 
-  pub answers-it : (answer : Answer) → Responds any_tell u.hand new (Answered answer)
+  pub answers-it : (answer : Answer) → Responds any_tell u.hand new (Answered answer) → StoresReplies u.hand new.client
       → AnswersIt u (record { client = c; asked = u.asked; text = string_bytes answer.text; rounds = answer.rounds })
-  answers-it answer responds = record {
+  answers-it answer responds stored = record {
     asked_is = refl;
     same = same-client;
+    stored = subst (StoresReplies u.hand) (sym is) stored;
     answers = λ d underway plans. subst (λ (x : ClientOf HandedIn). AnswersHost any_tell d u.asked (report_of answer) x.session) (sym is)
         (answers-host u.hand new answer responds d u.asked underway plans);
   }
@@ -84,13 +87,14 @@ module _ (u : UnderWayOf) (new : ByHandOf HandedIn) (client : IsSameClient u.han
   pub stops-it : GoesOn any_tell u.hand new → new.planned ≡ u.hand.planned → GivesUp any_tell new c → StopsIt u c
   stops-it goes same gives = record { same = same-client; stops = gives-up-before u.hand new goes same c gives }
 
-pub makes-round : (u : UnderWayOf) (new : ByHandOf HandedIn) → IsSameClient u.hand.client new.client → GoesOn any_tell u.hand new → new.planned ≡ u.hand.planned → IsNewRound new.far
+pub makes-round : (u : UnderWayOf) (new : ByHandOf HandedIn) → IsSameClient u.hand.client new.client → GoesOn any_tell u.hand new → new.planned ≡ u.hand.planned → StoresReplies u.hand new.client → IsNewRound new.far
     → MakesRound u (record { hand = new; asked = u.asked })
-makes-round u new client goes same round = record { asked_is = refl; planned_is = same; same = client; goes_on = goes; round = round }
+makes-round u new client goes same stored round = record { asked_is = refl; planned_is = same; same = client; goes_on = goes; stored = stored; round = round }
 
-pub holds-after : (old new : ByHandOf HandedIn) (asked : HostAsked) (orders : List OrderOf) → IsSameClient old.client new.client → GoesOn any_tell old new → new.planned ≡ old.planned → IsOf old asked
-    → orders ≡ orders_out new → HoldsUnderWay new asked orders
-holds-after old new asked orders client goes same of are = record { is_of = is-of-after old new goes same asked client of; orders_are = are }
+pub holds-after : (old new : ByHandOf HandedIn) (server : ServerOf) (asked : HostAsked) (orders : List OrderOf) → IsSameClient old.client new.client → GoesOn any_tell old new → new.planned ≡ old.planned → IsOf old asked
+    → server ≡ old.client.server → orders ≡ orders_out new → HoldsUnderWay new server asked orders
+holds-after old new server asked orders client goes same of was are =
+    record { is_of = is-of-after old new goes same asked client of; server_is = was ∙ sym client.server; orders_are = are }
 
 -- the sources may answer anything
 fetched-any : (source : HandedIn) (keys : List KeyOf) (answer : Result (Vec Item) FetchFault) → Fetched (any_tell source keys) answer
@@ -124,9 +128,10 @@ module _ (old new : ByHandOf HandedIn) (number : ℕ) (answer : Result (Vec Item
   pub goes-taken : GoesOn any_tell old new
   goes-taken = goes-on-with old new number answer (Out takes.order) takes.was goes
 
-  pub holds-taken : (asked : HostAsked) (orders : List OrderOf) → HoldsUnderWay old asked orders → HoldsUnderWay new asked orders
-  holds-taken asked orders h = record {
+  pub holds-taken : (server : ServerOf) (asked : HostAsked) (orders : List OrderOf) → HoldsUnderWay old server asked orders → HoldsUnderWay new server asked orders
+  holds-taken server asked orders h = record {
     is_of = is-of-after old new goes-taken same asked (record { server = ap (λ (x : ClientOf HandedIn). x.server) client; most = ap (λ (x : ClientOf HandedIn). x.most) client }) h.is_of;
+    server_is = h.server_is ∙ sym (ap (λ (x : ClientOf HandedIn). x.server) client);
     orders_are = h.orders_are ∙ sym (orders-kept _ _ number answer takes);
   }
 
@@ -139,9 +144,10 @@ pub stopped-at : (old new : ByHandOf HandedIn) (number : ℕ) (asked : HostAsked
 stopped-at old new number asked goes client same waited over = record { asked_is = refl; planned_is = same; client_is = client; goes_on = goes; waited = waited; is_over = over }
 
 -- no orders are left where memory ran out
-pub holds-over : (old new : ByHandOf HandedIn) (asked : HostAsked) (orders : List OrderOf) → GoesOn any_tell old new → new.client ≡ old.client → new.planned ≡ old.planned → IsOver new.far → orders ≡ []
-    → IsOf old asked → HoldsUnderWay new asked orders
-holds-over old new asked orders goes client same over none of = record {
+pub holds-over : (old new : ByHandOf HandedIn) (server : ServerOf) (asked : HostAsked) (orders : List OrderOf) → GoesOn any_tell old new → new.client ≡ old.client → new.planned ≡ old.planned → IsOver new.far
+    → orders ≡ [] → IsOf old asked → server ≡ old.client.server → HoldsUnderWay new server asked orders
+holds-over old new server asked orders goes client same over none of was = record {
   is_of = is-of-after old new goes same asked (record { server = ap (λ (x : ClientOf HandedIn). x.server) client; most = ap (λ (x : ClientOf HandedIn). x.most) client }) of;
+  server_is = was ∙ sym (ap (λ (x : ClientOf HandedIn). x.server) client);
   orders_are = none ∙ sym (ap (λ far. map order_in (pending_in far)) over);
 }

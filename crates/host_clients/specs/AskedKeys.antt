@@ -1,18 +1,12 @@
 -- Keys that a client loads, as a host lays them out, and why they are refused.
 use Rattle.std.specs.Prelude.{◌≢◌}
 use Rattle.host_clients.specs.Loads.{KeysOf, keys_in}
-use Rattle.host_clients.specs.declared.asked_keys.AskedKeys.{AskedKeys}
 use Rattle.host_clients.specs.declared.asked_keys.FlatKeys.{FlatKeys}
 use Rattle.host_clients.specs.declared.fault.Fault.{Fault}
 use Rattle.host_clients.specs.declared.fault.Fault.TheVariants as fault
 
 abbrev pub flat_keys : FlatKeys → KeysOf
 flat_keys k = record { loader = k.loader; keys = keys_in k.shapes.now k.ends.now k.bytes.now }
-
--- gives the same of what a client keeps
-abbrev pub keys_asked : AskedKeys → KeysOf
-keys_asked k =
-    record { loader = k.loader; keys = keys_in k.shapes.items k.ends.items k.bytes.items }
 
 -- it is a fault of the keys, or memory ran out: of the client it says nothing
 abbrev pub IsKeyFault : Fault → Type 0

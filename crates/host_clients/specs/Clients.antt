@@ -13,10 +13,11 @@ use Rattle.rounds_by_hand.specs.LoadHands.{handed as load_handed, over, can_adva
 use Rattle.rounds_by_hand.specs.Pending.{TakesAnswer, is_in_at}
 use Rattle.rounds_by_hand.specs.declared.pending.Pending.{Pending}
 use Rattle.server.specs.Clients.{ClientOf, IsClientCall, IsSameClient}
-use Rattle.server.specs.Hands.{IsUnderway, GoesOn, GivesUp}
-use Rattle.server.specs.LoadsByHand.{LoadByHandOf, ClientStopsLoad, load_by_hand_of, load_in}
-use Rattle.server_owned.specs.declared.handed_in.HandedIn.{HandedIn}
+use Rattle.server.specs.Hands.{IsUnderway, GoesOn, GivesUp, StoresReplies}
+use Rattle.server.specs.LoadsByHand.{LoadByHandOf, ClientStopsLoad, ClientStores, load_by_hand_of, load_in}
+use Rattle.rounds_by_hand.specs.declared.handed_in.HandedIn.{HandedIn}
 use Rattle.host_clients.specs.Asked.{HostAsked, PlansHost, AnswersHost}
+use Rattle.host_clients.specs.Lines.{width_of}
 use Rattle.host_clients.specs.Loads.{KeysOf, LoadedOf, asked_by, load_orders}
 use Rattle.host_clients.specs.UnderWay.{UnderWayOf, AnsweredOf, report_in, orders_out}
 use Rattle.host_clients.specs.declared.fault.Fault.{Fault}
@@ -67,6 +68,15 @@ abbrev pub LacksLoader : HostClient → ℕ → Type 0
 LacksLoader client loader = (is_busy client ≡ false) × MatchOption (client_in client) ⊥
     (λ (c : ClientOf HandedIn). length c.session.loaders ≤ loader)
 
+-- a client that isn't busy has one
+abbrev pub HasLoader : HostClient → ℕ → Type 0
+HasLoader client loader = (is_busy client ≡ false) × MatchOption (client_in client) ⊥
+    (λ (c : ClientOf HandedIn). loader < length c.session.loaders)
+
+-- gives how many texts a key of a client's loader has: as many as the loader has columns
+abbrev pub width_in : HostClient → ℕ → ℕ
+width_in client loader = width_of (client_in client) loader
+
 -- it is planned for the client, and nothing is asked yet
 pub record IsBegunWith (asked : HostAsked) (u : UnderWayOf) : Type 0 where
   pub asked_is : u.asked ≡ asked
@@ -90,20 +100,23 @@ IsBegunLoad asked old (Loading l) = (client_in old ≡ Some l.client)
     × (l ≡ load_by_hand_of l.client asked.loader asked.keys load_handed)
 IsBegunLoad asked old new = ⊥
 
--- from whichever client it was begun: this answers it in the client's session
+-- From whichever client it was begun: this answers it in the client's session. What the client knows now is what it knew, with just what
+-- the host replied to the orders of the round that was out.
 pub record AnswersIt (u : UnderWayOf) (a : AnsweredOf) : Type 0 where
   pub asked_is : a.asked ≡ u.asked
   pub same : IsSameClient u.hand.client a.client
+  pub stored : StoresReplies u.hand a.client
   pub answers : (c : ClientOf HandedIn) → IsUnderway any_tell c.session u.hand
       → PlansHost c u.asked u.hand.planned
       → AnswersHost any_tell c u.asked (report_in a) a.client.session
 
--- a new round is out
+-- A new round is out, over what the client knew and what the host replied.
 pub record MakesRound (u v : UnderWayOf) : Type 0 where
   pub asked_is : v.asked ≡ u.asked
   pub planned_is : v.hand.planned ≡ u.hand.planned
   pub same : IsSameClient u.hand.client v.hand.client
   pub goes_on : GoesOn any_tell u.hand v.hand
+  pub stored : StoresReplies u.hand v.hand.client
   pub round : IsNewRound v.hand.far
 
 -- it is given up: the finished rounds stay in the client's session, and perhaps one more was lost
@@ -126,20 +139,23 @@ GoesOnWith u new result = ⊥
 -- ---- keys that are loaded
 
 -- Each order of its round had a reply, if it had a round. From whichever client it was begun: all that was done in its session is a call
--- that loads these keys, and these are its outcomes.
+-- that loads these keys, and these are its outcomes. What the client knows now is what it knew, with just what the host replied to the
+-- orders of the round.
 pub record LoadsIt (l : LoadByHandOf HandedIn) (d : LoadedOf) : Type 0 where
   pub ready : can_advance_load l.far ≡ true
   pub asked_is : d.asked ≡ asked_by l
   pub same : IsSameClient l.client d.client
+  pub stored : ClientStores l d.client
   pub loads : (c : ClientOf HandedIn) → IsLoadUnderway any_tell c.session (load_in l)
       → IsClientCall any_tell (LoadingCall l.loader l.keys d.outcomes) c d.client
 
--- nothing was done yet, and now the round of the keys that aren't known is out
+-- nothing was done yet, and now the round of the keys that aren't known is out, over what the client knew
 pub record MakesLoadRound (l m : LoadByHandOf HandedIn) : Type 0 where
   pub first : l.far ≡ load_handed
   pub same_keys : IsSameLoad (load_in l) (load_in m)
   pub same : IsSameClient l.client m.client
   pub goes_on : LoadGoesOn any_tell (load_in l) (load_in m)
+  pub stored : ClientStores l m.client
   pub round : IsNewLoadRound m.far
 
 -- it is given up: what was stored stays in the client's session, and perhaps the round was lost

@@ -32,6 +32,8 @@ code_of fault.TooFewTexts = negsuc 15
 code_of fault.TextsLeft = negsuc 16
 code_of fault.NoColumn = negsuc 17
 code_of fault.TooManyRows = negsuc 18
+code_of fault.NoKeyColumn = negsuc 19
+code_of fault.NotAsked = negsuc 20
 
 -- the faults of the libraries below, as those of a call
 

@@ -8,7 +8,7 @@ use Rattle.flat_rows.specs.Replies.{reply_items}
 use Rattle.flat_rows.specs.declared.reply.FlatReply.{FlatReply}
 use Rattle.load_rounds.specs.Histories.{Call, Priming, Clearing, Forgetting, any_tell}
 use Rattle.server.specs.Clients.{ClientOf, IsClientCall, IsSameClient, client_cell, client_pair, client_of, known_of}
-use Rattle.server_owned.specs.declared.handed_in.HandedIn.{HandedIn}
+use Rattle.rounds_by_hand.specs.declared.handed_in.HandedIn.{HandedIn}
 use Rattle.host_clients.specs.Clients.{client_in}
 use Rattle.host_clients.specs.declared.client.HostClient.{HostClient}
 use Rattle.host_clients.specs.declared.client.HostClient.TheVariants.{Idle}

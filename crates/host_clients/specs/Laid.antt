@@ -34,18 +34,18 @@ AreTexts t = IsUtf8 t.bytes × IsCut t.bytes 0 t.ends
 abbrev pub key_at : TextsOf → KeyOf
 key_at t = key_said (cut t.bytes 0 t.ends)
 
--- the texts are those of a key: none, one or two
-pub record AreKeyTexts (t : TextsOf) : Type 0 where
+-- the texts are those of a key of this width, which is as many as its loader has columns
+pub record AreKeyTexts (width : ℕ) (t : TextsOf) : Type 0 where
   pub texts : AreTexts t
-  pub few : length t.ends ≤ 2
+  pub fit : length t.ends ≡ width
 
--- says why the texts are no key
-abbrev pub KeyFault : TextsOf → Fault → Type 0
-KeyFault t fault.NotUtf8 = ¬ (IsUtf8 t.bytes)
-KeyFault t fault.BadEnds = IsUtf8 t.bytes × ¬ (IsCut t.bytes 0 t.ends)
-KeyFault t fault.BadKey = AreTexts t × (2 < length t.ends)
-KeyFault t fault.NoMemory = AreKeyTexts t
-KeyFault t e = ⊥
+-- says why the texts are no key of this width
+abbrev pub KeyFault : ℕ → TextsOf → Fault → Type 0
+KeyFault width t fault.NotUtf8 = ¬ (IsUtf8 t.bytes)
+KeyFault width t fault.BadEnds = IsUtf8 t.bytes × ¬ (IsCut t.bytes 0 t.ends)
+KeyFault width t fault.BadKey = AreTexts t × (length t.ends ≢ width)
+KeyFault width t fault.NoMemory = AreKeyTexts width t
+KeyFault width t e = ⊥
 
 -- ---- keys of a loader
 
@@ -65,38 +65,38 @@ laid_keys k = record {
 abbrev pub keys_at : LaidKeys → KeysOf
 keys_at k = record { loader = k.loader; keys = keys_in k.shapes k.texts.ends k.texts.bytes }
 
--- each of the first `i` keys has at most two texts, and there are as many texts as these keys have
-pub record AreKeysTo (k : LaidKeys) (i : ℕ) : Type 0 where
+-- each of the first `i` keys has as many texts as the loader has columns, and there are as many texts as these keys have
+pub record AreKeysTo (width : ℕ) (k : LaidKeys) (i : ℕ) : Type 0 where
   pub texts : AreTexts k.texts
-  pub few : All (λ n. n ≤ 2) (take i k.shapes)
+  pub fit : All (λ n. n ≡ width) (take i k.shapes)
   pub enough : sum (take i k.shapes) ≤ length k.texts.ends
 
--- each key has none, one or two texts, and there are just the texts that they have
-pub record AreKeys (k : LaidKeys) : Type 0 where
+-- each key has as many texts as the loader has columns, and there are just the texts that they have
+pub record AreKeys (width : ℕ) (k : LaidKeys) : Type 0 where
   pub texts : AreTexts k.texts
-  pub few : All (λ n. n ≤ 2) k.shapes
+  pub fit : All (λ n. n ≡ width) k.shapes
   pub all : sum k.shapes ≡ length k.texts.ends
 
--- says why they are no keys: the texts aren't well formed; a key, which is the first with a fault, has too many texts, or more than
--- there are; or texts are left
-abbrev pub KeysFault : LaidKeys → Fault → Type 0
-KeysFault k fault.NotUtf8 = ¬ (IsUtf8 k.texts.bytes)
-KeysFault k fault.BadEnds = IsUtf8 k.texts.bytes × ¬ (IsCut k.texts.bytes 0 k.texts.ends)
-KeysFault k fault.BadKey = (i : ℕ) × AreKeysTo k i × (i < length k.shapes)
-    × (2 < get_or k.shapes i 0)
-KeysFault k fault.TooFewTexts = (i : ℕ) × AreKeysTo k i × (i < length k.shapes)
+-- says why they are no keys: the texts aren't well formed; a key, which is the first with a fault, has another number of texts than the
+-- loader has columns, or more than there are; or texts are left
+abbrev pub KeysFault : ℕ → LaidKeys → Fault → Type 0
+KeysFault width k fault.NotUtf8 = ¬ (IsUtf8 k.texts.bytes)
+KeysFault width k fault.BadEnds = IsUtf8 k.texts.bytes × ¬ (IsCut k.texts.bytes 0 k.texts.ends)
+KeysFault width k fault.BadKey = (i : ℕ) × AreKeysTo width k i × (i < length k.shapes)
+    × (get_or k.shapes i 0 ≢ width)
+KeysFault width k fault.TooFewTexts = (i : ℕ) × AreKeysTo width k i × (i < length k.shapes)
     × (length k.texts.ends < sum (take i k.shapes) + get_or k.shapes i 0)
-KeysFault k fault.TextsLeft = AreTexts k.texts × All (λ n. n ≤ 2) k.shapes
+KeysFault width k fault.TextsLeft = AreTexts k.texts × All (λ n. n ≡ width) k.shapes
     × (sum k.shapes < length k.texts.ends)
-KeysFault k fault.NoMemory = AreTexts k.texts
-KeysFault k e = ⊥
+KeysFault width k fault.NoMemory = AreTexts k.texts
+KeysFault width k e = ⊥
 
--- says why a key of `n` texts isn't there, where texts from `at` on are left of `count`
-abbrev pub ShapeFault : ℕ → ℕ → ℕ → Fault → Type 0
-ShapeFault n count at fault.BadKey = 2 < n
-ShapeFault n count at fault.TooFewTexts = count < at + n
-ShapeFault n count at fault.NoMemory = Unit {0}
-ShapeFault n count at e = ⊥
+-- says why a key of `n` texts isn't there, where texts from `at` on are left of `count`, and keys have `width`
+abbrev pub ShapeFault : ℕ → ℕ → ℕ → ℕ → Fault → Type 0
+ShapeFault width n count at fault.BadKey = n ≢ width
+ShapeFault width n count at fault.TooFewTexts = count < at + n
+ShapeFault width n count at fault.NoMemory = Unit {0}
+ShapeFault width n count at e = ⊥
 
 -- ---- a reply
 

@@ -6,9 +6,11 @@ pub mod UnderWay
 pub mod Loads
 pub mod AskedKeys
 pub mod Laid
-pub mod Clients
 pub mod LoaderTexts
+pub mod Lines
+pub mod Clients
 pub mod Logs
 pub mod Known
 pub mod Refused
+pub mod Keyed
 pub mod Objects

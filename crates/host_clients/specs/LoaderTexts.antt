@@ -7,6 +7,11 @@ abbrev pub parts_of : Option (List ℕ) → ℕ
 parts_of None = 1
 parts_of (Some second) = 2
 
+-- gives how many texts a key has: as many as the loader has columns
+abbrev pub width_by : Option ByOf → ℕ
+width_by None = 0
+width_by (Some by) = parts_of by.second
+
 abbrev pub kind_by : Option ByOf → ℕ
 kind_by None = 0
 kind_by (Some by) = if by.fold then parts_of by.second + 4 else parts_of by.second

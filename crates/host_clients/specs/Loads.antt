@@ -11,7 +11,7 @@ use Rattle.rounds_by_hand.specs.LoadHands.{IsLoadUnderway, load_pending_in}
 use Rattle.rounds_by_hand.specs.Pending.{order_in}
 use Rattle.server.specs.Clients.{ClientOf, IsClientCall}
 use Rattle.server.specs.LoadsByHand.{LoadByHandOf, load_in}
-use Rattle.server_owned.specs.declared.handed_in.HandedIn.{HandedIn}
+use Rattle.rounds_by_hand.specs.declared.handed_in.HandedIn.{HandedIn}
 
 -- the keys of a host's texts, which end at these places: for each key the number of its texts
 abbrev pub keys_in : List ℕ → List ℕ → List ℕ → List KeyOf
@@ -36,10 +36,10 @@ abbrev pub asked_by : LoadByHandOf HandedIn → KeysOf
 asked_by hand = record { loader = hand.loader; keys = hand.keys }
 
 -- says what holds between calls
-pub record HoldsLoading (hand : LoadByHandOf HandedIn) (asked : KeysOf)
+pub record HoldsLoading (hand : LoadByHandOf HandedIn) (server : ServerOf)
     (orders : List OrderOf) : Type 0 where
   pub is_of : IsLoadOf hand
-  pub asked_is : asked ≡ asked_by hand
+  pub server_is : server ≡ hand.client.server
   pub orders_are : orders ≡ load_orders hand
 
 -- a client with the outcomes of the keys that it loaded last

@@ -3,7 +3,7 @@ use Rattle.std.specs.Prelude.{ℕ, ◌≡◌, List, Option, MatchOption, map, op
 use Rattle.load_memory.specs.Keys.{KeyOf}
 use Rattle.load_queue.specs.Loaders.{AskedOf, LoaderOf}
 use Rattle.server.specs.Clients.{ClientOf}
-use Rattle.server_owned.specs.declared.handed_in.HandedIn.{HandedIn}
+use Rattle.rounds_by_hand.specs.declared.handed_in.HandedIn.{HandedIn}
 use Rattle.host_clients.specs.Clients.{client_in}
 use Rattle.host_clients.specs.declared.client.HostClient.{HostClient}
 

@@ -7,7 +7,7 @@ use Rattle.load_queue.specs.Loaders.{LoaderOf}
 use Rattle.gq_bindings.specs.Tree as bindings
 use Rattle.plan_requests.specs.Servers.{ServerOf, IsServerFault}
 use Rattle.server.specs.Opening.{new_loader}
-use Rattle.server_owned.specs.declared.handed_in.HandedIn.{HandedIn}
+use Rattle.rounds_by_hand.specs.declared.handed_in.HandedIn.{HandedIn}
 use Rattle.host_clients.specs.declared.client.HostClient.{HostClient}
 use Rattle.host_clients.specs.declared.client.HostClient.TheVariants.{Idle}
 use Rattle.host_clients.specs.declared.fault.Fault.{Fault}

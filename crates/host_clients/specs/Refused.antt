@@ -3,7 +3,7 @@
 use Rattle.std.specs.Prelude.{ℕ, ◌≡◌, ◌≢◌, ◌≤◌, ◌⊎◌, List, true, length, slice_get, IsUtf8}
 use Rattle.rounds_by_hand.specs.Pending.{is_in_at}
 use Rattle.rounds_by_hand.specs.declared.pending.Pending.{Pending}
-use Rattle.host_clients.specs.Clients.{HasCount, LacksLoader, WaitsAt, is_busy, pending_of}
+use Rattle.host_clients.specs.Clients.{HasCount, HasLoader, LacksLoader, WaitsAt, is_busy, pending_of, width_in}
 use Rattle.host_clients.specs.Laid.{AreKeyTexts, IsReplyFault, KeyFault, KeysFault, LaidKeys, LaidReply, TextsOf, items_at}
 use Rattle.host_clients.specs.declared.client.HostClient.{HostClient}
 use Rattle.host_clients.specs.declared.fault.Fault.{Fault}
@@ -35,22 +35,26 @@ KnownFault loader client fault.NoLoader = LacksLoader client loader
 KnownFault loader client fault.NoMemory = Unit {0}
 KnownFault loader client e = ⊥
 
--- why no keys are begun to load
+-- why no keys are begun to load: the client's fault comes first, then that of the keys
 abbrev pub LoadFault : LaidKeys → HostClient → Fault → Type 0
-LoadFault keys client e = LoaderFault keys.loader client e ⊎ KeysFault keys e
+LoadFault keys client e = LoaderFault keys.loader client e
+    ⊎ (HasLoader client keys.loader × KeysFault (width_in client keys.loader) keys e)
 
--- why nothing is added for a key: the first fault of the key, of the reply, or of the client
+-- why nothing is added for a key: the first fault of the client, of the key, or of the reply; or memory ran out
 pub data PrimeFault (loader : ℕ) (key : TextsOf) (reply : LaidReply)
     (client : HostClient) (e : Fault) : Type 0 where
-  of_key : KeyFault key e → PrimeFault loader key reply client e
-  of_reply : AreKeyTexts key → IsReplyFault reply e → PrimeFault loader key reply client e
-  of_count : AreKeyTexts key → length (items_at reply) ≢ 1 → e ≡ fault.BadCount
+  of_client : LoaderFault loader client e → PrimeFault loader key reply client e
+  of_key : HasLoader client loader → KeyFault (width_in client loader) key e
       → PrimeFault loader key reply client e
-  of_client : AreKeyTexts key → KnownFault loader client e → PrimeFault loader key reply client e
+  of_reply : HasLoader client loader → AreKeyTexts (width_in client loader) key
+      → IsReplyFault reply e → PrimeFault loader key reply client e
+  of_count : HasLoader client loader → AreKeyTexts (width_in client loader) key
+      → length (items_at reply) ≢ 1 → e ≡ fault.BadCount → PrimeFault loader key reply client e
 
--- why a key isn't forgotten
+-- why a key isn't forgotten: the client's fault comes first, then that of the key; or memory ran out
 abbrev pub ClearFault : ℕ → TextsOf → HostClient → Fault → Type 0
-ClearFault loader key client e = KeyFault key e ⊎ (AreKeyTexts key × KnownFault loader client e)
+ClearFault loader key client e = LoaderFault loader client e
+    ⊎ (HasLoader client loader × KeyFault (width_in client loader) key e)
 
 -- ---- replies
 

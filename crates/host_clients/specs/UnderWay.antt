@@ -9,7 +9,7 @@ use Rattle.rounds_by_hand.specs.Hands.{pending_in}
 use Rattle.rounds_by_hand.specs.Pending.{order_in}
 use Rattle.server.specs.Clients.{ClientOf}
 use Rattle.server.specs.Hands.{ByHandOf, IsUnderway}
-use Rattle.server_owned.specs.declared.handed_in.HandedIn.{HandedIn}
+use Rattle.rounds_by_hand.specs.declared.handed_in.HandedIn.{HandedIn}
 use Rattle.host_clients.specs.Asked.{HostAsked, PlansHost, AnswersHost}
 
 -- says what a client was asked, and how far that is
@@ -29,9 +29,10 @@ abbrev pub orders_out : ByHandOf HandedIn → List OrderOf
 orders_out hand = map order_in (pending_in hand.far)
 
 -- says what holds between calls
-pub record HoldsUnderWay (hand : ByHandOf HandedIn) (asked : HostAsked)
+pub record HoldsUnderWay (hand : ByHandOf HandedIn) (server : ServerOf) (asked : HostAsked)
     (orders : List OrderOf) : Type 0 where
   pub is_of : IsOf hand asked
+  pub server_is : server ≡ hand.client.server
   pub orders_are : orders ≡ orders_out hand
 
 -- a client with the answer to what it was asked last

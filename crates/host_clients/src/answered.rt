@@ -2,20 +2,19 @@
 ghost use Rattle.std.specs.Prelude.{◌≡◌, string_bytes};
 ghost use Rattle.host_clients.specs.UnderWay.{IsAnswerOf};
 
-use crate::asked::AskedTexts;
+use crate::note::AskedNote;
+use rounds_by_hand::HandedIn;
 use server::ClientSession;
-use server_owned::HandedIn;
 use std::marker::Model;
 
 /// A client with the answer to what it was asked last.
 ///
 /// A contract sees the client, what was asked, the text and how many rounds it took. The text is the answer of that (`IsAnswerOf`).
-#[derive(Drop)]
 pub struct AnsweredClient {
     pub(crate) client: ClientSession<HandedIn>,
-    pub(crate) asked: AskedTexts,
     pub(crate) text: String,
     pub(crate) rounds: u32,
+    pub(crate) note: AskedNote,
 }
 
 impl Model for AnsweredClient {
@@ -23,17 +22,27 @@ impl Model for AnsweredClient {
     ghost use Rattle.std.specs.Prelude.{string_bytes};
     ghost use Rattle.gq_parser.specs.contracts.tree.TypeRef as type_ref;
     ghost use Rattle.gq_parser.specs.contracts.tree.Literal as literal;
-    ghost use Rattle.server_owned.specs.contracts.handed_in.HandedIn as handed;
-    ghost use Rattle.host_clients.specs.Texts.{asked_in};
+    ghost use Rattle.rounds_by_hand.specs.contracts.handed_in.HandedIn as handed;
     ghost use Rattle.host_clients.specs.UnderWay.{AnsweredOf, IsAnswerOf};
 
     ghost Value = { AnsweredOf };
 
     ghost coded = { Prim.hlevel (codes, type_ref.the_row.coded, literal.the_row.coded, handed.the_row.coded) };
 
-    ghost view = { λ a. record { client = a.client; asked = asked_in a.asked; text = string_bytes a.text; rounds = a.rounds } };
+    ghost view = { λ a. record { client = a.client; asked = a.note.asked; text = string_bytes a.text; rounds = a.rounds } };
 
-    ghost invariant = { λ a. IsAnswerOf a.client.server (asked_in a.asked) (string_bytes a.text) a.rounds };
+    ghost invariant = { λ a. IsAnswerOf a.client.server (a.note.asked) (string_bytes a.text) a.rounds };
+}
+
+impl Drop for AnsweredClient {
+    fn drop(self) {
+        let AnsweredClient {
+            client: _client,
+            text: _text,
+            rounds: _,
+            note: _note,
+        } = self;
+    }
 }
 
 impl AnsweredClient {
@@ -64,6 +73,12 @@ impl AnsweredClient {
     pub fn into_client(self) -> ClientSession<HandedIn>
         ensures { result ≡ self.client }
     {
-        self.client
+        let AnsweredClient {
+            client,
+            text: _text,
+            rounds: _,
+            note: _note,
+        } = self;
+        client
     }
 }

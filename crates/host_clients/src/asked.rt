@@ -3,13 +3,13 @@ ghost use Rattle.std.specs.Prelude.{◌≡◌, ◌≤◌, length, IfOk, IfSome, 
 ghost use Rattle.serde_json.specs.Data.{Data};
 ghost use Rattle.serde_json.specs.Read.{read};
 ghost use Rattle.serde_json.specs.View.{view};
-ghost use Rattle.host_clients.specs.Asked.{AreVariables, IsOfNoRequest, PlansHost, line as line_asked, request as request_asked};
-ghost use Rattle.host_clients.specs.Texts.{IsRequestWith, asked_in, flat_parts, parts_in};
+ghost use Rattle.host_clients.specs.Asked.{AreVariables, IsOfNoRequest, PlansHost, request as request_asked};
+ghost use Rattle.host_clients.specs.Texts.{IsRequestWith, asked_in, flat_parts};
 
+use rounds_by_hand::HandedIn;
 use serde_json::Value;
 use serde_json::error::Category;
 use server::{ClientSession, PlannedRequest, Request};
-use server_owned::HandedIn;
 use std::alloc::{AllocError, Global};
 use std::str;
 
@@ -24,21 +24,13 @@ pub struct FlatRequest<'h> {
     pub variables: &'h [u8],
 }
 
-/// The texts of a request.
-#[derive(Drop)]
-pub(crate) struct RequestTexts {
-    query: Vec<u8>,
-    operation_name: Vec<u8>,
-    variables: Vec<u8>,
-}
-
-/// The texts of what a host asked.
-#[derive(Drop)]
-pub(crate) enum AskedTexts {
+/// What a host asks, as it passes it.
+#[derive(Clone, Copy)]
+pub(crate) enum FlatAsked<'h> {
     /// JSON text: a request, or an array of 1 to 16 of these.
-    Line(Vec<u8>),
+    Line(&'h [u8]),
     /// A request by its parts.
-    Request(RequestTexts),
+    Request(FlatRequest<'h>),
 }
 
 // The value that a text is. `None` is no JSON text.
@@ -72,16 +64,16 @@ fn read_variables(alloc: Global, text: &[u8]) -> Result<Option<Option<Value>>, A
     }
 }
 
-impl RequestTexts {
+impl FlatRequest<'_> {
     // The request of these texts, whose variables are read.
     fn request<'t>(&'t self, variables: Option<&'t Value>) -> Option<Request<'t>>
         ensures some { IfSome result
-            (IsRequestWith self.now (option_map (λ v. view v.now) variables.entry)) }
+            (IsRequestWith (flat_parts self.now) (option_map (λ v. view v.now) variables.entry)) }
         ensures none { IfNone result
-            (IsOfNoRequest (parts_in self.now)) }
+            (IsOfNoRequest (flat_parts self.now)) }
     {
-        let query = str::from_utf8(&self.query).ok()?;
-        let name = str::from_utf8(&self.operation_name).ok()?;
+        let query = str::from_utf8(self.query).ok()?;
+        let name = str::from_utf8(self.operation_name).ok()?;
         Some(Request {
             query,
             operation_name: if name.is_empty() { None } else { Some(name) },
@@ -96,12 +88,12 @@ impl RequestTexts {
         alloc: Global,
         client: &mut ClientSession<HandedIn>,
     ) -> Result<PlannedRequest, AllocError>
-        ensures planned { IfOk result (PlansHost client.old (request_asked (parts_in self.now))) }
+        ensures planned { IfOk result (PlansHost client.old (request_asked (flat_parts self.now))) }
         ensures fits { IfOk result (λ planned.
             planned.loaders ≤ length client.new.session.loaders) }
         ensures same { client.new ≡ client.old }
     {
-        let Some(variables) = read_variables(alloc, &self.variables)? else {
+        let Some(variables) = read_variables(alloc, self.variables)? else {
             return client.plan_text(&[]);
         };
         match self.request(variables.as_ref()) {
@@ -111,27 +103,7 @@ impl RequestTexts {
     }
 }
 
-impl AskedTexts {
-    /// This line.
-    pub fn of_line(alloc: Global, line: &[u8]) -> Result<AskedTexts, AllocError>
-        ensures { IfOk result
-            (λ own. asked_in own ≡ line_asked line.now) }
-    {
-        Ok(AskedTexts::Line(line.to_vec(alloc)?))
-    }
-
-    /// The request of these parts.
-    pub fn of_request(alloc: Global, parts: &FlatRequest<'_>) -> Result<AskedTexts, AllocError>
-        ensures { IfOk result (λ own. asked_in own
-            ≡ request_asked (flat_parts parts.now)) }
-    {
-        Ok(AskedTexts::Request(RequestTexts {
-            query: parts.query.to_vec(alloc)?,
-            operation_name: parts.operation_name.to_vec(alloc)?,
-            variables: parts.variables.to_vec(alloc)?,
-        }))
-    }
-
+impl FlatAsked<'_> {
     /// Returns what it asks of a client.
     pub fn plan(
         &self,
@@ -145,8 +117,8 @@ impl AskedTexts {
         ensures same { client.new ≡ client.old }
     {
         match self {
-            AskedTexts::Line(line) => client.plan_text(line),
-            AskedTexts::Request(texts) => texts.plan(alloc, client),
+            FlatAsked::Line(line) => client.plan_text(line),
+            FlatAsked::Request(request) => request.plan(alloc, client),
         }
     }
 }

@@ -1,28 +1,29 @@
 //! Clients whose rounds another language runs.
-ghost use Rattle.std.specs.Prelude.{◌≡◌, ◌≢◌, ◌↔◌, true, false, length, Some, IfOk, IfErr, IfSome, IfNone, OnOk, OnErr, IsErrOf};
+ghost use Rattle.std.specs.Prelude.{◌≡◌, ◌≢◌, ◌<◌, ◌↔◌, true, false, length, Some, IfOk, IfErr, IfSome, IfNone, OnOk, OnErr, IsErrOf};
 ghost use Rattle.std.specs.Prelude.{option_map, slice_get, IsUtf8};
 ghost use Rattle.flat_orders.specs.Orders.{keys_of};
 ghost use Rattle.host_clients.specs.Asked.{line as line_asked, request as request_asked};
 ghost use Rattle.host_clients.specs.AskedKeys.{flat_keys};
-ghost use Rattle.host_clients.specs.Clients.{Advances, Cancels, HasCount, IsBegun, IsBegunLoad, LacksLoader, TakesAnswerTo, TakesFailure, TakesReply};
-ghost use Rattle.host_clients.specs.Clients.{KeepsOrStops, StopsAt, client_in, is_busy, orders_in, pending_of};
+ghost use Rattle.host_clients.specs.Clients.{Advances, Cancels, HasCount, HasLoader, IsBegun, IsBegunLoad, LacksLoader, TakesAnswerTo, TakesFailure, TakesReply};
+ghost use Rattle.host_clients.specs.Clients.{KeepsOrStops, StopsAt, client_in, is_busy, orders_in, pending_of, width_in};
 ghost use Rattle.host_clients.specs.Known.{items_in};
 ghost use Rattle.host_clients.specs.Laid.{AreKeys, laid_keys, laid_reply};
-ghost use Rattle.host_clients.specs.Refused.{BeginFault, FailureFault, LoadFault, OrderFault, RowsFault};
+ghost use Rattle.host_clients.specs.Refused.{BeginFault, FailureFault, LoadFault, LoaderFault, OrderFault, RowsFault};
 ghost use Rattle.host_clients.specs.Texts.{asked_in, flat_parts};
 
 use crate::answered::AnsweredClient;
-use crate::asked::{AskedTexts, FlatRequest};
-use crate::asked_keys::{AskedKeys, FlatKeys};
+use crate::asked::{FlatAsked, FlatRequest};
+use crate::asked_keys::FlatKeys;
 use crate::fault::Fault;
 use crate::loaded::LoadedClient;
+use crate::loaders::key_width;
 use crate::loading::LoadUnderWay;
 use crate::under_way::UnderWay;
 use flat_rows::FlatReply;
 use load_memory::Item;
 use load_queue::FetchFault;
+use rounds_by_hand::HandedIn;
 use server::ClientSession;
-use server_owned::HandedIn;
 use std::alloc::Global;
 use std::{mem, str};
 
@@ -86,6 +87,26 @@ impl HostClient {
         }
     }
 
+    /// The client, which has a loader of this number.
+    ///
+    /// # Errors
+    ///
+    /// [`Busy`](Fault::Busy), [`NoLoader`](Fault::NoLoader).
+    pub(crate) fn client_with(&self, loader: usize) -> Result<&ClientSession<HandedIn>, Fault>
+        ensures client { IfOk result (λ client. (client_in self.now ≡ Some client.now)
+            × (loader < length client.now.session.loaders)) }
+        ensures there { OnOk result (HasLoader self.now loader) }
+        ensures fault { IfErr result (LoaderFault loader self.now) }
+    {
+        let Some(client) = self.idle() else {
+            return Err(Fault::Busy);
+        };
+        if loader >= client.session().loaders().len() {
+            return Err(Fault::NoLoader);
+        }
+        Ok(client)
+    }
+
     /// Tells whether what it was asked last is on its way.
     pub fn is_busy(&self) -> bool
         ensures { result ≡ is_busy self.now }
@@ -104,9 +125,9 @@ impl HostClient {
     }
 
     // Begins the answer to what was asked, as the calls below do it.
-    fn begin(&mut self, alloc: Global, asked: AskedTexts) -> Result<(), Fault>
+    fn begin(&mut self, alloc: Global, asked: &FlatAsked<'_>) -> Result<(), Fault>
         ensures begun { OnOk result
-            (IsBegun self.old (asked_in asked) self.new) }
+            (IsBegun self.old (asked_in asked.now) self.new) }
         ensures kept { OnErr result
             (client_in self.new ≡ client_in self.old) }
         ensures busy { IsErrOf result Fault.Busy
@@ -146,11 +167,7 @@ impl HostClient {
         ensures fault { IfErr result
             (BeginFault self.old) }
     {
-        if self.is_busy() {
-            return Err(Fault::Busy);
-        }
-        let asked = AskedTexts::of_line(alloc, line)?;
-        self.begin(alloc, asked)
+        self.begin(alloc, &FlatAsked::Line(line))
     }
 
     /// Does what [`begin_line`](HostClient::begin_line) does, with a request by its parts. What isn't UTF-8 or no JSON is answered as what
@@ -171,11 +188,7 @@ impl HostClient {
         ensures fault { IfErr result
             (BeginFault self.old) }
     {
-        if self.is_busy() {
-            return Err(Fault::Busy);
-        }
-        let asked = AskedTexts::of_request(alloc, parts)?;
-        self.begin(alloc, asked)
+        self.begin(alloc, &FlatAsked::Request(*parts))
     }
 
     /// Begins to load keys of a loader: those that aren't known are asked for in one round, of equal keys only the first, and then there is
@@ -193,25 +206,21 @@ impl HostClient {
             ↔ (is_busy self.old ≡ true) }
         ensures no_loader { IsErrOf result Fault.NoLoader
             ↔ LacksLoader self.old keys.now.loader }
-        ensures formed { OnOk result (AreKeys (laid_keys keys.now)) }
+        ensures formed { OnOk result (AreKeys (width_in self.old keys.now.loader) (laid_keys keys.now)) }
         ensures fault { IfErr result
             (LoadFault (laid_keys keys.now) self.old) }
     {
-        let Some(client) = self.idle() else {
-            return Err(Fault::Busy);
-        };
-        if keys.loader >= client.session().loaders().len() {
-            return Err(Fault::NoLoader);
-        }
-        let read = keys.read(alloc)?;
-        let asked = AskedKeys::of(alloc, keys)?;
+        let client = self.client_with(keys.loader)?;
+        let read = keys.read(alloc, key_width(client.server(), keys.loader))?;
+        let server = client.server().clone()?;
         match mem::replace(self, HostClient::Moved).into_idle() {
             Err(busy) => {
                 self.put(busy);
                 Err(Fault::Busy)
             }
             Ok(client) => {
-                self.put(HostClient::Loading(LoadUnderWay::begin(alloc, client, asked, read)));
+                let loading = LoadUnderWay::begin(alloc, client, server, keys.loader, read);
+                self.put(HostClient::Loading(loading));
                 Ok(())
             }
         }
@@ -266,8 +275,8 @@ impl HostClient {
         }
     }
 
-    // Takes the answer to an order.
-    fn take(
+    /// Takes the answer to an order.
+    pub(crate) fn take(
         &mut self,
         alloc: Global,
         number: usize,
@@ -334,7 +343,7 @@ impl HostClient {
         ensures fault { IfErr result
             (FailureFault number text.now self.old) }
     {
-        if !self.is_busy() {
+        if self.count(number).is_none() {
             return Err(Fault::NoOrder);
         }
         let Ok(text) = str::from_utf8(text) else {

@@ -37,7 +37,7 @@ pub enum Fault {
     Replied,
     /// No loader of this number.
     NoLoader,
-    /// A key has another number of texts than 0, 1 or 2.
+    /// A key has another number of texts than its loader has columns.
     BadKey,
     /// A text ends before it begins, past the bytes or inside a character, or the last one isn't the bytes' end.
     BadEnds,
@@ -51,6 +51,10 @@ pub enum Fault {
     NoColumn,
     /// More than 4,294,967,295 rows in one reply.
     TooManyRows,
+    /// Rows in any order lack a column that their loader is by.
+    NoKeyColumn,
+    /// A row has a key that wasn't asked for.
+    NotAsked,
 }
 
 impl Fault {
@@ -78,6 +82,8 @@ impl Fault {
             Fault::TextsLeft => -17,
             Fault::NoColumn => -18,
             Fault::TooManyRows => -19,
+            Fault::NoKeyColumn => -20,
+            Fault::NotAsked => -21,
         }
     }
 
@@ -108,6 +114,8 @@ impl Fault {
             -17 => Some(Fault::TextsLeft),
             -18 => Some(Fault::NoColumn),
             -19 => Some(Fault::TooManyRows),
+            -20 => Some(Fault::NoKeyColumn),
+            -21 => Some(Fault::NotAsked),
             _ => None,
         }
     }
@@ -134,6 +142,8 @@ impl Fault {
             Fault::TextsLeft => "RZ_TEXTS_LEFT",
             Fault::NoColumn => "RZ_NO_COLUMN",
             Fault::TooManyRows => "RZ_TOO_MANY_ROWS",
+            Fault::NoKeyColumn => "RZ_NO_KEY_COLUMN",
+            Fault::NotAsked => "RZ_NOT_ASKED",
         }
     }
 
@@ -152,7 +162,7 @@ impl Fault {
             Fault::NoOrder => "no round is out, or it has no order of this number",
             Fault::Replied => "the order has a reply",
             Fault::NoLoader => "no loader of this number",
-            Fault::BadKey => "a key has another number of texts than 0, 1 or 2",
+            Fault::BadKey => "a key has another number of texts than its loader has columns",
             Fault::BadEnds => {
                 "a text ends before it begins, past the bytes or inside a character, or the last one isn't the bytes' end"
             }
@@ -161,6 +171,8 @@ impl Fault {
             Fault::TextsLeft => "more texts than columns, rows and faults, or keys take",
             Fault::NoColumn => "rows of no column",
             Fault::TooManyRows => "more than 4,294,967,295 rows in one reply",
+            Fault::NoKeyColumn => "rows in any order lack a column that their loader is by",
+            Fault::NotAsked => "a row has a key that wasn't asked for",
         }
     }
 }

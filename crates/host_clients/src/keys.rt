@@ -1,10 +1,10 @@
 //! Keys of a client, primed and cleared.
-ghost use Rattle.std.specs.Prelude.{true, ◌≡◌, ◌≢◌, ◌∷◌, [], IfOk, IfErr, IfSome, IfNone, OnOk, OnErr, IsErrOf, length};
+ghost use Rattle.std.specs.Prelude.{true, ◌≡◌, ◌≢◌, ◌≤◌, ◌∷◌, [], IfOk, IfErr, IfSome, IfNone, OnOk, OnErr, IsErrOf, length};
 ghost use Rattle.load_memory.specs.Keys.{key_of};
 ghost use Rattle.load_memory.specs.Outcomes.{item_of};
 ghost use Rattle.load_rounds.specs.Histories.{ClearingAll};
 ghost use Rattle.server.specs.Clients.{begun};
-ghost use Rattle.host_clients.specs.Clients.{LacksLoader, client_in, is_busy};
+ghost use Rattle.host_clients.specs.Clients.{LacksLoader, client_in, is_busy, width_in};
 ghost use Rattle.host_clients.specs.Known.{Calls, Clears, Forgets, KeepsOrForgets, LimitsAnswers, OnClient, Primes, PrimesSaid, items_in, key_in};
 ghost use Rattle.host_clients.specs.Laid.{AreKeyTexts, KeyFault, laid_reply, texts_at};
 ghost use Rattle.host_clients.specs.Logs.{AreBatches, LogHolds};
@@ -12,31 +12,35 @@ ghost use Rattle.host_clients.specs.Refused.{BeginFault, BusyFault, ClearFault, 
 
 use crate::client::HostClient;
 use crate::fault::Fault;
+use crate::loaders::key_width;
 use crate::log::BatchLog;
 use flat_rows::{FlatReply, FlatTexts};
 use load_memory::{Item, Key};
 use std::alloc::Global;
 use std::mem;
 
-/// The key of 0, 1 or 2 texts, each from where the one before it ends.
+/// The key of these texts, each from where the one before it ends, of a loader whose keys have `width`.
 ///
 /// # Errors
 ///
 /// [`NotUtf8`](Fault::NotUtf8), [`BadEnds`](Fault::BadEnds), [`BadKey`](Fault::BadKey), [`NoMemory`](Fault::NoMemory).
-pub fn read_key(alloc: Global, ends: &[u32], bytes: &[u8]) -> Result<Key, Fault>
+pub fn read_key(alloc: Global, width: u32, ends: &[u32], bytes: &[u8]) -> Result<Key, Fault>
+    requires { width ≤ 2 }
     ensures key { IfOk result
         (λ key. key_of key ≡ key_in ends.now bytes.now) }
     ensures formed { OnOk result
-        (AreKeyTexts (texts_at ends.now bytes.now)) }
+        (AreKeyTexts width (texts_at ends.now bytes.now)) }
     ensures fault { IfErr result
-        (KeyFault (texts_at ends.now bytes.now)) }
+        (KeyFault width (texts_at ends.now bytes.now)) }
 {
     let texts = FlatTexts::new(bytes, ends)?;
-    match texts.len() {
+    if texts.len() != width as usize {
+        return Err(Fault::BadKey);
+    }
+    match width {
         0 => Ok(Key::All),
         1 => Ok(Key::of_text(alloc, texts.get(0))?),
-        2 => Ok(Key::of_pair(alloc, texts.get(0), texts.get(1))?),
-        _ => Err(Fault::BadKey),
+        _ => Ok(Key::of_pair(alloc, texts.get(0), texts.get(1))?),
     }
 }
 
@@ -53,17 +57,17 @@ fn the_one(items: Vec<Item>) -> Option<Item>
 
 impl HostClient {
     /// Adds an item for a loader's key, unless the key is known; true if it was added. Like each of these calls it lets an answer or
-    /// outcomes go.
+    /// outcomes go, unless it is refused.
     ///
     /// # Errors
     ///
-    /// [`Busy`](Fault::Busy) while a request is being answered or keys are loaded, [`NoLoader`](Fault::NoLoader): the client is as it was.
-    /// [`NoMemory`](Fault::NoMemory): failed batches are forgotten, and the client is else as it was.
+    /// [`Busy`](Fault::Busy) while a request is being answered or keys are loaded, [`NoLoader`](Fault::NoLoader): nothing has changed.
+    /// [`NoMemory`](Fault::NoMemory): failed batches are forgotten, an answer or outcomes are let go, and the client is else as it was.
     pub fn prime(&mut self, loader: usize, key: &Key, item: Item) -> Result<bool, Fault>
         ensures primed { IfOk result (λ added.
             OnClient (Primes loader (key_of key.now) (item_of item) added) self.old self.new) }
         ensures kept { IfErr result (λ fault.
-            fault ≢ Fault.NoMemory → client_in self.new ≡ client_in self.old) }
+            fault ≢ Fault.NoMemory → self.new ≡ self.old) }
         ensures no_memory { IfErr result (λ fault.
             fault ≡ Fault.NoMemory → OnClient Forgets self.old self.new) }
         ensures busy { is_busy self.old ≡ true
@@ -72,6 +76,7 @@ impl HostClient {
             → LacksLoader self.old loader }
         ensures fault { IfErr result (KnownFault loader self.old) }
     {
+        self.client_with(loader)?;
         match mem::replace(self, HostClient::Moved).into_idle() {
             Err(busy) => {
                 self.put(busy);
@@ -90,8 +95,9 @@ impl HostClient {
     ///
     /// # Errors
     ///
-    /// The first fault of the key or of the reply; [`BadCount`](Fault::BadCount) where the reply hasn't just one item; and those of
-    /// [`prime`](HostClient::prime).
+    /// [`Busy`](Fault::Busy), [`NoLoader`](Fault::NoLoader); the first fault of the key, then that of the reply;
+    /// [`BadCount`](Fault::BadCount) where the reply hasn't just one item: nothing has changed. [`NoMemory`](Fault::NoMemory) as that of
+    /// [`prime`](HostClient::prime), or nothing has changed.
     pub fn prime_flat(
         &mut self,
         alloc: Global,
@@ -103,16 +109,19 @@ impl HostClient {
         ensures primed { let key = key_in key_ends.now key_bytes.now in IfOk result
             (λ b. OnClient (PrimesSaid loader key (items_in reply.now) b) self.old self.new) }
         ensures kept { IfErr result (λ fault.
-            fault ≢ Fault.NoMemory → client_in self.new ≡ client_in self.old) }
+            fault ≢ Fault.NoMemory → self.new ≡ self.old) }
         ensures no_memory { IfErr result (λ fault.
             fault ≡ Fault.NoMemory → KeepsOrForgets self.old self.new) }
         ensures busy { is_busy self.old ≡ true
             → self.new ≡ self.old }
-        ensures formed { OnOk result (AreKeyTexts (texts_at key_ends.now key_bytes.now)) }
+        ensures formed { OnOk result
+            (AreKeyTexts (width_in self.old loader) (texts_at key_ends.now key_bytes.now)) }
         ensures fault { let key = texts_at key_ends.now key_bytes.now in
             IfErr result (PrimeFault loader key (laid_reply reply.now) self.old) }
     {
-        let key = read_key(alloc, key_ends, key_bytes)?;
+        let client = self.client_with(loader)?;
+        let width = key_width(client.server(), loader);
+        let key = read_key(alloc, width, key_ends, key_bytes)?;
         match the_one(reply.items(alloc)?) {
             Some(item) => self.prime(loader, &key, item),
             None => Err(Fault::BadCount),
@@ -123,7 +132,8 @@ impl HostClient {
     ///
     /// # Errors
     ///
-    /// The first fault of the key, and those of [`clear`](HostClient::clear).
+    /// [`Busy`](Fault::Busy), [`NoLoader`](Fault::NoLoader); the first fault of the key: nothing has changed.
+    /// [`NoMemory`](Fault::NoMemory) as that of [`clear`](HostClient::clear), or nothing has changed.
     pub fn clear_flat(
         &mut self,
         alloc: Global,
@@ -134,16 +144,19 @@ impl HostClient {
         ensures cleared { IfOk result (λ there.
             OnClient (Clears loader (key_in key_ends.now key_bytes.now) there) self.old self.new) }
         ensures kept { IfErr result (λ fault.
-            fault ≢ Fault.NoMemory → client_in self.new ≡ client_in self.old) }
+            fault ≢ Fault.NoMemory → self.new ≡ self.old) }
         ensures no_memory { IfErr result (λ fault.
             fault ≡ Fault.NoMemory → KeepsOrForgets self.old self.new) }
         ensures busy { is_busy self.old ≡ true
             → self.new ≡ self.old }
-        ensures formed { OnOk result (AreKeyTexts (texts_at key_ends.now key_bytes.now)) }
+        ensures formed { OnOk result
+            (AreKeyTexts (width_in self.old loader) (texts_at key_ends.now key_bytes.now)) }
         ensures fault { IfErr result
             (ClearFault loader (texts_at key_ends.now key_bytes.now) self.old) }
     {
-        let key = read_key(alloc, key_ends, key_bytes)?;
+        let client = self.client_with(loader)?;
+        let width = key_width(client.server(), loader);
+        let key = read_key(alloc, width, key_ends, key_bytes)?;
         self.clear(loader, &key)
     }
 
@@ -156,7 +169,7 @@ impl HostClient {
         ensures cleared { IfOk result (λ there.
             OnClient (Clears loader (key_of key.now) there) self.old self.new) }
         ensures kept { IfErr result (λ fault.
-            fault ≢ Fault.NoMemory → client_in self.new ≡ client_in self.old) }
+            fault ≢ Fault.NoMemory → self.new ≡ self.old) }
         ensures no_memory { IfErr result (λ fault.
             fault ≡ Fault.NoMemory → OnClient Forgets self.old self.new) }
         ensures busy { is_busy self.old ≡ true
@@ -165,6 +178,7 @@ impl HostClient {
             → LacksLoader self.old loader }
         ensures fault { IfErr result (KnownFault loader self.old) }
     {
+        self.client_with(loader)?;
         match mem::replace(self, HostClient::Moved).into_idle() {
             Err(busy) => {
                 self.put(busy);
@@ -186,14 +200,14 @@ impl HostClient {
     /// [`Busy`](Fault::Busy), [`NoLoader`](Fault::NoLoader).
     pub fn clear_all(&mut self, loader: usize) -> Result<(), Fault>
         ensures cleared { OnOk result (OnClient (Calls (ClearingAll loader)) self.old self.new) }
-        ensures kept { OnErr result
-            (client_in self.new ≡ client_in self.old) }
+        ensures kept { OnErr result (self.new ≡ self.old) }
         ensures busy { is_busy self.old ≡ true
             → self.new ≡ self.old }
         ensures no_loader { IsErrOf result Fault.NoLoader
             → LacksLoader self.old loader }
         ensures fault { IfErr result (LoaderFault loader self.old) }
     {
+        self.client_with(loader)?;
         match mem::replace(self, HostClient::Moved).into_idle() {
             Err(busy) => {
                 self.put(busy);
@@ -217,6 +231,8 @@ impl HostClient {
         ensures begun { OnOk result (OnClient (λ c d. d ≡ begun c) self.old self.new) }
         ensures kept { OnErr result
             (client_in self.new ≡ client_in self.old) }
+        ensures unchanged { IfErr result (λ fault.
+            fault ≢ Fault.NoMemory → self.new ≡ self.old) }
         ensures busy { is_busy self.old ≡ true
             → self.new ≡ self.old }
         ensures fault { IfErr result

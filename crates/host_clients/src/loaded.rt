@@ -5,37 +5,46 @@
 ghost use Rattle.std.specs.Prelude.{◌≡◌};
 ghost use Rattle.host_clients.specs.Loads.{AreOutcomesOf};
 
-use crate::asked_keys::AskedKeys;
 use flat_outcomes::FlatOutcomes;
-use server::ClientSession;
-use server_owned::HandedIn;
+use rounds_by_hand::HandedIn;
+use server::{ClientSession, LoadByHand};
 use std::marker::Model;
+use std::snapshot::Snapshot;
 
 /// A client with the outcomes of the keys that it loaded last.
 ///
 /// A contract sees the client, what was asked, and the outcomes. They are those of the keys (`AreOutcomesOf`).
-#[derive(Drop)]
 pub struct LoadedClient {
     pub(crate) client: ClientSession<HandedIn>,
-    pub(crate) asked: AskedKeys,
     pub(crate) outcomes: FlatOutcomes,
+    // what loaded them, for contracts alone: it takes no memory
+    pub(crate) loaded: Snapshot<LoadByHand<HandedIn>>,
 }
 
 impl Model for LoadedClient {
     ghost use Rattle.std.specs.Coded.{codes};
     ghost use Rattle.gq_parser.specs.contracts.tree.TypeRef as type_ref;
     ghost use Rattle.gq_parser.specs.contracts.tree.Literal as literal;
-    ghost use Rattle.server_owned.specs.contracts.handed_in.HandedIn as handed;
-    ghost use Rattle.host_clients.specs.AskedKeys.{keys_asked};
-    ghost use Rattle.host_clients.specs.Loads.{AreOutcomesOf, LoadedOf};
+    ghost use Rattle.rounds_by_hand.specs.contracts.handed_in.HandedIn as handed;
+    ghost use Rattle.host_clients.specs.Loads.{AreOutcomesOf, LoadedOf, asked_by};
 
     ghost Value = { LoadedOf };
 
     ghost coded = { Prim.hlevel (codes, type_ref.the_row.coded, literal.the_row.coded, handed.the_row.coded) };
 
-    ghost view = { λ d. record { client = d.client; asked = keys_asked d.asked; outcomes = d.outcomes } };
+    ghost view = { λ d. record { client = d.client; asked = asked_by d.loaded.value; outcomes = d.outcomes } };
 
-    ghost invariant = { λ d. AreOutcomesOf d.client.server (keys_asked d.asked) d.outcomes };
+    ghost invariant = { λ d. AreOutcomesOf d.client.server (asked_by d.loaded.value) d.outcomes };
+}
+
+impl Drop for LoadedClient {
+    fn drop(self) {
+        let LoadedClient {
+            client: _client,
+            outcomes: _outcomes,
+            loaded: _loaded,
+        } = self;
+    }
 }
 
 impl LoadedClient {
@@ -58,6 +67,11 @@ impl LoadedClient {
     pub fn into_client(self) -> ClientSession<HandedIn>
         ensures { result ≡ self.client }
     {
-        self.client
+        let LoadedClient {
+            client,
+            outcomes: _outcomes,
+            loaded: _loaded,
+        } = self;
+        client
     }
 }

@@ -1,10 +1,11 @@
 //! The loaders of a server, as a host reads them.
-ghost use Rattle.std.specs.Prelude.{◌≡◌, ◌++◌, ◌∷◌, ◌+◌, [], IfOk, OnOk, OnErr, map, option_map, length};
+ghost use Rattle.std.specs.Prelude.{◌≡◌, ◌≤◌, ◌++◌, ◌∷◌, ◌+◌, [], IfOk, OnOk, OnErr, map, option_map, length, slice_get};
 ghost use Rattle.std.specs.List.{flat_map};
 ghost use Rattle.load_memory.specs.Cells.{cut};
 ghost use Rattle.flat_orders.specs.Written.{size_of};
 ghost use Rattle.gq_bindings.specs.Seen.{by_of, loader_of};
-ghost use Rattle.host_clients.specs.LoaderTexts.{columns_by, kind_of, texts_of};
+ghost use Rattle.host_clients.specs.Lines.{width_at};
+ghost use Rattle.host_clients.specs.LoaderTexts.{columns_by, kind_of, texts_of, width_by};
 
 use crate::fault::Fault;
 use flat_orders::TextBuffer;
@@ -13,13 +14,52 @@ use server::Server;
 use std::alloc::{AllocError, Global};
 
 /// The loaders of a server: for each a number that says its keys, and four texts.
-#[derive(Drop)]
 pub struct LoaderTexts {
     /// Number of texts of a key, and 4 more where keys are compared without the case of `A` to
     /// `Z`.
     kinds: Vec<u32>,
     /// The name, the table, and the columns that it is by, which are empty for none.
     texts: TextBuffer,
+}
+
+impl Drop for LoaderTexts {
+    fn drop(self) {
+        let LoaderTexts {
+            kinds: _kinds,
+            texts: _texts,
+        } = self;
+    }
+}
+
+// Returns how many texts a key of a line's loader has: as many as it has columns.
+fn width_of(line: &LoaderLine) -> u32
+    ensures width { result
+        ≡ width_by (option_map by_of line.now.by) }
+    ensures few { result ≤ 2 }
+{
+    let Some(by) = &line.by else {
+        return 0;
+    };
+    if by.second.is_some() { 2 } else { 1 }
+}
+
+/// The line of a server's loader, if it has one.
+pub(crate) fn line_of(server: &Server, loader: usize) -> Option<&LoaderLine>
+    ensures { option_map (λ line. loader_of line.now) result
+        ≡ slice_get server.now.bindings.loaders loader }
+{
+    server.bindings().loaders().get(loader)
+}
+
+/// Returns how many texts a key of a server's loader has. That of a loader without a line has none.
+pub(crate) fn key_width(server: &Server, loader: usize) -> u32
+    ensures width { result ≡ width_at server.now loader }
+    ensures few { result ≤ 2 }
+{
+    match line_of(server, loader) {
+        Some(line) => width_of(line),
+        None => 0,
+    }
 }
 
 fn kind_of(line: &LoaderLine) -> u32

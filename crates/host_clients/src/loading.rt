@@ -1,18 +1,15 @@
 //! Keys that a client loads, on their way to the outcomes.
 //!
-//! A load goes on in the turns of a request, so that a host has one loop for both. It keeps the texts of its
-//! keys, since `AreOutcomesOf` speaks of what was asked once the load is over.
-ghost use Rattle.std.specs.Prelude.{◌≡◌, ◌<◌, IfErr, OnOk, IsErrOf, length, map};
+//! A load goes on in the turns of a request, so that a host has one loop for both.
+ghost use Rattle.std.specs.Prelude.{◌≡◌, ◌<◌, ◌≤◌, Some, IfErr, IfSome, IfNone, OnOk, IsErrOf, length, map, slice_get};
 ghost use Rattle.load_memory.specs.Keys.{key_of};
 ghost use Rattle.rounds_by_hand.specs.LoadHands.{handed, load_pending_in, over};
 ghost use Rattle.server.specs.LoadsByHand.{load_by_hand_of};
-ghost use Rattle.host_clients.specs.AskedKeys.{keys_asked};
 ghost use Rattle.host_clients.specs.Clients.{LoadsOnWith, StopsForLoad, StopsLoad, TakesForLoad};
 ghost use Rattle.host_clients.specs.Faults.{take_fault};
 ghost use Rattle.host_clients.specs.Loads.{load_orders};
 ghost use Rattle.host_clients.specs.Refused.{OrderFault};
 
-use crate::asked_keys::AskedKeys;
 use crate::client::{ClientProgress, HostClient};
 use crate::fault::Fault;
 use crate::loaded::LoadedClient;
@@ -21,19 +18,18 @@ use flat_orders::FlatOrders;
 use flat_outcomes::FlatOutcomes;
 use load_memory::{Item, Key};
 use load_queue::FetchFault;
-use rounds_by_hand::{LoadAdvance, TakeFault};
-use server::{ClientSession, LoadByHand};
-use server_owned::HandedIn;
+use rounds_by_hand::{HandedIn, LoadAdvance, Pending, TakeFault};
+use server::{ClientSession, LoadByHand, Server};
 use std::alloc::Global;
 use std::marker::Model;
+use std::snapshot::Snapshot;
 
 /// Keys that a client loads, on their way to the outcomes, with the orders of the round that is out.
 ///
 /// A contract sees what is loaded by hand. What holds between calls is `HoldsLoading`.
-#[derive(Drop)]
 pub struct LoadUnderWay {
     hand: LoadByHand<HandedIn>,
-    asked: AskedKeys,
+    server: Server,
     orders: FlatOrders,
 }
 
@@ -41,10 +37,9 @@ impl Model for LoadUnderWay {
     ghost use Rattle.std.specs.Coded.{codes};
     ghost use Rattle.gq_parser.specs.contracts.tree.TypeRef as type_ref;
     ghost use Rattle.gq_parser.specs.contracts.tree.Literal as literal;
-    ghost use Rattle.server_owned.specs.contracts.handed_in.HandedIn as handed;
-    ghost use Rattle.server_owned.specs.declared.handed_in.HandedIn.{HandedIn as Handed};
+    ghost use Rattle.rounds_by_hand.specs.contracts.handed_in.HandedIn as handed;
+    ghost use Rattle.rounds_by_hand.specs.declared.handed_in.HandedIn.{HandedIn as Handed};
     ghost use Rattle.server.specs.LoadsByHand.{LoadByHandOf};
-    ghost use Rattle.host_clients.specs.AskedKeys.{keys_asked};
     ghost use Rattle.host_clients.specs.Loads.{HoldsLoading};
 
     ghost Value = { LoadByHandOf Handed };
@@ -53,28 +48,37 @@ impl Model for LoadUnderWay {
 
     ghost view = { λ l. l.hand };
 
-    ghost invariant = { λ l. HoldsLoading l.hand (keys_asked l.asked) l.orders };
+    ghost invariant = { λ l. HoldsLoading l.hand l.server l.orders };
+}
+
+impl Drop for LoadUnderWay {
+    fn drop(self) {
+        let LoadUnderWay {
+            hand: _hand,
+            server: _server,
+            orders: _orders,
+        } = self;
+    }
 }
 
 impl LoadUnderWay {
-    /// A load of these keys in the client's session. Nothing is done of it yet.
+    /// A load of these keys in the session of a client of this server. Nothing is done of it yet.
     pub(crate) fn begin(
         alloc: Global,
         client: ClientSession<HandedIn>,
-        asked: AskedKeys,
+        server: Server,
+        loader: usize,
         keys: Vec<Key>,
     ) -> LoadUnderWay
-        requires loader { (keys_asked asked).loader
+        requires loader { loader
             < length client.session.loaders }
-        requires keys { map key_of keys.items
-            ≡ (keys_asked asked).keys }
-        ensures { let k = keys_asked asked in
-            result ≡ load_by_hand_of client k.loader k.keys handed }
+        requires server { server ≡ client.server }
+        ensures { result ≡ load_by_hand_of
+            client loader (map key_of keys.items) handed }
     {
-        let loader = asked.loader;
         LoadUnderWay {
             hand: client.load_by_hand(loader, keys),
-            asked,
+            server,
             orders: FlatOrders::new(alloc),
         }
     }
@@ -90,17 +94,18 @@ impl LoadUnderWay {
     {
         let LoadUnderWay {
             hand,
-            asked,
+            server,
             orders,
         } = self;
         let mut hand = hand;
         match hand.advance() {
             Ok(LoadAdvance::Loaded(outcomes)) => match FlatOutcomes::of(alloc, &outcomes) {
                 Ok(outcomes) => {
+                    let snapshot = Snapshot::of(&hand);
                     let loaded = LoadedClient {
                         client: hand.into_client(),
-                        asked,
                         outcomes,
+                        loaded: snapshot,
                     };
                     (HostClient::Loaded(loaded), Ok(ClientProgress::Done))
                 }
@@ -110,7 +115,7 @@ impl LoadUnderWay {
                 Ok(orders) => {
                     let loading = LoadUnderWay {
                         hand,
-                        asked,
+                        server,
                         orders,
                     };
                     (HostClient::Loading(loading), Ok(ClientProgress::Round))
@@ -120,7 +125,7 @@ impl LoadUnderWay {
             Ok(LoadAdvance::Waiting) => {
                 let loading = LoadUnderWay {
                     hand,
-                    asked,
+                    server,
                     orders,
                 };
                 (HostClient::Loading(loading), Ok(ClientProgress::Waiting))
@@ -135,6 +140,17 @@ impl LoadUnderWay {
         ensures { result.now ≡ load_orders self.now }
     {
         &self.orders
+    }
+
+    /// The order of this number in the round that is out, and the server whose loader it is of.
+    pub(crate) fn order(&self, number: usize) -> Option<(&Server, &Pending)>
+        ensures some { IfSome result (λ found. (found.0.now ≡ self.now.client.server)
+            × (slice_get (load_pending_in self.now.far) number ≡ Some found.1.now)) }
+        ensures none { IfNone result
+            (length (load_pending_in self.now.far) ≤ number) }
+    {
+        let order = self.hand.orders().get(number)?;
+        Some((&self.server, order))
     }
 
     /// Takes the answer to the order of this number. When out of memory, it is over, and nothing is stored.
@@ -171,6 +187,11 @@ impl LoadUnderWay {
     pub(crate) fn into_client(self) -> ClientSession<HandedIn>
         ensures { StopsLoad self result }
     {
-        self.hand.into_client()
+        let LoadUnderWay {
+            hand,
+            server: _server,
+            orders: _orders,
+        } = self;
+        hand.into_client()
     }
 }

@@ -11,12 +11,21 @@ use load_queue::LogEntry;
 use std::alloc::{AllocError, Global};
 
 /// The batches that a loader was asked for, in order.
-#[derive(Drop)]
 pub struct BatchLog {
     rounds: Vec<u32>,
     // 1 where the replies were stored
     stored: Vec<u32>,
     keys: KeyLists,
+}
+
+impl Drop for BatchLog {
+    fn drop(self) {
+        let BatchLog {
+            rounds: _rounds,
+            stored: _stored,
+            keys: _keys,
+        } = self;
+    }
 }
 
 impl BatchLog {

@@ -12,8 +12,8 @@ use gq_lexer::Place;
 use load_memory::KeyMode;
 use load_queue::Loader;
 use load_rounds::Session;
+use rounds_by_hand::HandedIn;
 use server::{ClientSession, SchemaFault, Server};
-use server_owned::HandedIn;
 use std::alloc::Global;
 use std::str;
 
@@ -110,8 +110,8 @@ pub fn open_server(alloc: Global, schema: &[u8], bindings: &[u8]) -> Result<Serv
     }
 }
 
-// Returns how the keys of a line's loader are compared.
-fn mode_of(line: &LoaderLine) -> KeyMode
+/// Returns how the keys of a line's loader are compared.
+pub(crate) fn mode_of(line: &LoaderLine) -> KeyMode
     ensures { result ≡ mode_of
         (option_map by_of line.now.by) }
 {

@@ -1,5 +1,5 @@
 //! Requests on their way to the answer.
-ghost use Rattle.std.specs.Prelude.{◌≡◌, ◌++◌, ◌∷◌, [], IfOk, IfErr, OnOk, IsErrOf, map};
+ghost use Rattle.std.specs.Prelude.{◌≡◌, ◌≤◌, ◌++◌, ◌∷◌, [], Some, IfOk, IfErr, IfSome, IfNone, OnOk, IsErrOf, length, map, slice_get};
 ghost use Rattle.rounds_by_hand.specs.Hands.{IsOver, pending_in};
 ghost use Rattle.rounds_by_hand.specs.Pending.{order_in};
 ghost use Rattle.host_clients.specs.Clients.{Begins, GoesOnWith, Stops, StopsIt, Takes};
@@ -9,26 +9,26 @@ ghost use Rattle.host_clients.specs.Texts.{asked_in};
 ghost use Rattle.host_clients.specs.UnderWay.{orders_out};
 
 use crate::answered::AnsweredClient;
-use crate::asked::AskedTexts;
+use crate::asked::FlatAsked;
 use crate::client::{ClientProgress, HostClient};
 use crate::fault::Fault;
+use crate::note::AskedNote;
 use flat_orders::FlatOrders;
 use load_memory::Item;
 use load_queue::FetchFault;
-use rounds_by_hand::{Pending, TakeFault};
-use server::{Answer, ClientAdvance, ClientSession};
-use server_owned::{HandedIn, OwnedByHand};
+use rounds_by_hand::{HandedIn, Pending, TakeFault};
+use server::{Answer, ByHand, ClientAdvance, ClientSession, Server};
 use std::alloc::{AllocError, Global};
 use std::marker::Model;
 
 /// Holds what a client was asked, on its way to the answer, with the orders of the round that is out.
 ///
 /// A contract sees what is answered by hand, and what was asked. What holds between calls is `HoldsUnderWay`.
-#[derive(Drop)]
 pub struct UnderWay {
-    hand: OwnedByHand,
-    asked: AskedTexts,
+    hand: ByHand<HandedIn>,
+    server: Server,
     orders: FlatOrders,
+    note: AskedNote,
 }
 
 impl Model for UnderWay {
@@ -40,17 +40,27 @@ impl Model for UnderWay {
     ghost use Rattle.gq_parser.specs.contracts.tree.Inline as inline;
     ghost use Rattle.gq_parser.specs.contracts.tree.SelectionSet as set;
     ghost use Rattle.gq_schema.specs.contracts.input.Input as input;
-    ghost use Rattle.server_owned.specs.contracts.handed_in.HandedIn as handed;
-    ghost use Rattle.host_clients.specs.Texts.{asked_in};
+    ghost use Rattle.rounds_by_hand.specs.contracts.handed_in.HandedIn as handed;
     ghost use Rattle.host_clients.specs.UnderWay.{UnderWayOf, HoldsUnderWay};
 
     ghost Value = { UnderWayOf };
 
     ghost coded = { Prim.hlevel (codes, type_ref.the_row.coded, literal.the_row.coded, argument.the_row.coded, field.the_row.coded, inline.the_row.coded, set.the_row.coded, input.the_row.coded, handed.the_row.coded) };
 
-    ghost view = { λ u. record { hand = u.hand; asked = asked_in u.asked } };
+    ghost view = { λ u. record { hand = u.hand; asked = u.note.asked } };
 
-    ghost invariant = { λ u. HoldsUnderWay u.hand (asked_in u.asked) u.orders };
+    ghost invariant = { λ u. HoldsUnderWay u.hand u.server u.note.asked u.orders };
+}
+
+impl Drop for UnderWay {
+    fn drop(self) {
+        let UnderWay {
+            hand: _hand,
+            server: _server,
+            orders: _orders,
+            note: _note,
+        } = self;
+    }
 }
 
 // The orders with one more at the end, which may have its reply.
@@ -77,45 +87,30 @@ pub(crate) fn orders_of(alloc: Global, pending: &[Pending]) -> Result<FlatOrders
     Ok(orders)
 }
 
-// The orders of the round that is out, to be copied out.
-fn round_orders(alloc: Global, hand: &mut OwnedByHand) -> Result<FlatOrders, AllocError>
-    ensures orders { IfOk result
-        (λ orders. orders ≡ orders_out hand.old) }
-    ensures same { hand.new ≡ hand.old }
-{
-    hand.see_orders(
-        &mut (),
-        |pending: &[Pending], _seen: &mut ()| -> Result<FlatOrders, AllocError>
-            ensures { IfOk result (λ orders. orders ≡ map order_in pending.now) }
-        { orders_of(alloc, pending) },
-    )
-}
-
 impl UnderWay {
     /// Plans what the client is asked, or refuses it. Nothing is done of it yet.
     pub(crate) fn begin(
         alloc: Global,
         client: ClientSession<HandedIn>,
-        asked: AskedTexts,
+        asked: &FlatAsked<'_>,
     ) -> (HostClient, Result<(), Fault>)
         ensures { Begins client
-            (asked_in asked) result.0 result.1 }
+            (asked_in asked.now) result.0 result.1 }
     {
         let mut client = client;
+        let Ok(server) = client.server().clone() else {
+            return (HostClient::Idle(client), Err(Fault::NoMemory));
+        };
         let Ok(planned) = asked.plan(alloc, &mut client) else {
             return (HostClient::Idle(client), Err(Fault::NoMemory));
         };
-        match OwnedByHand::new(alloc, client, planned) {
-            Ok(hand) => {
-                let under_way = UnderWay {
-                    hand,
-                    asked,
-                    orders: FlatOrders::new(alloc),
-                };
-                (HostClient::Asked(under_way), Ok(()))
-            }
-            Err(client) => (HostClient::Idle(client), Err(Fault::NoMemory)),
-        }
+        let under_way = UnderWay {
+            hand: client.by_hand(planned),
+            server,
+            orders: FlatOrders::new(alloc),
+            note: AskedNote::of(asked),
+        };
+        (HostClient::Asked(under_way), Ok(()))
     }
 
     /// Returns what comes of it: an answer, or a new round is out, or nothing while an order of the round has no
@@ -129,8 +124,9 @@ impl UnderWay {
     {
         let UnderWay {
             hand,
-            asked,
+            server,
             orders,
+            note,
         } = self;
         let mut hand = hand;
         match hand.advance() {
@@ -138,18 +134,19 @@ impl UnderWay {
                 let Answer { text, rounds } = answer;
                 let answered = AnsweredClient {
                     client: hand.into_client(),
-                    asked,
                     text,
                     rounds,
+                    note,
                 };
                 (HostClient::Answered(answered), Ok(ClientProgress::Done))
             }
-            Ok(ClientAdvance::Round) => match round_orders(alloc, &mut hand) {
+            Ok(ClientAdvance::Round) => match orders_of(alloc, hand.orders()) {
                 Ok(orders) => {
                     let under_way = UnderWay {
                         hand,
-                        asked,
+                        server,
                         orders,
+                        note,
                     };
                     (HostClient::Asked(under_way), Ok(ClientProgress::Round))
                 }
@@ -158,8 +155,9 @@ impl UnderWay {
             Ok(ClientAdvance::Waiting) => {
                 let under_way = UnderWay {
                     hand,
-                    asked,
+                    server,
                     orders,
+                    note,
                 };
                 (HostClient::Asked(under_way), Ok(ClientProgress::Waiting))
             }
@@ -173,6 +171,17 @@ impl UnderWay {
         ensures { result.now ≡ orders_out self.now.hand }
     {
         &self.orders
+    }
+
+    /// The order of this number in the round that is out, and the server whose loader it is of.
+    pub(crate) fn order(&self, number: usize) -> Option<(&Server, &Pending)>
+        ensures some { IfSome result (λ found. (found.0.now ≡ self.now.hand.client.server)
+            × (slice_get (pending_in self.now.hand.far) number ≡ Some found.1.now)) }
+        ensures none { IfNone result
+            (length (pending_in self.now.hand.far) ≤ number) }
+    {
+        let order = self.hand.orders().get(number)?;
+        Some((&self.server, order))
     }
 
     /// Takes the answer to the order of this number. When out of memory, it is over, and nothing is stored.
@@ -209,6 +218,12 @@ impl UnderWay {
     pub(crate) fn into_client(self) -> ClientSession<HandedIn>
         ensures { StopsIt self result }
     {
-        self.hand.into_client()
+        let UnderWay {
+            hand,
+            server: _server,
+            orders: _orders,
+            note: _note,
+        } = self;
+        hand.into_client()
     }
 }

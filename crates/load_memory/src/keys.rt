@@ -17,7 +17,7 @@ const KEPT_ROOM: usize = 64;
 ///
 /// The orders of a round, their replies and the logs share the list that the wants had. So keys of a round are
 /// copied twice in all: as the memory's cache keys, and as those by which the wants find duplicates.
-#[derive(Debug, Drop)]
+#[derive(Debug)]
 pub struct Keys {
     // none where no key is
     list: Option<Arc<Vec<Key>>>,
@@ -35,6 +35,16 @@ impl Model for Keys {
     ghost view = { λ k. slice_range (shared k.list) k.from k.to };
 
     ghost invariant = { λ k. IsRange k.from k.to (shared k.list) };
+}
+
+impl Drop for Keys {
+    fn drop(self) {
+        let Keys {
+            list: _list,
+            from: _,
+            to: _,
+        } = self;
+    }
 }
 
 // Returns the same list once more, in no memory.

@@ -27,7 +27,6 @@ use std::marker::Model;
 ///
 /// Keys that were made to collide can slow look-ups. Nothing defends against that, since keys come from the
 /// operator's tables and bindings, or from a request of bounded length.
-#[derive(Drop)]
 pub struct Memory {
     modes: Vec<KeyMode>,
     parts: Vec<LoaderMemory>,
@@ -45,6 +44,17 @@ impl Model for Memory {
     ghost view = { λ m. record { modes = m.modes.items; pairs = pairs_from 0 m.parts.items } };
 
     ghost invariant = { λ m. AreParts m.modes.items m.parts.items m.count m.failed };
+}
+
+impl Drop for Memory {
+    fn drop(self) {
+        let Memory {
+            modes: _modes,
+            parts: _parts,
+            count: _,
+            failed: _,
+        } = self;
+    }
 }
 
 impl Memory {

@@ -23,7 +23,6 @@ enum Held {
 /// The rows of a key, in the source's order. None and a single one take no memory of their own.
 ///
 /// They are read as a `&[Row]`, and made from a `Row` or a `Vec<Row>`. A contract sees their list.
-#[derive(Drop)]
 pub struct Rows {
     held: Held,
 }
@@ -36,6 +35,12 @@ impl Model for Rows {
     ghost Value = { List RowOf };
 
     ghost view = { λ r. rows_held r.held };
+}
+
+impl Drop for Rows {
+    fn drop(self) {
+        let Rows { held: _held } = self;
+    }
 }
 
 impl Rows {

@@ -102,7 +102,6 @@ impl Cells {
 ///
 /// A contract sees it as its columns, its whole rows, and the fields of the row that was begun.
 /// When out of memory, it is as it was.
-#[derive(Drop)]
 pub struct SheetBuilder {
     cells: Cells,
     width: usize,
@@ -118,6 +117,16 @@ impl Model for SheetBuilder {
     ghost view = { λ b. draft_of b.width b.rows b.cells };
 
     ghost invariant = { λ b. HasSheet b.width b.rows b.cells };
+}
+
+impl Drop for SheetBuilder {
+    fn drop(self) {
+        let SheetBuilder {
+            cells: _cells,
+            width: _,
+            rows: _,
+        } = self;
+    }
 }
 
 impl SheetBuilder {
@@ -197,7 +206,6 @@ impl SheetBuilder {
 ///
 /// All cells are one text and one list of ends, of four bytes each while the text is below 4 GiB and of eight
 /// beyond. A clone of a row is one more count on the sheet, and a count that would reach 2^63 is out of memory.
-#[derive(Drop)]
 pub struct Sheet {
     cells: Cells,
     width: usize,
@@ -213,6 +221,16 @@ impl Model for Sheet {
     ghost view = { λ s. sheet_of s.width s.rows s.cells };
 
     ghost invariant = { λ s. HasSheet s.width s.rows s.cells };
+}
+
+impl Drop for Sheet {
+    fn drop(self) {
+        let Sheet {
+            cells: _cells,
+            width: _,
+            rows: _,
+        } = self;
+    }
 }
 
 impl Sheet {

@@ -14,9 +14,14 @@ use std::sync::Wait;
 ///
 /// A receipt is the token of a push, which says what is at its place for good. A reply leaves the shelf with
 /// the shelf alone, so [`index`](crate::Memory::index) copies outcomes.
-#[derive(Drop)]
 pub struct Shelf {
     replies: boxcar::Vec<Reply>,
+}
+
+impl Drop for Shelf {
+    fn drop(self) {
+        let Shelf { replies: _replies } = self;
+    }
 }
 
 /// Finds a reply that was put on a shelf. It takes little memory: the reply stays on the shelf.

@@ -42,7 +42,7 @@ pub const MAX_LIMIT: u32 = 65_535;
 const KEPT_ENTRIES: usize = 64;
 
 /// Holds what was asked of a loader's source in one batch.
-#[derive(Debug, Drop)]
+#[derive(Debug)]
 pub struct LogEntry {
     /// The round, from 1.
     pub round: u32,
@@ -51,6 +51,16 @@ pub struct LogEntry {
     /// Tells whether the outcomes were stored. It is false while the order is out, and stays so where its
     /// round was lost.
     pub stored: bool,
+}
+
+impl Drop for LogEntry {
+    fn drop(self) {
+        let LogEntry {
+            round: _,
+            keys: _keys,
+            stored: _,
+        } = self;
+    }
 }
 
 /// A source with its name, the way its keys are compared, its batch limit, the log of what was asked, and the count of its

@@ -15,7 +15,6 @@ use std::marker::Model;
 /// spends it.
 ///
 /// A contract sees its loader's number and its keys.
-#[derive(Drop)]
 pub struct Order {
     loader: usize,
     keys: Keys,
@@ -29,6 +28,15 @@ impl Model for Order {
     ghost Value = { OrderOf };
 
     ghost view = { λ o. order_of o.loader (map key_of o.keys) };
+}
+
+impl Drop for Order {
+    fn drop(self) {
+        let Order {
+            loader: _,
+            keys: _keys,
+        } = self;
+    }
 }
 
 impl Order {

@@ -137,7 +137,6 @@ impl WantedKeys {
 /// The keys stand in a list, since callers read them as a slice, and the cache keys of the first ones in a set
 /// beside it. Room is made before a key is looked up, so to add a key that is there may be out of memory too. Only the
 /// loaders up to the last one that something asks have a list.
-#[derive(Drop)]
 pub struct Wants {
     // the loaders' modes
     modes: Vec<KeyMode>,
@@ -152,6 +151,15 @@ impl Model for Wants {
     ghost Value = { List WantedOf };
 
     ghost view = { λ w. wanted_in w.lists.items w.modes.items };
+}
+
+impl Drop for Wants {
+    fn drop(self) {
+        let Wants {
+            modes: _modes,
+            lists: _lists,
+        } = self;
+    }
 }
 
 // Makes lists for the loaders up to this one. In them nothing is wanted.

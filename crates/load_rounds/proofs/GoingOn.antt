@@ -88,6 +88,13 @@ module _ {P E : Type 0} (program : P → Program) (text_of : P → AnsweredOf �
   go-on-length zero rounds m (x ∷ xs) (y ∷ ys) h = ap suc (go-on-length zero rounds m xs ys h.1)
   go-on-length (suc n) rounds m (x ∷ xs) (y ∷ ys) h = ap suc (go-on-length n rounds m xs ys h.1)
 
+  pub first-plans : (n rounds : ℕ) (m : MemoryOf) (xs ys : List (PartOf P E)) → FirstGoOn n rounds m xs ys → plans_in ys ≡ plans_in xs
+  first-plans n rounds m [] [] h = refl
+  first-plans n rounds m [] (y ∷ ys) h = absurd h
+  first-plans n rounds m (x ∷ xs) [] h = absurd h
+  first-plans zero rounds m (x ∷ xs) (y ∷ ys) h = rw (h.0, first-plans zero rounds m xs ys h.1) refl
+  first-plans (suc n) rounds m (x ∷ xs) (y ∷ ys) h = rw (h.0.same, first-plans n rounds m xs ys h.1) refl
+
   -- the next of them is as it was
   pub next-fits : (n rounds : ℕ) (m : MemoryOf) (xs ys : List (PartOf P E)) (d : PartOf P E) → n < length ys → d ≡ get_or ys n d → FirstGoOn n rounds m xs ys → FitParts program text_of loaders fits xs m → FitsPart program text_of loaders fits d.plan d.progress d.report m
   next-fits n rounds m [] [] d lt at h fit = absurd (omega (arith, lt))

@@ -21,4 +21,5 @@ pub mod SharedRunning
 pub mod Sharing
 pub mod States
 pub mod Stepping
+pub mod Taking
 pub mod Twice

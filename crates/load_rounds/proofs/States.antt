@@ -3,7 +3,7 @@ use Rattle.std.proofs.Common.{◌≡◌, ℕ, ◌<◌, ◌≤◌, ◌+◌, Bool,
 use Rattle.std.proofs.Math.Path.{fun_ext}
 use Rattle.std.proofs.lemmas.List.{length-map}
 use Rattle.std.proofs.lemmas.List.Elements.{All-nil, All-cons}
-use Rattle.std.specs.Prelude.{All, slice_get, nat_lt, if◌then◌else◌, OnErr}
+use Rattle.std.specs.Prelude.{All, slice_get, nat_lt, if◌then◌else◌, OnOk, OnErr}
 use Rattle.load_memory.specs.Keys.{KeyOf, folded, mode_at}
 use Rattle.load_memory.specs.Pairs.{MemoryOf, look, IsWith, IsSameMap}
 use Rattle.load_memory.specs.Replies.{ReplyOf, pairs_of}
@@ -127,3 +127,7 @@ module _ {S : Type 0} where
 pub on-err : {T E P : Type 0} (r : Result T E) → P → OnErr r P
 on-err (Ok x) h = tt
 on-err (Err e) h = h
+
+pub when-ok : {T E P : Type 0} (r : Result T E) → P → OnOk r P
+when-ok (Ok x) h = h
+when-ok (Err e) h = tt

@@ -24,23 +24,23 @@ pub enum NextAll {
 }
 
 /// Answers to several plans on their way over a session, whose rounds the caller runs: [`RoundsByHand`](crate::RoundsByHand) for several plans. It
-/// keeps their executions, an `E` for each plan. A contract sees these, what is executed, how many rounds were asked, with one
+/// owns the plans and their executions, an `E` for each plan. A contract sees these, what is executed, how many rounds were asked, with one
 /// that is out, and the stage.
 ///
 /// Its calls go on from what the executions found, so they are made on the session that it was begun on, as its last call left it.
 #[derive(Drop)]
-pub struct AllRoundsByHand<'p, P, E> {
-    plans: &'p [P],
-    executions: Together<'p, P, E>,
+pub struct AllRoundsByHand<P, E> {
+    executions: Together<P, E>,
     stage: Stage,
 }
 
-impl<'p, P, E> Model for AllRoundsByHand<'p, P, E> {
+impl<P, E> Model for AllRoundsByHand<P, E> {
+    ghost use Rattle.load_rounds.specs.Together.{plans_in};
     ghost use Rattle.load_rounds.specs.SharedRuns.{RunAllOf};
 
     ghost Value = { RunAllOf P E };
 
-    ghost view = { λ r. record { plans = r.plans.now; executions = r.executions; stage = r.stage } };
+    ghost view = { λ r. record { plans = plans_in r.executions.parts; executions = r.executions; stage = r.stage } };
 }
 
 impl<S: LocalSource> Session<S> {
@@ -57,14 +57,14 @@ impl<S: LocalSource> Session<S> {
     ///
     /// `begun` and `run` say what was done since `begin_all`, and `answers` of `KeepsRunAll` states `SharedHeadline`
     /// from there
-    pub fn begin_all<'p, E: Drop, P: Execute<'p, E>>(
+    pub fn begin_all<E: Drop, P: Execute<E> + Drop>(
         &mut self,
-        plans: &'p [P],
-    ) -> Result<AllRoundsByHand<'p, P, E>, AllocError>
+        plans: Vec<P>,
+    ) -> Result<AllRoundsByHand<P, E>, AllocError>
         requires { All (λ plan. P.loaders plan
-            ≤ length self.old.loaders) plans.now }
+            ≤ length self.old.loaders) plans.items }
         ensures run { IfOk result (λ run.
-            (run.plans ≡ plans.now) × (run.executions.rounds ≡ 0) × (run.stage ≡ Stage.Ready)) }
+            (run.plans ≡ plans.items) × (run.executions.rounds ≡ 0) × (run.stage ≡ Stage.Ready)) }
         ensures begun { IfOk result (λ run.
             IsRunAll P.program P.text_of S.may_tell (state_of self.old) (state_of self.new) run) }
         ensures fits { IfOk result (λ run.
@@ -75,14 +75,13 @@ impl<S: LocalSource> Session<S> {
         self.forget();
         let executions = Together::begin(self.alloc(), plans)?;
         Ok(AllRoundsByHand {
-            plans,
             executions,
             stage: Stage::Ready,
         })
     }
 }
 
-impl<'p, P, E> AllRoundsByHand<'p, P, E> {
+impl<P, E> AllRoundsByHand<P, E> {
     /// Returns what may be done next.
     pub fn stage(&self) -> Stage
         ensures { result ≡ self.now.stage }
@@ -91,7 +90,7 @@ impl<'p, P, E> AllRoundsByHand<'p, P, E> {
     }
 }
 
-impl<'p, E: Drop, P: Execute<'p, E>> AllRoundsByHand<'p, P, E> {
+impl<E, P: Execute<E>> AllRoundsByHand<P, E> {
     ghost use Rattle.load_rounds.specs.Sessions.{state_of, memory_of};
     ghost use Rattle.load_rounds.specs.Histories.{any_tell};
     ghost use Rattle.load_rounds.specs.ByHand.{AreReceiptsIn, AreReceivedIn, AwaitsReplies, RunsReceipts};

@@ -31,10 +31,7 @@ impl<S: LocalSource> Session<S> {
     /// # Headline
     ///
     /// `answer`; out of memory, `stopped`: the finished rounds stay
-    pub fn answer<'p, E: Drop, P: Execute<'p, E>>(
-        &mut self,
-        plan: &'p P,
-    ) -> Result<Answer, AllocError>
+    pub fn answer<E: Drop, P: Execute<E>>(&mut self, plan: &P) -> Result<Answer, AllocError>
         requires { P.loaders plan.now
             ≤ length self.old.loaders }
         ensures answer { IfOk result (HasHeadline S.may_tell (state_of self.old) (state_of self.new)
@@ -55,9 +52,9 @@ impl<S: LocalSource> Session<S> {
 
     /// Goes on with an execution: returns its text if nothing is missing, and otherwise makes one round that asks for what
     /// is needed and missing. A contract also sees here that no loader's limit is 0.
-    pub(crate) fn turn<'p, E, P: Execute<'p, E>>(
+    pub(crate) fn turn<E, P: Execute<E>>(
         &mut self,
-        plan: &'p P,
+        plan: &P,
         progress: &mut E,
     ) -> Result<Poll<String>, AllocError>
         requires loaders { P.loaders plan.now

@@ -78,7 +78,7 @@ impl<S> Session<S> {
     /// # Headline
     ///
     /// `gives` of the future that it returns: `Answers`, which is what both clauses of `answer` say
-    pub fn into_answering<'p, E, P: Execute<'p, E>>(self, plan: &'p P) -> Answering<'p, S, P, E>
+    pub fn into_answering<'p, E, P: Execute<E>>(self, plan: &'p P) -> Answering<'p, S, P, E>
         ensures { result ≡ record { plan = plan.now; far = handed self } }
     {
         Answering {
@@ -93,7 +93,7 @@ impl<S, E> Far<S, E> {
     ghost use Rattle.load_rounds.specs.Answerings.{far_of, begun, rounds_of, FitsFar};
 
     // Returns where the next poll begins. At first failed batches are forgotten.
-    fn begin<'p, P: Execute<'p, E>>(self, plan: &'p P) -> AnswerUnderWay<S, E>
+    fn begin<P: Execute<E>>(self, plan: &P) -> AnswerUnderWay<S, E>
         requires can { IsSome (begun (far_of self)) }
         requires fits { FitsFar (P.fits plan.now)
             (far_of self) }
@@ -119,8 +119,7 @@ impl<S, E> Far<S, E> {
     }
 }
 
-impl<'p, S: LocalSource + Drop, E: Drop, P: Execute<'p, E> + Drop> Future
-    for Answering<'p, S, P, E> {
+impl<'p, S: LocalSource + Drop, E: Drop, P: Execute<E> + Drop> Future for Answering<'p, S, P, E> {
     ghost use Rattle.load_rounds.specs.Answerings.{CanPoll, Gives, GivesNoMore, Polls};
 
     type Output = (Session<S>, Result<Answer, AllocError>);

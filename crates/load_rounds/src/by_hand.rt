@@ -74,7 +74,7 @@ impl<S: LocalSource> Session<S> {
     /// # Headline
     ///
     /// `begun` and `run` say what was done since `begin`, and `answer` of `KeepsRun` states the headline from there
-    pub fn begin<'p, E, P: Execute<'p, E>>(
+    pub fn begin<'p, E, P: Execute<E>>(
         &mut self,
         plan: &'p P,
     ) -> Result<RoundsByHand<'p, P>, AllocError>
@@ -150,7 +150,7 @@ impl<'p, P> RoundsByHand<'p, P> {
         session: &mut Session<S>,
     ) -> Result<Next, AllocError>
     where
-        P: Execute<'p, E>,
+        P: Execute<E>,
         requires { CanGoOn P.loaders self.old session.old }
         ensures next { IfOk result (IsNext (P.program self.old.plan) (P.text_of self.old.plan)
             self.old self.new (state_of session.old) (state_of session.new)) }
@@ -178,7 +178,7 @@ impl<'p, P> RoundsByHand<'p, P> {
         progress: &mut E,
     ) -> Result<Next, AllocError>
     where
-        P: Execute<'p, E>,
+        P: Execute<E>,
         requires can { CanGoOn P.loaders
             self.old session.old }
         requires fits { P.fits self.old.plan progress.old
@@ -231,7 +231,7 @@ impl<'p, P> RoundsByHand<'p, P> {
         receipts: &[Receipt],
     ) -> Result<(), AllocError>
     where
-        P: Execute<'p, E>,
+        P: Execute<E>,
         requires out { AwaitsReplies (P.program self.old.plan) self.old.stage
             (state_of session.old) }
         requires round { AreReceiptsIn S.may_tell (P.program self.old.plan)
@@ -267,7 +267,7 @@ impl<'p, P> RoundsByHand<'p, P> {
         replies: Vec<Reply>,
     ) -> Result<(), AllocError>
     where
-        P: Execute<'p, E>,
+        P: Execute<E>,
         requires out { AwaitsReplies (P.program self.old.plan) self.old.stage
             (state_of session.old) }
         requires round { AreReceivedIn S.may_tell (P.program self.old.plan)

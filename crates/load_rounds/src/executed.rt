@@ -23,9 +23,9 @@ impl<S> Session<S> {
     ghost use Rattle.execution.specs.Executes.{FitsFrom};
 
     /// Goes on with an execution over what is known. A contract also sees here that no loader's limit is 0.
-    pub(crate) fn execute<'p, E, P: Execute<'p, E>>(
+    pub(crate) fn execute<E, P: Execute<E>>(
         &mut self,
-        plan: &'p P,
+        plan: &P,
         progress: &mut E,
     ) -> Result<ExecutionFinding, AllocError>
         requires loaders { P.loaders plan.now

@@ -1,10 +1,12 @@
 //! Loads by hand: keys of a loader, whose one round the caller runs.
-ghost use Rattle.std.specs.Prelude.{◌≡◌, ◌<◌, ◌≤◌, ◌↔◌, All, map, length, IfOk, IsErrOf, IsSome, OnErr};
+ghost use Rattle.std.specs.Prelude.{◌≡◌, ◌<◌, ◌≤◌, ◌↔◌, All, map, length, IfOk, IsErrOf, IsSome, OnErr, OnOk};
 ghost use Rattle.load_memory.specs.Keys.{key_of};
 ghost use Rattle.load_memory.specs.Outcomes.{outcome_of};
+ghost use Rattle.load_memory.specs.Pairs.{look};
 ghost use Rattle.load_memory.specs.Replies.{reply_of};
 ghost use Rattle.load_queue.specs.Loaders.{AreOnRecord};
 ghost use Rattle.execution.specs.Loads.{read};
+ghost use Rattle.execution.specs.Rounds.{without_failed};
 
 use crate::fault::SessionFault;
 use crate::keys::{known_outcomes, missing_keys};
@@ -54,6 +56,7 @@ impl<S> Session<S> {
 impl<S: LocalSource> Session<S> {
     ghost use Rattle.load_rounds.specs.Sessions.{state_of};
     ghost use Rattle.load_rounds.specs.Histories.{IsCallOf, StoppedLoading, any_tell};
+    ghost use Rattle.load_rounds.specs.ByHand.{received};
     ghost use Rattle.load_rounds.specs.Loadings.{BeginsLoad, IsLoadOut, AreToldAt, LoadsFrom, StopsLoadFrom};
 
     /// Begins a load of a loader's keys whose round the caller runs. Forgets failed batches. Returns the outcomes if all keys are known,
@@ -77,6 +80,8 @@ impl<S: LocalSource> Session<S> {
             → IsCallOf S.may_tell (StoppedLoading loader (map key_of keys.now)) self.old self.new }
         ensures begun { IfOk result (BeginsLoad S.may_tell (state_of self.old)
             (state_of self.new) loader (map key_of keys.now)) }
+        ensures forgot { OnOk result
+            (look self.new.pairs ≡ without_failed (look self.old.pairs)) }
         ensures recorded { AreOnRecord
             self.old.loaders self.new.loaders }
     {
@@ -117,6 +122,9 @@ impl<S: LocalSource> Session<S> {
             loader (map key_of keys.now) (map reply_of replies.items)) }
         ensures stopped { OnErr result (StopsLoadFrom S.may_tell (state_of self.old)
             (state_of self.new) loader (map key_of keys.now) (map reply_of replies.items)) }
+        // Whatever the replies say, it is what is stored.
+        ensures stored { OnOk result
+            (state_of self.new ≡ received (state_of self.old) (map reply_of replies.items)) }
         ensures recorded { AreOnRecord
             self.old.loaders self.new.loaders }
     {

@@ -21,16 +21,16 @@ impl<S: LocalSource> Session<S> {
     /// # Headline
     ///
     /// `answers`: `SharedHeadline`, the headline of several plans; out of memory, `stopped`
-    pub fn answer_all<'p, E: Drop, P: Execute<'p, E>>(
+    pub fn answer_all<E: Drop, P: Execute<E> + Drop>(
         &mut self,
-        plans: &'p [P],
+        plans: Vec<P>,
     ) -> Result<Vec<Answer>, AllocError>
         requires { All (λ plan. P.loaders plan
-            ≤ length self.old.loaders) plans.now }
+            ≤ length self.old.loaders) plans.items }
         ensures answers { IfOk result (AreAnswers S.may_tell (state_of self.old)
-            (state_of self.new) (requests P.program P.text_of plans.now)) }
+            (state_of self.new) (requests P.program P.text_of plans.items)) }
         ensures stopped { OnErr result (StopsAnswering S.may_tell (state_of self.old)
-            (state_of self.new) (joint P.program P.text_of plans.now)) }
+            (state_of self.new) (joint P.program P.text_of plans.items)) }
     {
         self.forget();
         let mut together = Together::begin(self.alloc(), plans)?;

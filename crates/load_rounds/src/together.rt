@@ -3,7 +3,7 @@
 //! Several plans are one program, the items of a list, each of nullable type. So the log of shared rounds is
 //! lawful by the same definition as any other, and a plan's own rounds are those in which its own front isn't
 //! empty.
-ghost use Rattle.std.specs.Prelude.{◌≡◌, ◌≤◌, All, length, map, is_none, IfOk, OnOk};
+ghost use Rattle.std.specs.Prelude.{◌≡◌, ◌≤◌, All, length, map, is_none, None, option_map, IfOk, OnOk};
 ghost use Rattle.execution.specs.Front.{front, wanting, modes_wanted};
 ghost use Rattle.load_memory.specs.Pairs.{look};
 ghost use Rattle.execution.specs.Executes.{CanExecute};
@@ -18,34 +18,33 @@ use load_memory::Memory;
 use load_queue::Wants;
 use std::alloc::{AllocError, Global};
 use std::marker::Model;
-use std::mem;
 
-/// The execution of one of several plans, and its answer once nothing that it needs is missing.
+/// One of several plans with its execution, and its answer once nothing that it needs is missing.
 #[derive(Drop)]
-struct SharedExecution<'p, P, E> {
-    plan: &'p P,
+struct SharedExecution<P, E> {
+    plan: P,
     progress: E,
     answer: Option<Answer>,
 }
 
-impl<'p, P, E> Model for SharedExecution<'p, P, E> {
+impl<P, E> Model for SharedExecution<P, E> {
     ghost use Rattle.std.specs.Prelude.{option_map};
     ghost use Rattle.load_rounds.specs.SharedRounds.{report_of};
     ghost use Rattle.load_rounds.specs.Together.{PartOf};
 
     ghost Value = { PartOf P E };
 
-    ghost view = { λ p. record { plan = p.plan.now; progress = p.progress; report = option_map report_of p.answer } };
+    ghost view = { λ p. record { plan = p.plan; progress = p.progress; report = option_map report_of p.answer } };
 }
 
-/// The executions of several plans, in order, and how many rounds were asked for them.
+/// Several plans with their executions, in order, and how many rounds were asked for them.
 #[derive(Drop)]
-pub(crate) struct Together<'p, P, E> {
-    parts: Vec<SharedExecution<'p, P, E>>,
+pub(crate) struct Together<P, E> {
+    parts: Vec<SharedExecution<P, E>>,
     rounds: u32,
 }
 
-impl<'p, P, E> Model for Together<'p, P, E> {
+impl<P, E> Model for Together<P, E> {
     ghost use Rattle.std.specs.Prelude.{◌<◌, ◌^◌};
     ghost use Rattle.load_rounds.specs.Together.{TogetherOf};
 
@@ -56,7 +55,7 @@ impl<'p, P, E> Model for Together<'p, P, E> {
     ghost invariant = { λ t. t.rounds < 2 ^ 32 };
 }
 
-impl<'p, E: Drop, P: Execute<'p, E>> SharedExecution<'p, P, E> {
+impl<E, P: Execute<E>> SharedExecution<P, E> {
     ghost use Rattle.load_rounds.specs.Together.{FitsPart, GoesOn};
 
     /// Goes on with the execution over the memory, unless there is an answer already. If loads are missing, adds them to the wants
@@ -78,6 +77,7 @@ impl<'p, E: Drop, P: Execute<'p, E>> SharedExecution<'p, P, E> {
             (front memory.now.modes (P.program self.old.plan) (look memory.now.pairs))) }
         ensures missing { IfOk result
             (λ missing. missing ≡ is_none self.new.report) }
+        ensures kept { self.new.plan ≡ self.old.plan }
     {
         if self.answer.is_some() {
             return Ok(false);
@@ -93,8 +93,8 @@ impl<'p, E: Drop, P: Execute<'p, E>> SharedExecution<'p, P, E> {
 }
 
 // Goes on with each of them, in order. Returns true if loads are missing.
-fn go_on_all<'p, E: Drop, P: Execute<'p, E>>(
-    parts: &mut Vec<SharedExecution<'p, P, E>>,
+fn go_on_all<E, P: Execute<E>>(
+    parts: &mut Vec<SharedExecution<P, E>>,
     alloc: Global,
     memory: &Memory,
     rounds: u32,
@@ -112,6 +112,7 @@ fn go_on_all<'p, E: Drop, P: Execute<'p, E>>(
         (wants.new ≡ wanting wants.old (fronts P.program memory.now (plans_in parts.old.items))) }
     ensures missing { IfOk result (λ missing.
         missing ≡ some_unreported parts.new.items) }
+    ensures kept { plans_in parts.new.items ≡ plans_in parts.old.items }
 {
     let mut is_missing = false;
     for at in 0..parts.len() {
@@ -121,27 +122,32 @@ fn go_on_all<'p, E: Drop, P: Execute<'p, E>>(
     Ok(is_missing)
 }
 
-impl<'p, E: Drop, P: Execute<'p, E>> Together<'p, P, E> {
-    ghost use Rattle.load_rounds.specs.Executes.{StaysLimited};
-    ghost use Rattle.load_rounds.specs.Sessions.{state_of, memory_of};
-    ghost use Rattle.load_rounds.specs.SharedRounds.{joint};
-    ghost use Rattle.load_rounds.specs.Together.{AreBegun, CountsAsked, FindsAll, reports_in};
+impl<E: Drop, P: Execute<E> + Drop> Together<P, E> {
+    ghost use Rattle.load_rounds.specs.Together.{AreBegun};
 
     /// Executions of the plans of which nothing is done.
-    pub(crate) fn begin(alloc: Global, plans: &'p [P]) -> Result<Together<'p, P, E>, AllocError>
+    pub(crate) fn begin(alloc: Global, plans: Vec<P>) -> Result<Together<P, E>, AllocError>
         ensures { IfOk result (λ t. AreBegun P.program
-            P.text_of P.loaders P.fits plans.now t) }
+            P.text_of P.loaders P.fits plans.items t) }
     {
         let mut parts = Vec::with_capacity(alloc, plans.len())?;
         for plan in plans {
+            let progress = plan.start();
             parts.push(SharedExecution {
                 plan,
-                progress: plan.start(),
+                progress,
                 answer: None,
             })?;
         }
         Ok(Together { parts, rounds: 0 })
     }
+}
+
+impl<E, P: Execute<E>> Together<P, E> {
+    ghost use Rattle.load_rounds.specs.Executes.{StaysLimited};
+    ghost use Rattle.load_rounds.specs.Sessions.{state_of, memory_of};
+    ghost use Rattle.load_rounds.specs.SharedRounds.{joint};
+    ghost use Rattle.load_rounds.specs.Together.{CountsAsked, FindsAll};
 
     /// Goes on with each plan that has no answer yet, in order, over what is known. Returns what is missing for all of them, of
     /// which the caller makes a round, and nothing once each has its answer. A contract also sees here that no loader's limit is 0.
@@ -157,6 +163,7 @@ impl<'p, E: Drop, P: Execute<'p, E>> Together<'p, P, E> {
         ensures counted { CountsAsked
             self.old.rounds self.new.rounds result }
         ensures stays { StaysLimited session.old session.new }
+        ensures kept { plans_in self.new.parts ≡ plans_in self.old.parts }
     {
         let rounds = self.rounds;
         let alloc = session.alloc();
@@ -171,18 +178,32 @@ impl<'p, E: Drop, P: Execute<'p, E>> Together<'p, P, E> {
             Ok(None)
         }
     }
+}
 
-    /// Takes the answers out, in order. No plan is left.
+impl<P, E> SharedExecution<P, E> {
+    // Takes the answer out. The plan and its execution stay.
+    fn take_answer(&mut self) -> Option<Answer>
+        ensures answer { option_map report_of result ≡ self.old.report }
+        ensures kept { self.new ≡ record self.old { report = None } }
+    {
+        self.answer.take()
+    }
+}
+
+impl<P, E> Together<P, E> {
+    ghost use Rattle.load_rounds.specs.Together.{reports_in};
+
+    /// Takes the answers out, in order. The plans stay.
     pub(crate) fn take_answers(&mut self, alloc: Global) -> Result<Vec<Answer>, AllocError>
         ensures answers { IfOk result (λ answers.
             map report_of answers.items ≡ reports_in self.old.parts) }
         ensures counted { self.new.rounds
             ≡ self.old.rounds }
+        ensures kept { plans_in self.new.parts ≡ plans_in self.old.parts }
     {
         let mut answers = Vec::with_capacity(alloc, self.parts.len())?;
-        for part in mem::replace(&mut self.parts, Vec::new(alloc)) {
-            let SharedExecution { answer, .. } = part;
-            if let Some(answer) = answer {
+        for at in 0..self.parts.len() {
+            if let Some(answer) = self.parts[at].take_answer() {
                 answers.push(answer)?;
             }
         }

@@ -11,6 +11,7 @@ use crate::set_members::{add_field, add_fragment};
 use gq_parser::{Document, Fragment, Operation, Selection, SelectionSet};
 use merging_pairs::{FieldSet, ReachedFields};
 use std::alloc::{AllocError, Global};
+use std::sync::Arc;
 
 // Holds what is found of a set as it is walked through.
 #[derive(Drop)]
@@ -85,7 +86,7 @@ fn gather(
 #[cycle(gathering)]
 fn gather_field(
     walk: &FragmentMembers,
-    below: &Option<SelectionSet>,
+    below: &Option<Arc<SelectionSet>>,
     number: usize,
     rows: &mut Vec<FieldSet>,
 ) -> Result<usize, AllocError>

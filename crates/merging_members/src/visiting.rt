@@ -11,6 +11,7 @@ use crate::set_members::{add_field, add_fragment};
 use gq_parser::{Selection, SelectionSet};
 use merging_pairs::ReachedFields;
 use std::alloc::AllocError;
+use std::sync::Arc;
 
 /// A selection set with two fields that fail.
 #[derive(Clone, Copy)]
@@ -137,7 +138,7 @@ fn visit<'d>(
 #[cycle(visiting)]
 fn visit_below<'d>(
     walk: &FragmentMembers,
-    below: &'d Option<SelectionSet>,
+    below: &'d Option<Arc<SelectionSet>>,
     first: usize,
     clashing: &mut Vec<ClashingSet<'d>>,
 ) -> Result<usize, AllocError>

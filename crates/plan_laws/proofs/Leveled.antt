@@ -14,7 +14,7 @@ use Rattle.rules_spreads.specs.Levels.{levels_in, levels_among, levels_from, lev
 use Rattle.plan_program.specs.Chosen.{is_left_out, applies}
 use Rattle.plan_program.specs.Groups.{FieldOf, GroupOf, Collected, Entering, nothing_collected, with_field, chosen_field, has_entered, collect_one, collect_set, collect_all, enter_fragment, entering, collect_from, collect, collect_subfields, selections_in, selections_below}
 use Rattle.plan_program.specs.Arguments.{ArgumentsOf, ValueOf, all_values, null_argument, arguments_of}
-use Rattle.plan_program.specs.FieldValues.{KeyFrom, of_column, ChildrenOf, ValueFrom, known as settled, cell, first_row, all_rows, each_row, joined_rows, PreparedOf, key_from, with_loader, have_loaders, with_steps, with_key, each_asked, input_named, bound_asked, children_of, with_arguments, defined_asked, field_asked, first_asked, prepared, all_prepared, position_of}
+use Rattle.plan_program.specs.FieldValues.{KeyFrom, of_column, ChildrenOf, ValueFrom, known as settled, cell, first_row, all_rows, each_row, joined_rows, PreparedOf, key_from, with_loader, have_loaders, with_steps, with_key, each_asked, input_named, bound_asked, sets_below, children_of, with_arguments, defined_asked, field_asked, first_asked, prepared, all_prepared, position_of}
 use Rattle.plan_program.specs.PlanPrograms.{TypeOf, object_type, type_fault, type_of_row, list_of, fields_of, Objects, typed_object, row_object, read_from, read_if, first_of, first_object, all_objects, joined_object, joined_objects, asked_program, prepared_program, object_program, most_levels, plan_program}
 use Rattle.plan_laws.specs.Levels.{program_with}
 
@@ -28,18 +28,18 @@ abbrev IfAny : List FieldOf → Type 0 → Type 0
 IfAny [] P = Unit {0}
 IfAny (f ∷ fs) P = P
 
--- says what holds of the fields that select below what is asked
-abbrev OverFields : (List FieldOf → Type 0) → ValueFrom → Type 0
+-- says what holds of what is selected below what is asked
+abbrev OverFields : (List Below → Type 0) → ValueFrom → Type 0
 OverFields P (settled own) = Unit {0}
 OverFields P (cell column t) = Unit {0}
-OverFields P (first_row loader key b) = P b.fields
-OverFields P (all_rows loader key b) = P b.fields
-OverFields P (each_row loader keys b) = P b.fields
-OverFields P (joined_rows loader key steps b) = P b.fields
+OverFields P (first_row loader key b) = P b.below
+OverFields P (all_rows loader key b) = P b.below
+OverFields P (each_row loader keys b) = P b.below
+OverFields P (joined_rows loader key steps b) = P b.below
 
--- ---- what a group asks has the group's fields below it
+-- ---- what a group asks has what the group's fields select below it
 
-module _ (plan : PlanOf) (P : List FieldOf → Type 0) where
+module _ (plan : PlanOf) (P : List Below → Type 0) where
   loader-over : (loader : ℕ) (asked : ValueFrom) → OverFields P asked → OverFields P (with_loader plan loader asked)
   loader-over loader asked h = go (nat_lt loader (length plan.bindings.loaders))
     where
@@ -58,7 +58,7 @@ module _ (plan : PlanOf) (P : List FieldOf → Type 0) where
   key-over None asked h = tt
   key-over (Some k) asked h = h k
 
-  each-over : (loader : ℕ) (b : ChildrenOf) (input : Option Input) → P b.fields → OverFields P (each_asked loader b input)
+  each-over : (loader : ℕ) (b : ChildrenOf) (input : Option Input) → P b.below → OverFields P (each_asked loader b input)
   each-over loader b None h = tt
   each-over loader b (Some (Items is)) h = h
   each-over loader b (Some (Int z)) h = tt
@@ -66,7 +66,7 @@ module _ (plan : PlanOf) (P : List FieldOf → Type 0) where
   each-over loader b (Some (Boolean x)) h = tt
   each-over loader b (Some NullInput) h = tt
 
-  bound-over : (t : TypeTree) (b : ChildrenOf) (values : List ValueOf) (binding : Option BindingOf) → P b.fields → OverFields P (bound_asked plan t b values binding)
+  bound-over : (t : TypeTree) (b : ChildrenOf) (values : List ValueOf) (binding : Option BindingOf) → P b.below → OverFields P (bound_asked plan t b values binding)
   bound-over t b values None h = tt
   bound-over t b values (Some (by_column column)) h = tt
   bound-over t b values (Some (by_one loader key)) h = loader-over loader _ (key-over (key_from values key) _ (λ k. h))
@@ -78,49 +78,49 @@ module _ (plan : PlanOf) (P : List FieldOf → Type 0) where
   arguments-over (null_argument name) asked h = tt
   arguments-over (all_values vs) asked h = h vs
 
-  defined-over : (ty : List ℕ) (f : FieldOf) (g : GroupOf) (d : Option DefinedField) → P g.fields → OverFields P (defined_asked plan ty f g d).asked
+  defined-over : (ty : List ℕ) (f : FieldOf) (g : GroupOf) (d : Option DefinedField) → P (sets_below g.fields) → OverFields P (defined_asked plan ty f g d).asked
   defined-over ty f g None h = tt
   defined-over ty f g (Some d) h = arguments-over (arguments_of plan ty g) _ (λ vs. bound-over d.of_type (children_of d.of_type f.place g.fields) vs (binding_in plan.bindings.fields ty f.name) h)
 
-  field-over : (ty : List ℕ) (f : FieldOf) (g : GroupOf) → P g.fields → OverFields P (field_asked plan ty f g).asked
+  field-over : (ty : List ℕ) (f : FieldOf) (g : GroupOf) → P (sets_below g.fields) → OverFields P (field_asked plan ty f g).asked
   field-over ty f g h = go (bytes_eq f.name (codes "__typename"))
     where
       go : (b : Bool) → OverFields P (if b then record { position = position_of g.key f.place true; asked = settled (Value (LeafText ty)) } else defined_asked plan ty f g (field_in plan.definitions ty f.name)).asked
       go true = tt
       go false = defined-over ty f g (field_in plan.definitions ty f.name) h
 
-  first-over : (ty : List ℕ) (g : GroupOf) (fs : List FieldOf) → IfAny fs (P g.fields) → OverFields P (first_asked plan ty g fs).asked
+  first-over : (ty : List ℕ) (g : GroupOf) (fs : List FieldOf) → IfAny fs (P (sets_below g.fields)) → OverFields P (first_asked plan ty g fs).asked
   first-over ty g [] h = tt
   first-over ty g (f ∷ fs) h = field-over ty f g h
 
--- ---- two ways of making objects that are alike over fields
+-- ---- two ways of making objects that are alike over what is selected
 
-abbrev AlikeOver : Objects → Objects → List FieldOf → Type 0
-AlikeOver objects other fields = (ty : List ℕ) (row : RowOf) → objects ty fields row ≡ other ty fields row
+abbrev AlikeOver : Objects → Objects → List Below → Type 0
+AlikeOver objects other bs = (ty : List ℕ) (row : RowOf) → objects ty bs row ≡ other ty bs row
 
 module _ (defs : List Definition) (objects other : Objects) where
-  typed-alike : (b : ChildrenOf) (row : RowOf) (t : TypeOf) → AlikeOver objects other b.fields → typed_object objects b row t ≡ typed_object other b row t
+  typed-alike : (b : ChildrenOf) (row : RowOf) (t : TypeOf) → AlikeOver objects other b.below → typed_object objects b row t ≡ typed_object other b row t
   typed-alike b row (type_fault fault) h = refl
   typed-alike b row (object_type ty) h = h ty row
 
-  rows-alike : (b : ChildrenOf) → AlikeOver objects other b.fields → row_object defs objects b ≡ row_object defs other b
+  rows-alike : (b : ChildrenOf) → AlikeOver objects other b.below → row_object defs objects b ≡ row_object defs other b
   rows-alike b h = fun_ext (λ row. typed-alike b row (type_of_row defs b.type_name row) h)
 
-  first-alike : (b : ChildrenOf) (rs : List RowOf) → AlikeOver objects other b.fields → first_object defs objects b rs ≡ first_object defs other b rs
+  first-alike : (b : ChildrenOf) (rs : List RowOf) → AlikeOver objects other b.below → first_object defs objects b rs ≡ first_object defs other b rs
   first-alike b [] h = refl
   first-alike b (r ∷ rs) h = typed-alike b r (type_of_row defs b.type_name r) h
 
-  firsts-alike : (b : ChildrenOf) → AlikeOver objects other b.fields → first_object defs objects b ≡ first_object defs other b
+  firsts-alike : (b : ChildrenOf) → AlikeOver objects other b.below → first_object defs objects b ≡ first_object defs other b
   firsts-alike b h = fun_ext (λ rs. first-alike b rs h)
 
-  alls-alike : (b : ChildrenOf) → AlikeOver objects other b.fields → all_objects defs objects b ≡ all_objects defs other b
+  alls-alike : (b : ChildrenOf) → AlikeOver objects other b.below → all_objects defs objects b ≡ all_objects defs other b
   alls-alike b h = fun_ext (λ rs. ap (λ (f : RowOf → Program). list_of b (map f rs)) (rows-alike b h))
 
-  object-alike : (b : ChildrenOf) (steps : List StepOf) → AlikeOver objects other b.fields → joined_object defs objects b steps ≡ joined_object defs other b steps
+  object-alike : (b : ChildrenOf) (steps : List StepOf) → AlikeOver objects other b.below → joined_object defs objects b steps ≡ joined_object defs other b steps
   object-alike b [] h = rows-alike b h
   object-alike b (s ∷ ss) h = fun_ext (λ row. ap (λ (next : RowOf → Program). read_from s.loader (of_column s.column) row (first_of next)) (object-alike b ss h))
 
-  joined-alike : (b : ChildrenOf) (steps : List StepOf) → AlikeOver objects other b.fields → joined_objects defs objects b steps ≡ joined_objects defs other b steps
+  joined-alike : (b : ChildrenOf) (steps : List StepOf) → AlikeOver objects other b.below → joined_objects defs objects b steps ≡ joined_objects defs other b steps
   joined-alike b steps h = fun_ext (λ rs. ap (λ (f : RowOf → Program). list_of b (map f rs)) (object-alike b steps h))
 
   asked-alike : (row : RowOf) (a : ValueFrom) → OverFields (AlikeOver objects other) a → asked_program defs objects row a ≡ asked_program defs other row a
@@ -131,10 +131,10 @@ module _ (defs : List Definition) (objects other : Objects) where
   asked-alike row (each_row loader keys b) h = ap (λ (next : List RowOf → Program). list_of b (map (read_if loader next) keys)) (firsts-alike b h)
   asked-alike row (joined_rows loader key steps b) h = ap (λ (next : List RowOf → Program). read_from loader key row next) (joined-alike b steps h)
 
--- groups, each with fields over which they are alike
+-- groups, each with fields below which they are alike
 abbrev GroupsAlike : Objects → Objects → List GroupOf → Type 0
 GroupsAlike objects other [] = Unit {0}
-GroupsAlike objects other (g ∷ gs) = IfAny g.fields (AlikeOver objects other g.fields) × GroupsAlike objects other gs
+GroupsAlike objects other (g ∷ gs) = IfAny g.fields (AlikeOver objects other (sets_below g.fields)) × GroupsAlike objects other gs
 
 fields-alike : (plan : PlanOf) (objects other : Objects) (ty : List ℕ) (row : RowOf) (gs : List GroupOf) → GroupsAlike objects other gs
     → fields_of (asked_program plan.definitions objects row) (all_prepared plan ty gs) ≡ fields_of (asked_program plan.definitions other row) (all_prepared plan ty gs)
@@ -153,16 +153,16 @@ program-alike plan objects other ty row gs h = ap (Under ObjectOf) (fields-alike
 -- ---- levels of what is collected
 
 module _ (plan : PlanOf) (spread : List ℕ → ℕ) where
-  -- each of these fields has at most `most` levels, its own among them
-  abbrev AreWithin : ℕ → List FieldOf → Type 0
+  -- each field that selects one of these has at most `most` levels, its own among them
+  abbrev AreWithin : ℕ → List Below → Type 0
   AreWithin most [] = Unit {0}
-  AreWithin most (f ∷ fs) = (levels_below spread f.below < most) × AreWithin most fs
+  AreWithin most (b ∷ bs) = (levels_below spread b < most) × AreWithin most bs
 
   abbrev GroupsWithin : ℕ → List GroupOf → Type 0
   GroupsWithin most [] = Unit {0}
-  GroupsWithin most (g ∷ gs) = AreWithin most g.fields × GroupsWithin most gs
+  GroupsWithin most (g ∷ gs) = AreWithin most (sets_below g.fields) × GroupsWithin most gs
 
-  within-last : (most : ℕ) (fs : List FieldOf) (f : FieldOf) → AreWithin most fs → levels_below spread f.below < most → AreWithin most (fs ++ f ∷ [])
+  within-last : (most : ℕ) (fs : List FieldOf) (f : FieldOf) → AreWithin most (sets_below fs) → levels_below spread f.below < most → AreWithin most (sets_below (fs ++ f ∷ []))
   within-last most [] f h k = (k, tt)
   within-last most (x ∷ fs) f h k = (h.0, within-last most fs f h.1 k)
 
@@ -219,13 +219,13 @@ module _ (plan : PlanOf) (spread : List ℕ → ℕ) where
     from-within most ty so_far nothing_below le h = h
     from-within most ty so_far (below (set_at place ss)) le h = within-all most ty (entering plan ty (length plan.fragments)) (stays most ty (length plan.fragments)) so_far ss le h
 
-    below-within : (most : ℕ) (ty : List ℕ) (so_far : Collected) (fs : List FieldOf) → AreWithin (suc most) fs → GroupsWithin most so_far.groups → GroupsWithin most (collect_subfields plan ty so_far fs).groups
+    below-within : (most : ℕ) (ty : List ℕ) (so_far : Collected) (bs : List Below) → AreWithin (suc most) bs → GroupsWithin most so_far.groups → GroupsWithin most (collect_subfields plan ty so_far bs).groups
     below-within most ty so_far [] w h = h
-    below-within most ty so_far (f ∷ fs) w h = below-within most ty (collect_from plan ty so_far (selections_below f.below)) fs w.1 (from-within most ty so_far f.below (let l = w.0 in omega (arith, l)) h)
+    below-within most ty so_far (b ∷ bs) w h = below-within most ty (collect_from plan ty so_far (selections_below b)) bs w.1 (from-within most ty so_far b (let l = w.0 in omega (arith, l)) h)
 
     -- ---- objects over more levels
 
-    no-field : (fs : List FieldOf) (P : Type 0) → AreWithin 0 fs → IfAny fs P
+    no-field : (fs : List FieldOf) (P : Type 0) → AreWithin 0 (sets_below fs) → IfAny fs P
     no-field [] P w = tt
     no-field (f ∷ fs) P w = let l = w.0 in absurd (omega (arith, l))
 
@@ -235,20 +235,20 @@ module _ (plan : PlanOf) (spread : List ℕ → ℕ) where
 
     no-groups : (objects other : Objects) (gs : List GroupOf) → GroupsWithin 0 gs → GroupsAlike objects other gs
     no-groups objects other [] w = tt
-    no-groups objects other (g ∷ gs) w = (no-field g.fields (AlikeOver objects other g.fields) w.0, no-groups objects other gs w.1)
+    no-groups objects other (g ∷ gs) w = (no-field g.fields (AlikeOver objects other (sets_below g.fields)) w.0, no-groups objects other gs w.1)
 
-    groups-alike : (most : ℕ) (objects other : Objects) → ((fs : List FieldOf) → AreWithin most fs → AlikeOver objects other fs) → (gs : List GroupOf) → GroupsWithin most gs → GroupsAlike objects other gs
+    groups-alike : (most : ℕ) (objects other : Objects) → ((bs : List Below) → AreWithin most bs → AlikeOver objects other bs) → (gs : List GroupOf) → GroupsWithin most gs → GroupsAlike objects other gs
     groups-alike most objects other alike [] w = tt
-    groups-alike most objects other alike (g ∷ gs) w = (if-any g.fields (AlikeOver objects other g.fields) (alike g.fields w.0), groups-alike most objects other alike gs w.1)
+    groups-alike most objects other alike (g ∷ gs) w = (if-any g.fields (AlikeOver objects other (sets_below g.fields)) (alike (sets_below g.fields) w.0), groups-alike most objects other alike gs w.1)
 
-    objects-alike : (most more : ℕ) → most ≤ more → (fs : List FieldOf) → AreWithin (suc most) fs → AlikeOver (object_program plan (suc most)) (object_program plan (suc more)) fs
-    objects-alike zero more le fs w ty row =
-        program-alike plan (object_program plan 0) (object_program plan more) ty row (collect_subfields plan ty nothing_collected fs).groups
-        (no-groups (object_program plan 0) (object_program plan more) (collect_subfields plan ty nothing_collected fs).groups (below-within 0 ty nothing_collected fs w tt))
-    objects-alike (suc most) zero le fs w ty row = absurd (omega (arith, le))
-    objects-alike (suc most) (suc more) le fs w ty row =
-        program-alike plan (object_program plan (suc most)) (object_program plan (suc more)) ty row (collect_subfields plan ty nothing_collected fs).groups
-        (groups-alike (suc most) (object_program plan (suc most)) (object_program plan (suc more)) (λ gs v. objects-alike most more (omega (arith, le)) gs v) (collect_subfields plan ty nothing_collected fs).groups (below-within (suc most) ty nothing_collected fs w tt))
+    objects-alike : (most more : ℕ) → most ≤ more → (bs : List Below) → AreWithin (suc most) bs → AlikeOver (object_program plan (suc most)) (object_program plan (suc more)) bs
+    objects-alike zero more le bs w ty row =
+        program-alike plan (object_program plan 0) (object_program plan more) ty row (collect_subfields plan ty nothing_collected bs).groups
+        (no-groups (object_program plan 0) (object_program plan more) (collect_subfields plan ty nothing_collected bs).groups (below-within 0 ty nothing_collected bs w tt))
+    objects-alike (suc most) zero le bs w ty row = absurd (omega (arith, le))
+    objects-alike (suc most) (suc more) le bs w ty row =
+        program-alike plan (object_program plan (suc most)) (object_program plan (suc more)) ty row (collect_subfields plan ty nothing_collected bs).groups
+        (groups-alike (suc most) (object_program plan (suc most)) (object_program plan (suc more)) (λ cs v. objects-alike most more (omega (arith, le)) cs v) (collect_subfields plan ty nothing_collected bs).groups (below-within (suc most) ty nothing_collected bs w tt))
 
     root-within : (most : ℕ) (ty : List ℕ) (s : SelectionSet) → levels_in spread s ≤ most → GroupsWithin most (collect plan ty (selections_in s))
     root-within most ty (set_at place ss) le = within-all most ty (entering plan ty (length plan.fragments)) (stays most ty (length plan.fragments)) nothing_collected ss le tt
@@ -257,7 +257,7 @@ module _ (plan : PlanOf) (spread : List ℕ → ℕ) where
     programs-alike most more le within =
         let ty : List ℕ = root_in plan.definitions in
         program-alike plan (object_program plan (suc most)) (object_program plan (suc more)) (root_in plan.definitions) [] (collect plan (root_in plan.definitions) (selections_in plan.operation.selection_set))
-        (groups-alike (suc most) (object_program plan (suc most)) (object_program plan (suc more)) (λ gs v. objects-alike most more le gs v) (collect plan (root_in plan.definitions) (selections_in plan.operation.selection_set)) (root-within (suc most) (root_in plan.definitions) plan.operation.selection_set within))
+        (groups-alike (suc most) (object_program plan (suc most)) (object_program plan (suc more)) (λ bs v. objects-alike most more le bs v) (collect plan (root_in plan.definitions) (selections_in plan.operation.selection_set)) (root-within (suc most) (root_in plan.definitions) plan.operation.selection_set within))
 
     pub more-levels : (levels_there : ℕ) → levels_in spread plan.operation.selection_set ≤ most_levels → most_levels ≤ levels_there → program_with plan levels_there ≡ plan_program plan
     more-levels zero within le = absurd (omega (arith, le))

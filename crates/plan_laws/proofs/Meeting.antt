@@ -34,6 +34,7 @@ use Rattle.gq_check.specs.Valid.{KeepsRules}
 use Rattle.gq_check.proofs.Validity.{valid-keeps}
 use Rattle.plan_program.specs.Chosen.{is_left_out, applies}
 use Rattle.plan_program.specs.Groups.{FieldOf, GroupOf, Collected, Entering, nothing_collected, with_field, chosen_field, has_entered, collect_one, collect_set, collect_all, enter_fragment, entering, collect_from, collect, collect_subfields, selections_in, selections_below}
+use Rattle.plan_program.specs.FieldValues.{sets_below}
 use Rattle.plan_laws.specs.Met.{MayStand, is_typename, IsAskedBy, CanBeMet, of_root, inside}
 use Rattle.plan_laws.proofs.Options.{none-kept}
 use Rattle.plan_laws.proofs.Schemas.{IsFor, Serves, for-composite, object-alone, field-serves, may-object, may-for, may-itself, serves-type, root-object}
@@ -409,7 +410,7 @@ module _ (defs : List Definition) (d : Document) where
             merge = subst (λ (ms : List ℕ). CanMerge D (is_in ms)) (sym same) merge;
           }
 
-      collects-fields : (fs : List FieldOf) → ((x : FieldOf) → IsOneOf x fs → IsOneOf x g.fields) → (so_far : Collected) → AreGroups object Deeper so_far.groups → AreGroups object Deeper (collect_subfields plan object so_far fs).groups
+      collects-fields : (fs : List FieldOf) → ((x : FieldOf) → IsOneOf x fs → IsOneOf x g.fields) → (so_far : Collected) → AreGroups object Deeper so_far.groups → AreGroups object Deeper (collect_subfields plan object so_far (sets_below fs)).groups
       collects-fields [] of so_far are = are
       collects-fields (x ∷ fs) of so_far are =
           let i = of x (inl refl) in
@@ -421,7 +422,7 @@ module _ (defs : List Definition) (d : Document) where
           collects-fields fs (λ y j. of y (inr j)) (collect_from plan object so_far (selections_below x.below))
           (subst (λ (b : Below). AreGroups object Deeper (collect_from plan object so_far (selections_below b)).groups) (sym m.same) next)
 
-      pub deeper-good : (h : GroupOf) → IsOneOf h (collect_subfields plan object nothing_collected g.fields).groups → IsGood object h
+      pub deeper-good : (h : GroupOf) → IsOneOf h (collect_subfields plan object nothing_collected (sets_below g.fields)).groups → IsGood object h
       deeper-good h i = record {
         numbers = Deeper;
         object = may-object defs kept (core_of own.of_type).text object stands;

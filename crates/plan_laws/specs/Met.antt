@@ -15,7 +15,7 @@ use Rattle.gq_check.specs.Planned.{IsPlan}
 use Rattle.plan_program.specs.Chosen.{given_to}
 use Rattle.plan_program.specs.Groups.{FieldOf, GroupOf, selections_in, nothing_collected, collect, collect_subfields}
 use Rattle.plan_program.specs.Arguments.{ValueOf, arguments_of}
-use Rattle.plan_program.specs.FieldValues.{ChildrenOf, ValueFrom, cell, first_row, all_rows, joined_rows, input_named, key_from, with_key, each_asked, with_arguments, children_of, prepared}
+use Rattle.plan_program.specs.FieldValues.{ChildrenOf, ValueFrom, cell, first_row, all_rows, joined_rows, input_named, key_from, with_key, each_asked, with_arguments, sets_below, children_of, prepared}
 use Rattle.plan_program.specs.PlanPrograms.{object_type, type_of_row}
 
 -- an object of this type can stand where a type of this name is wanted: some row tells so
@@ -39,7 +39,7 @@ pub data CanBeMet (plan : PlanOf) : List ℕ → GroupOf → Type 0 where
   inside : {ty object : List ℕ} {g h : GroupOf} {f : FieldOf} {d : Field}
       → CanBeMet plan ty g → IsAskedBy g f → field_in plan.definitions ty f.name ≡ Some d
       → MayStand plan.definitions (core_of d.of_type).text object
-      → IsOneOf h (collect_subfields plan object nothing_collected g.fields).groups
+      → IsOneOf h (collect_subfields plan object nothing_collected (sets_below g.fields)).groups
       → CanBeMet plan object h
 
 -- execution can meet the group, which this field answers

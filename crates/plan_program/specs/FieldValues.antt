@@ -4,7 +4,7 @@ use Rattle.std.specs.Prelude.{◌≡◌, ℕ, Bool, true, false, nat_lt, List, [
 use Rattle.std.specs.Fmt.{signed_decimal}
 use Rattle.std.specs.List.{list_all}
 use Rattle.text_place.specs.declared.place.Place.{Place}
-use Rattle.gq_parser.specs.Tree.{TypeTree, Named, ListOf}
+use Rattle.gq_parser.specs.Tree.{TypeTree, Named, ListOf, Below}
 use Rattle.schema_syntax.specs.Tree.{Field}
 use Rattle.bindings_syntax.specs.Statements as source
 use Rattle.gq_schema.specs.Inputs.{Input, Inputs, no_input, and_input, Items}
@@ -29,13 +29,13 @@ pub data KeyFrom : Type 0 where
   of_column : List ℕ → KeyFrom
   of_pair : PartFrom → PartFrom → KeyFrom
 
--- says what an object below a field is made from: its type's name, which may be an interface or a union, and the fields
--- that select of it; and the positions of a list's items
+-- says what an object below a field is made from: its type's name, which may be an interface or a union, and what the
+-- fields select of it; and the positions of a list's items
 pub record ChildrenOf : Type 0 where
   pub type_name : List ℕ
   pub item_non_null : Bool
   pub place : Place
-  pub fields : List FieldOf
+  pub below : List Below
 
 pub data ValueFrom : Type 0 where
   -- one value for every row
@@ -139,12 +139,16 @@ abbrev pub item_type : TypeTree → TypeTree
 item_type (Named p n non_null) = Named p n non_null
 item_type (ListOf p t non_null) = t
 
+-- what fields select, field by field
+abbrev pub sets_below : List FieldOf → List Below
+sets_below fields = map (λ (f : FieldOf). f.below) fields
+
 abbrev pub children_of : TypeTree → Place → List FieldOf → ChildrenOf
 children_of t place fields = record {
   type_name = (core_of t).text;
   item_non_null = is_non_null (item_type t);
   place = place;
-  fields = fields;
+  below = sets_below fields;
 }
 
 -- an argument's field error is the field's fault

@@ -2,8 +2,8 @@
 use Rattle.std.specs.Prelude.{List, [], map, None}
 use Rattle.std.specs.Borrow.{Bor}
 use Rattle.gq_parser.specs.declared.tree.Field as rust
-use Rattle.gq_parser.specs.Tree.{Selection, Selections, Field, Spread, Inline, nothing_below, field_of}
-use Rattle.plan_program.specs.Groups.{FieldOf, chosen_field, selections_below}
+use Rattle.gq_parser.specs.Tree.{Selection, Field, Spread, Inline, nothing_below, field_of}
+use Rattle.plan_program.specs.Groups.{FieldOf, chosen_field}
 
 -- a selection that is a field
 abbrev pub field_in : Selection → FieldOf
@@ -13,10 +13,6 @@ field_in (Inline place condition ds set) = chosen_field place None [] [] nothing
 
 abbrev pub field_seen : rust.Field → FieldOf
 field_seen f = field_in (field_of f)
-
--- gives what a field selects
-abbrev pub selected_by : rust.Field → Selections
-selected_by f = selections_below (field_seen f).below
 
 abbrev pub fields_seen : List (Bor rust.Field) → List FieldOf
 fields_seen fs = map (λ (f : Bor rust.Field). field_seen f.now) fs

@@ -108,7 +108,7 @@ selections_below nothing_below = no_selection
 selections_below (below set) = selections_in set
 
 -- gives the same for what several fields select, joined in order (MergeSelectionSets)
-abbrev pub collect_subfields : PlanOf → List ℕ → Collected → List FieldOf → Collected
+abbrev pub collect_subfields : PlanOf → List ℕ → Collected → List Below → Collected
 collect_subfields plan ty so_far [] = so_far
-collect_subfields plan ty so_far (f ∷ fs) =
-    collect_subfields plan ty (collect_from plan ty so_far (selections_below f.below)) fs
+collect_subfields plan ty so_far (b ∷ bs) =
+    collect_subfields plan ty (collect_from plan ty so_far (selections_below b)) bs

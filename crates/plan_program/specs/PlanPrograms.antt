@@ -2,7 +2,7 @@
 -- row's object type.
 use Rattle.std.specs.Prelude.{ℕ, zero, suc, Bool, true, false, ◌||◌, List, [], ◌∷◌, map, Option, Some, None, option_map, codes, bytes_eq, if◌then◌else◌}
 use Rattle.text_place.specs.declared.place.Place.{Place}
-use Rattle.gq_parser.specs.Tree.{TypeTree, Named, ListOf}
+use Rattle.gq_parser.specs.Tree.{TypeTree, Named, ListOf, Below}
 use Rattle.schema_syntax.specs.Tree.{Definition}
 use Rattle.gq_schema.specs.Types.{root_in, has_value, can_be}
 use Rattle.gq_bindings.specs.Types.{is_object_type}
@@ -12,7 +12,7 @@ use Rattle.load_memory.specs.Rows.{RowOf, cell_of}
 use Rattle.load_memory.specs.Outcomes.{OutcomeOf, known, batch_fault, rows, key_fault}
 use Rattle.execution.specs.Program.{Leaf, Text, Int, Boolean, LeafValue, Value, Null, Fault, ListOf as Listed, ObjectOf, Item, Program, Is, Read, Under, Programs, End, With}
 use Rattle.gq_check.specs.Plans.{PlanOf}
-use Rattle.plan_program.specs.Groups.{FieldOf, selections_in, nothing_collected, collect, collect_subfields}
+use Rattle.plan_program.specs.Groups.{selections_in, nothing_collected, collect, collect_subfields}
 use Rattle.gq_bindings.specs.Tree.{StepOf}
 use Rattle.plan_program.specs.FieldValues.{PartFrom, fixed_part, column_part, KeyFrom, fixed, of_column, of_pair, ChildrenOf, ValueFrom, known as settled, cell, first_row, all_rows, each_row, joined_rows, PreparedOf, all_prepared}
 use Rattle.plan_program.specs.Texts.{bad_value_message, no_column_message, no_type_message, not_type_message, is_int_text}
@@ -91,13 +91,13 @@ abbrev pub fields_of : (ValueFrom → Program) → List PreparedOf → Programs
 fields_of program [] = End
 fields_of program (p ∷ ps) = With p.position (program p.asked) (fields_of program ps)
 
--- says what the fields select of an object of this type over a row
+-- says what is selected of an object of this type over a row
 abbrev pub Objects : Type 0
-Objects = List ℕ → List FieldOf → RowOf → Program
+Objects = List ℕ → List Below → RowOf → Program
 
 abbrev pub typed_object : Objects → ChildrenOf → RowOf → TypeOf → Program
 typed_object objects children row (type_fault fault) = Is (Fault fault)
-typed_object objects children row (object_type ty) = objects ty children.fields row
+typed_object objects children row (object_type ty) = objects ty children.below row
 
 abbrev pub row_object : List Definition → Objects → ChildrenOf → RowOf → Program
 row_object defs objects children row =
@@ -193,10 +193,10 @@ module _ (defs : List Definition) (objects : Objects) where
 
 -- An object with this number of levels of fields. A plan's document has no more than the plan's levels.
 abbrev pub object_program : PlanOf → ℕ → Objects
-object_program plan zero ty fields row = Is Null
-object_program plan (suc levels) ty fields row =
+object_program plan zero ty below row = Is Null
+object_program plan (suc levels) ty below row =
     prepared_program plan.definitions (object_program plan levels)
-    (all_prepared plan ty (collect_subfields plan ty nothing_collected fields).groups) row
+    (all_prepared plan ty (collect_subfields plan ty nothing_collected below).groups) row
 
 -- gives how many levels of fields a valid document has at most
 abbrev pub most_levels : ℕ

@@ -1,7 +1,7 @@
 -- Definitions of what contracts see of what a group asks for.
 use Rattle.std.specs.Prelude.{ℕ, List, map, Option, Some, string_bytes, option_map}
 use Rattle.std.specs.Arc.{arc_value}
-use Rattle.gq_parser.specs.Tree.{TypeTree, type_of}
+use Rattle.gq_parser.specs.Tree.{TypeTree, type_of, below_of}
 use Rattle.schema_syntax.specs.Tree.{Field}
 use Rattle.gq_bindings.specs.declared.binding.Binding.{Binding}
 use Rattle.gq_bindings.specs.Seen.{step_of, binding_of}
@@ -22,7 +22,6 @@ use Rattle.plan_program.specs.declared.prepared.PreparedField.{PreparedField}
 use Rattle.gq_check.specs.Plans.{PlanOf}
 use Rattle.plan_program.specs.Arguments.{ValueOf, coerced_arguments}
 use Rattle.plan_program.specs.Groups.{FieldOf}
-use Rattle.plan_program.specs.Fields.{fields_seen}
 use Rattle.plan_program.specs.FieldValues.{PartFrom, fixed_part, column_part, KeyFrom, fixed, of_column, of_pair, ChildrenOf, ValueFrom, with_key, known, cell, first_row, all_rows, each_row, joined_rows, PreparedOf, position_of, bound_asked, with_arguments, children_of}
 
 abbrev pub leaf_value_seen : rust-leaf_value.LeafValue → LeafValue
@@ -34,19 +33,19 @@ leaf_value_seen (leaf_value.Fault t) = Fault (string_bytes t)
 
 abbrev pub part_from_seen : rust-part.KeyPartFrom → PartFrom
 part_from_seen (part.Fixed t) = fixed_part t
-part_from_seen (part.Column c) = column_part c.now
+part_from_seen (part.Column c) = column_part c
 
 abbrev pub key_from_seen : rust-key.KeyFrom → KeyFrom
 key_from_seen (key.Fixed k) = fixed (key_of k)
-key_from_seen (key.Column c) = of_column c.now
+key_from_seen (key.Column c) = of_column c
 key_from_seen (key.Pair one two) = of_pair (part_from_seen one) (part_from_seen two)
 
 abbrev pub children_seen : Children → ChildrenOf
 children_seen b = record {
-  type_name = b.type_name.now;
+  type_name = b.type_name;
   item_non_null = b.item_non_null;
   place = b.place;
-  fields = fields_seen b.fields;
+  below = map below_of b.below;
 }
 
 abbrev pub keys_seen : List (Option Key) → List (Option KeyOf)
@@ -54,7 +53,7 @@ keys_seen ks = map (λ (k : Option Key). option_map key_of k) ks
 
 abbrev pub value_from_seen : rust-value.ValueFrom → ValueFrom
 value_from_seen (value.Known o) = known (leaf_value_seen o)
-value_from_seen (value.Cell column ty) = cell column.now (type_of ty.now)
+value_from_seen (value.Cell column ty) = cell column (type_of ty)
 value_from_seen (value.First loader k b) =
     first_row loader (key_from_seen k) (children_seen (arc_value b))
 value_from_seen (value.All loader k b) =
@@ -62,7 +61,7 @@ value_from_seen (value.All loader k b) =
 value_from_seen (value.Each loader ks b) =
     each_row loader (keys_seen ks.items) (children_seen (arc_value b))
 value_from_seen (value.Joined loader k steps b) =
-    joined_rows loader (key_from_seen k) (map step_of steps.now) (children_seen (arc_value b))
+    joined_rows loader (key_from_seen k) (map step_of (arc_value steps).items) (children_seen (arc_value b))
 
 -- gives what a key asks for, where there is one
 abbrev pub by_key : Option rust-key.KeyFrom → (KeyFrom → ValueFrom) → ValueFrom
@@ -81,7 +80,7 @@ defined_by plan ty f fields d =
 
 abbrev pub prepared_seen : PreparedField → PreparedOf
 prepared_seen p =
-    record { position = position_of p.key.now p.place p.non_null; asked = value_from_seen p.asked }
+    record { position = position_of p.key p.place p.non_null; asked = value_from_seen p.asked }
 
 abbrev pub all_prepared_seen : List PreparedField → List PreparedOf
 all_prepared_seen ps = map prepared_seen ps

@@ -1,11 +1,10 @@
 //! Collection of fields (section 6.3.2, CollectFields).
 
-ghost use Rattle.std.specs.Prelude.{◌≡◌, ◌<◌, ◌≤◌, IfOk, OnOk};
-ghost use Rattle.gq_parser.specs.Tree.{map_selections, selection_of};
+ghost use Rattle.std.specs.Prelude.{◌≡◌, ◌<◌, ◌≤◌, IfOk, OnOk, map};
+ghost use Rattle.gq_parser.specs.Tree.{map_selections, selection_of, below_of};
 ghost use Rattle.gq_check.specs.Plans.{plan_of};
 ghost use Rattle.plan_program.specs.Groups as groups;
-ghost use Rattle.plan_program.specs.Groups.{collect_one, collect_from, entering, collect, collect_subfields, nothing_collected};
-ghost use Rattle.plan_program.specs.Fields.{selected_by, fields_seen};
+ghost use Rattle.plan_program.specs.Groups.{collect_one, collect_from, entering, collect, collect_subfields, nothing_collected, selections_below};
 ghost use Rattle.plan_program.specs.Seen.{groups_of};
 ghost use Rattle.plan_program.specs.Collecting.{collected_of, collect_rest_if, Collects, CollectsFirst};
 ghost use Rattle.plan_program.specs.Steps.{steps_inside, steps_one, steps_if, TakesStep};
@@ -14,8 +13,9 @@ use crate::chosen::{applies, applies_inline, is_left_out};
 use crate::collected::CollectedFields;
 use crate::group::Group;
 use gq_check::Plan;
-use gq_parser::{Field, Selection};
+use gq_parser::{Selection, SelectionSet};
 use std::alloc::{AllocError, Global};
+use std::sync::Arc;
 
 // Selections that are left to collect, where `enterable` fragments may still be entered one inside another.
 #[derive(Clone, Copy)]
@@ -147,17 +147,17 @@ fn collect_from<'p>(
 }
 
 // Collects what a field selects.
-fn collect_field<'p>(
+fn collect_below<'p>(
     alloc: Global,
     plan: &'p Plan,
     ty: &str,
-    field: &'p Field,
+    below: &'p Option<Arc<SelectionSet>>,
     so_far: &mut CollectedFields<'p>,
 ) -> Result<(), AllocError>
     ensures { OnOk result (collected_of so_far.new ≡ collect_from (plan_of plan.now)
-        ty.now (collected_of so_far.old) (selected_by field.now)) }
+        ty.now (collected_of so_far.old) (selections_below (below_of below.now))) }
 {
-    match &field.selection_set {
+    match below {
         Some(set) => collect_from(alloc, plan, ty, &set.selections, so_far),
         None => Ok(()),
     }
@@ -192,14 +192,14 @@ pub fn collect_subfields<'p>(
     alloc: Global,
     plan: &'p Plan,
     ty: &str,
-    fields: &[&'p Field],
+    below: &'p [Option<Arc<SelectionSet>>],
 ) -> Result<Vec<Group<'p>>, AllocError>
     ensures { IfOk result (λ groups. groups_of groups.items ≡ (collect_subfields
-        (plan_of plan.now) ty.now nothing_collected (fields_seen fields.now)).groups) }
+        (plan_of plan.now) ty.now nothing_collected (map below_of below.now)).groups) }
 {
     let mut collected = CollectedFields::new(alloc);
-    for field in fields {
-        collect_field(alloc, plan, ty, field, &mut collected)?;
+    for set in below {
+        collect_below(alloc, plan, ty, set, &mut collected)?;
     }
     Ok(collected.into_groups())
 }

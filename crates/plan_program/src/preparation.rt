@@ -2,14 +2,15 @@
 
 ghost use Rattle.std.specs.Prelude.{◌≡◌, IfOk, Some, false, map, bytes_eq, codes};
 ghost use Rattle.std.specs.Option.{option_map, option_copied};
-ghost use Rattle.gq_parser.specs.Tree.{type_of};
+ghost use Rattle.std.specs.Arc.{arc_value};
+ghost use Rattle.gq_parser.specs.Tree.{type_of, below_of};
 ghost use Rattle.gq_parser.specs.Types.{is_non_null};
 ghost use Rattle.schema_syntax.specs.Tree.{field_of};
 ghost use Rattle.gq_schema.specs.Inputs.{input_of, inputs_of};
 ghost use Rattle.gq_bindings.specs.Seen.{part_of, key_of as source_of, step_of, binding_of};
 ghost use Rattle.load_memory.specs.Keys.{key_of};
 ghost use Rattle.gq_check.specs.Plans.{plan_of};
-ghost use Rattle.plan_program.specs.FieldValues.{item_type, text_of_input, key_of_input, input_named, key_if, part_from, key_from, keys_of, have_loaders, IsLoadedBy, first_row, all_rows, each_asked, joined_rows, children_of, position_of, known, prepared};
+ghost use Rattle.plan_program.specs.FieldValues.{item_type, text_of_input, key_of_input, input_named, key_if, part_from, key_from, keys_of, have_loaders, IsLoadedBy, first_row, all_rows, each_asked, joined_rows, sets_below, children_of, position_of, known, prepared};
 ghost use Rattle.execution.specs.Program.{Null};
 ghost use Rattle.plan_program.specs.Fields.{field_seen, fields_seen};
 ghost use Rattle.plan_program.specs.Seen.{group_of, values_of};
@@ -25,7 +26,7 @@ use crate::texts::null_argument_message;
 use gq_bindings::{Binding, KeyOrigin, KeyPart, ViaLoader};
 use gq_check::Plan;
 use gq_lexer::Place;
-use gq_parser::{Field, TypeRef};
+use gq_parser::{Field, SelectionSet, TypeRef};
 use gq_schema::{FieldDef, Input};
 use load_memory::{Key, Text};
 use short_list::ShortList;
@@ -70,11 +71,11 @@ fn input_named<'a>(args: &'a Args<'_>, name: &str) -> Option<&'a Input>
     None
 }
 
-fn key_of_argument<'p>(
+fn key_of_argument(
     alloc: Global,
     args: &Args<'_>,
     name: &str,
-) -> Result<Option<KeyFrom<'p>>, AllocError>
+) -> Result<Option<KeyFrom>, AllocError>
     ensures { IfOk result (λ key.
         option_map key_from_seen key ≡ key_if (input_named name.now (values_of args.now))) }
 {
@@ -88,11 +89,7 @@ fn key_of_argument<'p>(
 }
 
 // Returns where a part of a key of two parts comes from.
-fn part_from<'p>(
-    alloc: Global,
-    args: &Args<'_>,
-    source: &'p KeyPart,
-) -> Result<KeyPartFrom<'p>, AllocError>
+fn part_from(alloc: Global, args: &Args<'_>, source: &KeyPart) -> Result<KeyPartFrom, AllocError>
     ensures { IfOk result (λ part.
         part_from_seen part ≡ part_from (values_of args.now) (part_of source.now)) }
 {
@@ -101,22 +98,25 @@ fn part_from<'p>(
             Some(input) => Ok(KeyPartFrom::Fixed(text_of_input(alloc, input)?)),
             None => Ok(KeyPartFrom::Fixed(None)),
         },
-        KeyPart::Column(column) => Ok(KeyPartFrom::Column(column.as_str())),
+        KeyPart::Column(column) => Ok(KeyPartFrom::Column(Text::from_str(alloc, column.as_str())?)),
     }
 }
 
 // Returns where a key comes from; nothing where it is null.
-fn key_from<'p>(
+fn key_from(
     alloc: Global,
     args: &Args<'_>,
-    source: &'p KeyOrigin,
-) -> Result<Option<KeyFrom<'p>>, AllocError>
+    source: &KeyOrigin,
+) -> Result<Option<KeyFrom>, AllocError>
     ensures { IfOk result (λ key.
         option_map key_from_seen key ≡ key_from (values_of args.now) (source_of source.now)) }
 {
     match source {
         KeyOrigin::Argument(name) => key_of_argument(alloc, args, name.as_str()),
-        KeyOrigin::Column(column) => Ok(Some(KeyFrom::Column(column.as_str()))),
+        KeyOrigin::Column(column) => {
+            let column = Text::from_str(alloc, column.as_str())?;
+            Ok(Some(KeyFrom::Column(column)))
+        }
         KeyOrigin::All => Ok(Some(KeyFrom::Fixed(Key::All))),
         KeyOrigin::Pair(one, two) => {
             let one = part_from(alloc, args, one)?;
@@ -138,14 +138,14 @@ fn keys_of(alloc: Global, inputs: &Vec<Input>) -> Result<Vec<Option<Key>>, Alloc
 }
 
 // The first row of a key.
-fn first_row<'p>(
+fn first_row(
     alloc: Global,
     loader: usize,
-    key: Option<KeyFrom<'p>>,
-    children: Children<'p>,
-) -> Result<ValueFrom<'p>, AllocError>
+    key: Option<KeyFrom>,
+    children: Children,
+) -> Result<ValueFrom, AllocError>
     ensures { IfOk result (λ a. value_from_seen a
-        ≡ by_key key.entry (λ k. first_row loader k (children_seen children.entry))) }
+        ≡ by_key key (λ k. first_row loader k (children_seen children))) }
 {
     match key {
         Some(key) => Ok(ValueFrom::First {
@@ -158,14 +158,14 @@ fn first_row<'p>(
 }
 
 // All rows of a key.
-fn all_rows<'p>(
+fn all_rows(
     alloc: Global,
     loader: usize,
-    key: Option<KeyFrom<'p>>,
-    children: Children<'p>,
-) -> Result<ValueFrom<'p>, AllocError>
+    key: Option<KeyFrom>,
+    children: Children,
+) -> Result<ValueFrom, AllocError>
     ensures { IfOk result (λ a. value_from_seen a
-        ≡ by_key key.entry (λ k. all_rows loader k (children_seen children.entry))) }
+        ≡ by_key key (λ k. all_rows loader k (children_seen children))) }
 {
     match key {
         Some(key) => Ok(ValueFrom::All {
@@ -178,21 +178,21 @@ fn all_rows<'p>(
 }
 
 // The rows of a key that the steps of `via` join.
-fn joined_rows<'p>(
+fn joined_rows(
     alloc: Global,
     loader: usize,
-    key: Option<KeyFrom<'p>>,
-    steps: &'p [ViaLoader],
-    children: Children<'p>,
-) -> Result<ValueFrom<'p>, AllocError>
-    ensures { IfOk result (λ a. value_from_seen a ≡ by_key key.entry
-        (λ k. joined_rows loader k (map step_of steps.now) (children_seen children.entry))) }
+    key: Option<KeyFrom>,
+    steps: &Arc<Vec<ViaLoader>>,
+    children: Children,
+) -> Result<ValueFrom, AllocError>
+    ensures { IfOk result (λ a. value_from_seen a ≡ by_key key
+        (λ k. joined_rows loader k (map step_of (arc_value steps.now).items) (children_seen children))) }
 {
     match key {
         Some(key) => Ok(ValueFrom::Joined {
             loader,
             key,
-            steps,
+            steps: Arc::try_clone(steps)?,
             children: Arc::new(alloc, children)?,
         }),
         None => Ok(ValueFrom::Known(LeafValue::Null)),
@@ -200,14 +200,14 @@ fn joined_rows<'p>(
 }
 
 // `each`.
-fn prepare_each<'p>(
+fn prepare_each(
     alloc: Global,
     loader: usize,
-    children: Children<'p>,
+    children: Children,
     input: Option<&Input>,
-) -> Result<ValueFrom<'p>, AllocError>
+) -> Result<ValueFrom, AllocError>
     ensures { IfOk result (λ asked. value_from_seen asked ≡ each_asked loader
-        (children_seen children.entry) (option_map input_of (option_copied input.entry))) }
+        (children_seen children) (option_map input_of (option_copied input.entry))) }
 {
     match input {
         Some(Input::List(inputs)) => {
@@ -235,13 +235,13 @@ fn have_loaders(steps: &[ViaLoader], loaders: usize) -> bool
 }
 
 // The key of a load by one of the bindings' loaders; nothing where it is null or there is no such loader.
-fn key_of_load<'p>(
+fn key_of_load(
     alloc: Global,
     plan: &Plan,
     args: &Args<'_>,
     loader: usize,
-    source: &'p KeyOrigin,
-) -> Result<Option<KeyFrom<'p>>, AllocError>
+    source: &KeyOrigin,
+) -> Result<Option<KeyFrom>, AllocError>
     ensures { IfOk result (λ key. IsLoadedBy (plan_of plan.now) loader
         (key_from (values_of args.now) (source_of source.now)) (option_map key_from_seen key)) }
 {
@@ -253,21 +253,21 @@ fn key_of_load<'p>(
 }
 
 // Returns what a binding asks for.
-fn prepare_bound<'p>(
+fn prepare_bound(
     alloc: Global,
     plan: &Plan,
-    ty: &'p TypeRef,
-    children: Children<'p>,
+    ty: &TypeRef,
+    children: Children,
     args: &Args<'_>,
-    binding: &'p Binding,
-) -> Result<ValueFrom<'p>, AllocError>
+    binding: &Binding,
+) -> Result<ValueFrom, AllocError>
     ensures { IfOk result (λ a. value_from_seen a ≡ bound_by (plan_of plan.now)
-        (type_of ty.now) (children_seen children.entry) (values_of args.now) binding.now) }
+        (type_of ty.now) (children_seen children) (values_of args.now) binding.now) }
 {
     match binding {
         Binding::Column(column) => Ok(ValueFrom::Cell {
-            column: column.as_str(),
-            ty,
+            column: Text::from_str(alloc, column.as_str())?,
+            ty: copy_type(alloc, ty)?,
         }),
         Binding::One { loader, key } => {
             let key = key_of_load(alloc, plan, args, *loader, key)?;
@@ -289,7 +289,7 @@ fn prepare_bound<'p>(
                 return Ok(ValueFrom::Known(LeafValue::Null));
             }
             let key = key_of_load(alloc, plan, args, *loader, key)?;
-            joined_rows(alloc, *loader, key, steps.as_slice(), children)
+            joined_rows(alloc, *loader, key, steps, children)
         }
     }
 }
@@ -305,29 +305,88 @@ fn is_item_non_null(ty: &TypeRef) -> bool
     }
 }
 
-fn children_of<'p>(ty: &'p TypeRef, place: Place, fields: ShortList<&'p Field>) -> Children<'p>
-    ensures { children_seen result
-        ≡ children_of (type_of ty.now) place (fields_seen fields.entry) }
+// Returns what a field selects, shared.
+fn set_below(field: &Field) -> Result<Option<Arc<SelectionSet>>, AllocError>
+    ensures { IfOk result (λ set. below_of set ≡ (field_seen field.now).below) }
 {
-    Children {
-        type_name: ty.innermost_name(),
+    match &field.selection_set {
+        Some(set) => Ok(Some(Arc::try_clone(set)?)),
+        None => Ok(None),
+    }
+}
+
+// Returns what fields select, shared.
+fn sets_below(
+    alloc: Global,
+    fields: &[&Field],
+) -> Result<ShortList<Option<Arc<SelectionSet>>>, AllocError>
+    ensures { IfOk result (λ sets.
+        map below_of sets ≡ sets_below (fields_seen fields.now)) }
+{
+    let mut sets = ShortList::new();
+    for field in fields {
+        sets.push(alloc, set_below(field)?)?;
+    }
+    Ok(sets)
+}
+
+fn children_of(
+    alloc: Global,
+    ty: &TypeRef,
+    place: Place,
+    fields: &[&Field],
+) -> Result<Children, AllocError>
+    ensures { IfOk result (λ children. children_seen children
+        ≡ children_of (type_of ty.now) place (fields_seen fields.now)) }
+{
+    Ok(Children {
+        type_name: Text::from_str(alloc, ty.innermost_name())?,
         item_non_null: is_item_non_null(ty),
         place,
-        fields,
+        below: sets_below(alloc, fields)?,
+    })
+}
+
+// A type of its own.
+fn copy_type(alloc: Global, ty: &TypeRef) -> Result<TypeRef, AllocError>
+    ensures { IfOk result (λ copy. type_of copy ≡ type_of ty.now) }
+{
+    match ty {
+        TypeRef::Named {
+            place,
+            name,
+            non_null,
+        } => Ok(TypeRef::Named {
+            place: *place,
+            name: name.clone()?,
+            non_null: *non_null,
+        }),
+        TypeRef::List {
+            place,
+            item,
+            non_null,
+        } => {
+            let item = copy_type(alloc, item)?;
+            Ok(TypeRef::List {
+                place: *place,
+                item: Box::new(alloc, item)?,
+                non_null: *non_null,
+            })
+        }
     }
 }
 
 // Returns what fields of one response key ask for, by the definition of the first.
-fn prepare_defined<'p>(
+fn prepare_defined(
     alloc: Global,
-    plan: &'p Plan,
+    plan: &Plan,
     ty: &str,
-    definition: &'p FieldDef,
-    first: &'p Field,
-    fields: ShortList<&'p Field>,
-) -> Result<ValueFrom<'p>, AllocError>
+    definition: &FieldDef,
+    first: &Field,
+    fields: &[&Field],
+) -> Result<ValueFrom, AllocError>
     ensures { IfOk result (λ a. value_from_seen a ≡ defined_by (plan_of plan.now) ty.now
-        (field_seen first.now) (fields_seen fields.entry) (field_of definition.now)) }
+        (field_seen first.now) (fields_seen fields.now) (field_of definition.now)) }
 {
     let args = match coerced_arguments(alloc, plan, &first.arguments, &definition.arguments) {
         Ok(args) => args,
@@ -340,14 +399,14 @@ fn prepare_defined<'p>(
     let Some(binding) = plan.bindings().binding_of(ty, first.name.as_str()) else {
         return Ok(ValueFrom::Known(LeafValue::Null));
     };
-    let children = children_of(&definition.of_type, first.place, fields);
+    let children = children_of(alloc, &definition.of_type, first.place, fields)?;
     prepare_bound(alloc, plan, &definition.of_type, children, &args, binding)
 }
 
 // A position that is null.
-fn null_at<'p>(key: &'p str, place: Place) -> PreparedField<'p>
+fn null_at(key: Text, place: Place) -> PreparedField
     ensures { prepared_seen result
-        ≡ record { position = position_of key.now place false; asked = known Null } }
+        ≡ record { position = position_of key place false; asked = known Null } }
 {
     PreparedField {
         key,
@@ -373,13 +432,13 @@ pub fn prepare_group<'p>(
     alloc: Global,
     plan: &'p Plan,
     ty: &ObjectType<'p, '_>,
-    group: Group<'p>,
-) -> Result<PreparedField<'p>, AllocError>
+    group: &Group<'p>,
+) -> Result<PreparedField, AllocError>
     requires { IsOf (plan_of plan.now) ty.now }
     ensures { IfOk result (λ done. prepared_seen done
-        ≡ prepared (plan_of plan.now) (name_in ty.now) (group_of group.entry)) }
+        ≡ prepared (plan_of plan.now) (name_in ty.now) (group_of group.now)) }
 {
-    let key = group.key;
+    let key = Text::from_str(alloc, group.key)?;
     let Some(first) = group.fields.as_slice().first() else {
         return Ok(null_at(key, Place { line: 1, column: 1 }));
     };
@@ -397,7 +456,14 @@ pub fn prepare_group<'p>(
     let Some(definition) = definition_of(plan, ty, first) else {
         return Ok(null_at(key, place));
     };
-    let asked = prepare_defined(alloc, plan, ty.name(), definition, first, group.fields)?;
+    let asked = prepare_defined(
+        alloc,
+        plan,
+        ty.name(),
+        definition,
+        first,
+        group.fields.as_slice(),
+    )?;
     Ok(PreparedField {
         key,
         place,

@@ -1,3 +1,4 @@
+pub mod Crossing
 pub mod Keepings
 pub mod KeptPlans
 pub mod Requests

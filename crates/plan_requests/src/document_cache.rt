@@ -1,28 +1,27 @@
 //! Documents of requests, kept by their texts.
 
-ghost use Rattle.std.specs.Prelude.{◌≡◌, ◌≤◌, ℕ, List, [], Option, None, IfOk, IfErr, OnOk, OnErr, length, string_bytes};
-ghost use Rattle.std.specs.HashMap.{get_by_text};
+ghost use Rattle.std.specs.Prelude.{◌≡◌, ◌≤◌, ℕ, List, [], Option, IfOk, IfErr, OnOk, length};
 ghost use Rattle.std.specs.List.{Contains};
 ghost use Rattle.serde_json.specs.Data.{Data};
 ghost use Rattle.serde_json.specs.View.{view};
 ghost use Rattle.gq_schema.specs.Types.{tree_of};
 ghost use Rattle.gq_check.specs.Plans.{plan_of};
-ghost use Rattle.plan_requests.specs.DocumentCaches.{longest, most_bytes, AreBounded, HasRoom, IsKept, MakesRoom, Adds};
+ghost use Rattle.plan_requests.specs.DocumentCaches.{longest, AreBounded, HasRoom, IsKept};
 ghost use Rattle.plan_requests.specs.Requests.{name_given, IsPlanOf, IsRequestFault};
 
 use crate::fault::RequestFault;
 use crate::server::{Server, check_query};
 use gq_check::{CheckFault, Plan, PreparedDocument, prepare_again};
 use serde_json::Value;
-use std::alloc::{AllocError, Global};
-use std::collections::HashMap;
+use std::alloc::Global;
 use std::marker::Model;
+use text_cache::{CacheLimits, TextCache};
 
-/// At most how many texts are kept at a time.
-const MOST_TEXTS: usize = 1_024;
-
-/// At most how many bytes the texts have together that are kept at a time.
-const MOST_BYTES: usize = 262_144;
+/// How many texts are kept at a time, and how many bytes they have together, at most.
+const LIMITS: CacheLimits = CacheLimits {
+    texts: 1_024,
+    bytes: 262_144,
+};
 
 /// Number of bytes of the longest text that is kept.
 const LONGEST: usize = 32_768;
@@ -35,28 +34,35 @@ const LONGEST: usize = 32_768;
 ///
 /// A contract sees it as the server and the texts whose documents are kept.
 ///
-/// A key that several texts share, such as the text without spaces, would need a proof that these mean the
-/// same; and to let go of the text that came longest ago, each request would have to note when it came.
-#[derive(Drop)]
+/// A key that several texts share, such as the text without spaces, would need a proof that these mean the same.
 pub struct DocumentCache {
     server: Server,
-    documents: HashMap<String, PreparedDocument>,
-    bytes: usize,
+    documents: TextCache<PreparedDocument>,
 }
 
 impl Model for DocumentCache {
     ghost use Rattle.std.specs.Coded.{codes};
     ghost use Rattle.gq_parser.specs.contracts.tree.TypeRef as type_ref;
     ghost use Rattle.gq_parser.specs.contracts.tree.Literal as literal;
-    ghost use Rattle.plan_requests.specs.DocumentCaches.{KeepingOf, texts_of, IsKeeping};
+    ghost use Rattle.plan_requests.specs.DocumentCaches.{KeepingOf, IsKeeping};
+    ghost use Rattle.text_cache.specs.TextCaches.{texts_of};
 
     ghost Value = { KeepingOf };
 
     ghost coded = { Prim.hlevel (codes, type_ref.the_row.coded, literal.the_row.coded) };
 
-    ghost view = { λ k. record { server = k.server; texts = texts_of k.documents.entries } };
+    ghost view = { λ k. record { server = k.server; texts = texts_of k.documents } };
 
-    ghost invariant = { λ k. IsKeeping k.server.definitions k.documents.entries k.bytes };
+    ghost invariant = { λ k. IsKeeping k.server.definitions k.documents };
+}
+
+impl Drop for DocumentCache {
+    fn drop(self) {
+        let DocumentCache {
+            server: _server,
+            documents: _documents,
+        } = self;
+    }
 }
 
 // The document of a query, to be kept.
@@ -80,45 +86,6 @@ fn new_document(
     }
 }
 
-// Lets all documents go, where one more with a text of `more` bytes doesn't fit.
-fn make_room(documents: &mut HashMap<String, PreparedDocument>, bytes: &mut usize, more: usize)
-    requires fits { more ≤ longest }
-    requires short { bytes.old ≤ most_bytes }
-    ensures { MakesRoom documents.old.entries bytes.old
-        more documents.new.entries bytes.new }
-{
-    if documents.len() >= MOST_TEXTS || more > MOST_BYTES - *bytes {
-        documents.clear();
-        *bytes = 0;
-    }
-}
-
-// Adds a document by its text, which isn't there yet.
-fn add(
-    documents: &mut HashMap<String, PreparedDocument>,
-    bytes: &mut usize,
-    text: String,
-    kept: PreparedDocument,
-) -> Result<(), AllocError>
-    requires new { get_by_text documents.old
-        (string_bytes text) ≡ None }
-    requires short { bytes.old ≤ most_bytes }
-    requires long { length (string_bytes text) ≤ longest }
-    ensures ok { OnOk result
-        (Adds documents.old.entries bytes.old text kept documents.new.entries bytes.new) }
-    ensures err { OnErr result
-        ((documents.new.entries ≡ documents.old.entries) × (bytes.new ≡ bytes.old)) }
-{
-    let more = text.len();
-    match documents.insert(text, kept) {
-        Ok(_) => {
-            *bytes += more;
-            Ok(())
-        }
-        Err(_) => Err(AllocError),
-    }
-}
-
 impl DocumentCache {
     /// No documents yet, over this server.
     pub fn new(alloc: Global, server: Server) -> DocumentCache
@@ -126,8 +93,7 @@ impl DocumentCache {
     {
         DocumentCache {
             server,
-            documents: HashMap::new(alloc),
-            bytes: 0,
+            documents: TextCache::new(alloc, LIMITS),
         }
     }
 
@@ -156,7 +122,7 @@ impl DocumentCache {
         ensures err { (name : Option (List ℕ)) (given : Data) → IfErr result
             (IsRequestFault (tree_of self.old.server.definitions) query.now name given) }
     {
-        if self.documents.contains_key(query) {
+        if self.documents.contains(query) {
             return Ok(());
         }
         if query.len() > LONGEST {
@@ -166,11 +132,7 @@ impl DocumentCache {
             Ok(kept) => kept,
             Err(fault) => return Err(fault),
         };
-        let Ok(text) = String::from_str(alloc, query) else {
-            return Err(RequestFault::Check(CheckFault::NoMemory));
-        };
-        make_room(&mut self.documents, &mut self.bytes, query.len());
-        match add(&mut self.documents, &mut self.bytes, text, kept) {
+        match self.documents.insert(alloc, query, kept) {
             Ok(()) => Ok(()),
             Err(_) => Err(RequestFault::Check(CheckFault::NoMemory)),
         }

@@ -25,7 +25,6 @@ use std::sync::Arc;
 /// A schema, and how its fields are answered. Its clones share both, so that a clone copies nothing.
 ///
 /// A contract sees it as the definitions of the schema and the bindings.
-#[derive(Drop)]
 pub struct Server {
     schema: Arc<Schema>,
     bindings: Arc<Bindings>,
@@ -44,6 +43,15 @@ impl Model for Server {
     ghost use Rattle.std.specs.Arc.{arc_value};
 
     ghost view = { λ s. record { definitions = arc_value s.schema; bindings = arc_value s.bindings } };
+}
+
+impl Drop for Server {
+    fn drop(self) {
+        let Server {
+            schema: _schema,
+            bindings: _bindings,
+        } = self;
+    }
 }
 
 /// The checked document of a query.

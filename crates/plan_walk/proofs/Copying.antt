@@ -8,10 +8,9 @@ use Rattle.std.proofs.lemmas.List.Elements.{AllZip-get_or}
 use Rattle.gq_check.specs.Plans.{PlanOf}
 use Rattle.plan_program.specs.FieldValues.{ChildrenOf}
 use Rattle.plan_program.specs.Prepared.{children_seen}
-use Rattle.plan_walk.specs.Groups.{children_in, children_at, nowhere, Covers, IsShape, Grows}
+use Rattle.plan_walk.specs.Groups.{children_in, children_at, First, use_seen, nowhere, Covers, IsShape, Grows}
 use Rattle.plan_walk.specs.Puts.{View}
 use Rattle.plan_walk.specs.declared.loading_fields.LoadingField.{LoadingField}
-use Rattle.plan_walk.specs.declared.loading_fields.RowUse.TheVariants.{First}
 use Rattle.plan_walk.specs.declared.loading_fields.TypePositions.{TypePositions}
 use Rattle.plan_walk.proofs.Grouping.{covers-like, shape-more}
 
@@ -21,7 +20,7 @@ pub record IsShapeCopy (s c : TypePositions) : Type 0 where
   pub members : arc_value c.members ≡ arc_value s.members
 
 pub record IsCopy (g c : LoadingField) : Type 0 where
-  pub does : c.then ≡ g.then
+  pub does : use_seen c.then ≡ use_seen g.then
   pub children : arc_value c.children ≡ arc_value g.children
   pub shapes : AllZip IsShapeCopy g.shapes c.shapes
 
@@ -53,7 +52,7 @@ copies-grow plan gs cs h =
     let stand : (i : ℕ) → i < length gs → children_at cs i ≡ children_at gs i =
     λ i lt. copied-at (λ g. children_in g.children) nowhere (λ g c same. ap children_seen same.children) gs cs i h in
     let covers : (v : View) → Covers plan cs v → Covers plan gs v =
-    λ v c. covers-like plan gs cs v le (λ i lt. copied-at (λ g. g.then) First (λ g c same. same.does) gs cs i h) stand c in
+    λ v c. covers-like plan gs cs v le (λ i lt. copied-at (λ g. use_seen g.then) First (λ g c same. same.does) gs cs i h) stand c in
     record {
       longer = le;
       stand = stand;

@@ -17,15 +17,13 @@ use Rattle.plan_program.specs.declared.group.Group.{Group}
 use Rattle.plan_program.specs.PlanPrograms.{fields_of, read_from, asked_program, object_program}
 use Rattle.plan_program.specs.declared.prepared.KeyFrom.{KeyFrom}
 use Rattle.plan_walk.specs.Puts.{OnwardOf, View}
-use Rattle.plan_walk.specs.Groups.{children_in, nowhere, children_at, then_at, then_rows, next_rows, after_at, Covers, type_prepared, IsAsked, asks_seen, members_seen, Makes, IsShape, IsRight, AreRight, Grows, IsNew, IsAsking, AreMade, AreMadeOf, AreKept, IsOnly, IsShaped, view_of}
-use Rattle.plan_walk.specs.Positions.{position_seen}
+use Rattle.plan_walk.specs.Groups.{children_in, nowhere, children_at, UseOf, First, use_seen, then_at, then_rows, next_rows, after_at, Covers, type_prepared, IsAsked, asks_seen, members_seen, Makes, IsShape, IsRight, AreRight, Grows, IsNew, IsAsking, AreMade, AreMadeOf, AreKept, IsOnly, IsShaped, view_of}
+use Rattle.plan_walk.specs.Positions.{member_position}
 use Rattle.plan_walk.specs.declared.loading_fields.FieldResolver.{FieldResolver}
 use Rattle.plan_walk.specs.declared.loading_fields.FieldResolver.TheVariants as asks
 use Rattle.plan_walk.specs.declared.loading_fields.Member.{Member}
 use Rattle.plan_walk.specs.declared.loading_fields.TypePositions.{TypePositions}
 use Rattle.plan_walk.specs.declared.loading_fields.LoadingField.{LoadingField}
-use Rattle.plan_walk.specs.declared.loading_fields.RowUse.{RowUse}
-use Rattle.plan_walk.specs.declared.loading_fields.RowUse.TheVariants.{First}
 
 -- ---- more groups
 
@@ -108,7 +106,7 @@ grows-new plan gs g bare =
     let stand : (i : ℕ) → i < length gs → children_at (gs ++ g ∷ []) i ≡ children_at gs i =
     λ i lt. ap (λ o. option_map_or (λ (x : LoadingField). children_in x.children) o nowhere) (slice-left gs (g ∷ []) i lt) in
     let covers : (v : View) → Covers plan (gs ++ g ∷ []) v → Covers plan gs v =
-    λ v c. covers-like plan gs (gs ++ g ∷ []) v le (λ i lt. ap (λ o. option_map_or (λ (x : LoadingField). x.then) o First) (slice-left gs (g ∷ []) i lt)) stand c in
+    λ v c. covers-like plan gs (gs ++ g ∷ []) v le (λ i lt. ap (λ o. option_map_or (λ (x : LoadingField). use_seen x.then) o First) (slice-left gs (g ∷ []) i lt)) stand c in
     record {
       longer = le;
       stand = stand;
@@ -116,12 +114,12 @@ grows-new plan gs g bare =
       right = λ h. All-push (IsRight plan (gs ++ g ∷ [])) gs g (right-more plan gs (gs ++ g ∷ []) gs le covers h) (bare-right plan (gs ++ g ∷ []) g bare);
     }
 
-pub is-new : (gs : List LoadingField) (g : LoadingField) (n : ℕ) → n ≡ length gs → IsBare g → IsNew gs (gs ++ g ∷ []) g.then (children_in g.children) n
+pub is-new : (gs : List LoadingField) (g : LoadingField) (n : ℕ) → n ≡ length gs → IsBare g → IsNew gs (gs ++ g ∷ []) (use_seen g.then) (children_in g.children) n
 is-new gs g n e bare = rw e (record {
   grows = λ plan. grows-new plan gs g bare;
   front = take_at gs (g ∷ []) (length gs) refl;
   within = omega (arith, length-more gs g);
-  does = ap (λ o. option_map_or (λ (x : LoadingField). x.then) o First) (slice-end gs g);
+  does = ap (λ o. option_map_or (λ (x : LoadingField). use_seen x.then) o First) (slice-end gs g);
   stands = ap (λ o. option_map_or (λ (x : LoadingField). children_in x.children) o nowhere) (slice-end gs g);
 })
 
@@ -159,7 +157,7 @@ grows-kept plan gs i g new s lt is does stands more here =
     let stand : (j : ℕ) → j < length gs → children_at all j ≡ children_at gs j =
     λ j within. seen-set (λ (x : LoadingField). children_in x.children) nowhere gs i j g new (ap children_in stands ∙ ap (λ (x : LoadingField). children_in x.children) is) in
     let covers : (v : View) → Covers plan all v → Covers plan gs v =
-    λ v c. covers-like plan gs all v le (λ j within. seen-set (λ (x : LoadingField). x.then) First gs i j g new (does ∙ ap (λ (x : LoadingField). x.then) is)) stand c in
+    λ v c. covers-like plan gs all v le (λ j within. seen-set (λ (x : LoadingField). use_seen x.then) First gs i j g new (ap use_seen does ∙ ap (λ (x : LoadingField). use_seen x.then) is)) stand c in
     record {
       longer = le;
       stand = stand;
@@ -179,7 +177,7 @@ chained (With position p ps) qs = With position p (chained ps qs)
 
 pub members-append : (defs : List Definition) (v : View) (levels : ℕ) (row : RowOf) (ms ns : List Member) → members_seen defs v levels row (ms ++ ns) ≡ chained (members_seen defs v levels row ms) (members_seen defs v levels row ns)
 members-append defs v levels row [] ns = refl
-members-append defs v levels row (m ∷ ms) ns = ap (With (position_seen m.position) (asks_seen defs v levels row m.asks)) (members-append defs v levels row ms ns)
+members-append defs v levels row (m ∷ ms) ns = ap (With (member_position m.position) (asks_seen defs v levels row m.asks)) (members-append defs v levels row ms ns)
 
 fields-append : (f : ValueFrom → Program) (ps qs : List PreparedOf) → fields_of f (ps ++ qs) ≡ chained (fields_of f ps) (fields_of f qs)
 fields-append f [] qs = refl
@@ -190,7 +188,7 @@ pub front-then : {X : Type 0} (a b c : List X) → length a ≤ length b → tak
 front-then a b c le f g = sym (take-take (length a) (length b) c le) ∙ ap (take (length a)) g ∙ f
 
 -- one member more
-pub made-more : (old mid new : List LoadingField) (ps : List PreparedOf) (p : PreparedOf) (ms : List Member) (m : Member) → AreMade old mid ps ms → IsAsking mid new p.asked m.asks → position_seen m.position ≡ p.position
+pub made-more : (old mid new : List LoadingField) (ps : List PreparedOf) (p : PreparedOf) (ms : List Member) (m : Member) → AreMade old mid ps ms → IsAsking mid new p.asked m.asks → member_position m.position ≡ p.position
     → AreMade old new (ps ++ p ∷ []) (ms ++ m ∷ [])
 made-more old mid new ps p ms m h a same = record {
   grows = λ plan. grows-then plan old mid new (h.grows plan) (a.grows plan);
@@ -200,8 +198,8 @@ made-more old mid new ps p ms m h a same = record {
     members = λ v c levels row.
         let f : ValueFrom → Program = asked_program plan.definitions (object_program plan levels) row in
         members-append plan.definitions v levels row ms (m ∷ [])
-        ∙ ap (λ qs. chained qs (With (position_seen m.position) (asks_seen plan.definitions v levels row m.asks) End)) (made.members v c levels row)
-        ∙ ap (λ q. chained (fields_of f ps) (With (position_seen m.position) q End)) (a.same plan v c levels row)
+        ∙ ap (λ qs. chained qs (With (member_position m.position) (asks_seen plan.definitions v levels row m.asks) End)) (made.members v c levels row)
+        ∙ ap (λ q. chained (fields_of f ps) (With (member_position m.position) q End)) (a.same plan v c levels row)
         ∙ ap (λ position. chained (fields_of f ps) (With position (f p.asked) End)) same
         ∙ sym (fields-append f ps (p ∷ []));
   };
@@ -209,7 +207,7 @@ made-more old mid new ps p ms m h a same = record {
 
 -- one collected group more
 pub made-of-more : (plan : PlanOf) (ty : List ℕ) (old mid new : List LoadingField) (gs : List Group) (g : Group) (p : PreparedOf) (ms : List Member) (m : Member) → AreMadeOf plan ty (groups_of gs) old mid ms → p ≡ prepared plan ty (group_of g) → IsAsking mid new p.asked m.asks
-    → position_seen m.position ≡ p.position → AreMadeOf plan ty (groups_of (gs ++ g ∷ [])) old new (ms ++ m ∷ [])
+    → member_position m.position ≡ p.position → AreMadeOf plan ty (groups_of (gs ++ g ∷ [])) old new (ms ++ m ∷ [])
 made-of-more plan ty old mid new gs g p ms m h is a same =
     let f = prepared plan ty in
     let more : all_prepared plan ty (groups_of (gs ++ g ∷ [])) ≡ all_prepared plan ty (groups_of gs) ++ p ∷ [] =
@@ -220,7 +218,7 @@ pub made-none : (gs : List LoadingField) → AreMade gs gs [] []
 made-none gs = record { grows = λ plan. grows-self plan gs; front = take_all (length gs) gs (omega arith); makes = λ plan. record { known = λ k d lt. absurd (omega (arith, lt)); members = λ v c levels row. refl } }
 
 -- the program that a load with a group more asks for
-pub load-asking : (old new : List LoadingField) (next : RowUse) (children : ChildrenOf) (loader : ℕ) (key : KeyFrom) (group : ℕ) (asked : ValueFrom) → IsNew old new next children group
+pub load-asking : (old new : List LoadingField) (next : UseOf) (children : ChildrenOf) (loader : ℕ) (key : KeyFrom) (group : ℕ) (asked : ValueFrom) → IsNew old new next children group
     → ((plan : PlanOf) (levels : ℕ) (row : RowOf) → read_from loader (key_from_seen key) row (then_rows plan levels next children) ≡ asked_program plan.definitions (object_program plan levels) row asked) → IsAsking old new asked (asks.Load loader key group)
 load-asking old new next children loader key group asked h is = record {
   grows = h.grows;

@@ -13,16 +13,15 @@ use Rattle.gq_check.specs.Plans.{PlanOf}
 use Rattle.plan_program.specs.FieldValues.{ChildrenOf}
 use Rattle.plan_program.specs.PlanPrograms.{object_type, type_of_row, places, list_of, first_of, typed_object, row_object, joined_object, joined_objects, object_program}
 use Rattle.plan_walk.specs.Puts.{Put, Begins, Ends, Enters, OnwardOf, View, puts, all_puts}
-use Rattle.plan_walk.specs.Positions.{is_non_null, position_seen, later_of}
-use Rattle.plan_walk.specs.Groups.{children_at, then_at, then_rows, next_rows, steps_in, Covers, IsAsked, AreKnown, asks_seen, members_seen, Grows, IsWhole, AreOnly, IsShaped, view_of}
+use Rattle.plan_walk.specs.Positions.{is_non_null, member_position, later_of}
+use Rattle.plan_walk.specs.Groups.{children_at, UseOf, First, Each, Joined, then_at, taken_by, then_rows, next_rows, steps_in, Covers, IsAsked, AreKnown, asks_seen, members_seen, Grows, IsWhole, AreOnly, IsShaped, view_of}
 use Rattle.plan_walk.specs.Steps.{last_steps}
 use Rattle.plan_walk.specs.Following.{FollowsTo, followed_puts}
 use Rattle.plan_walk.specs.declared.following.ViaRows.{ViaRows}
 use Rattle.plan_walk.specs.Walks.{Goes, LetsGo, items_after}
 use Rattle.plan_walk.specs.declared.loading_fields.LoadingField.{LoadingField}
 use Rattle.plan_walk.specs.declared.loading_fields.Member.{Member}
-use Rattle.plan_walk.specs.declared.loading_fields.RowUse.{RowUse}
-use Rattle.plan_walk.specs.declared.loading_fields.RowUse.TheVariants.{First, All as Each}
+use Rattle.plan_walk.specs.declared.loading_fields.TakenRows.TheVariants as taken
 use Rattle.plan_walk.specs.declared.walk.Progress.{Progress}
 use Rattle.plan_walk.proofs.Grouping.{grows-self, grows-then, front-then, covers-view, asked-more, chained, members-append}
 
@@ -98,7 +97,7 @@ module _ {S : Type 0} {goes : Putting S} {below : Below S} {most : ℕ} {plan : 
   -- an object of a type, whose members were prepared first
   pub goes-made : {known : Type 0} (non_null : Bool) (R : Reader) (levels n group : ℕ) (ty : List ℕ) (row : RowOf) (a mid b : Progress S) (ms : List Member) → Laws goes below → levels ≡ suc n → mid.out ≡ a.out
       → IsShaped plan most a.groups.items mid.groups.items group ty ms → Goes goes below most plan (AreKnown (length mid.groups.items) ms) (λ v. puts false (Under ObjectOf (members_seen plan.definitions v n row ms)) R) mid b
-      → Goes goes below most plan known (λ v. puts non_null (object_program plan levels ty (children_at a.groups.items group).fields row) R) a b
+      → Goes goes below most plan known (λ v. puts non_null (object_program plan levels ty (children_at a.groups.items group).below row) R) a b
   goes-made non_null R levels n group ty row a mid b ms laws above same shaped p = record {
     grows = grows-then plan a.groups.items mid.groups.items b.groups.items shaped.grows p.grows;
     front = λ le. front-then a.groups.items mid.groups.items b.groups.items shaped.grows.longer (shaped.front le) (p.front (omega (arith, le, shaped.grows.longer)));
@@ -106,8 +105,8 @@ module _ {S : Type 0} {goes : Putting S} {below : Below S} {most : ℕ} {plan : 
         let made = shaped.makes rt in
         let from : below (length mid.groups.items) mid.out =
         subst (below (length mid.groups.items)) (sym same) (laws.rises (length a.groups.items) (length mid.groups.items) a.out shaped.grows.longer wait) in
-        subst (λ (s : S). goes v (puts non_null (object_program plan levels ty (children_at a.groups.items group).fields row) R) s b.out) same
-        (subst (λ (l : ℕ). goes v (puts non_null (object_program plan l ty (children_at a.groups.items group).fields row) R) mid.out b.out) (sym above)
+        subst (λ (s : S). goes v (puts non_null (object_program plan levels ty (children_at a.groups.items group).below row) R) s b.out) same
+        (subst (λ (l : ℕ). goes v (puts non_null (object_program plan l ty (children_at a.groups.items group).below row) R) mid.out b.out) (sym above)
         (subst (λ (us : Programs). goes v (puts false (Under ObjectOf us) R) mid.out b.out) (made.members v (p.grows.covers v cov) n row) (p.puts made.known (shaped.grows.right rt) from v cov)));
   }
 
@@ -150,9 +149,9 @@ fields_put defs levels row R ms v = Begins ObjectOf ∷ all_puts ObjectOf (membe
 
 -- one more
 pub fields-more : (defs : List Definition) (levels : ℕ) (row : RowOf) (R : Reader) (ms : List Member) (i : ℕ) (m : Member) (v : View) → i < length ms → m ≡ get_or ms i m
-    → fields_put defs levels row R (take i ms) v ++ Enters ObjectOf (position_seen m.position) ∷ puts (is_non_null m.position.nullability) (asks_seen defs v levels row m.asks) R ≡ fields_put defs levels row R (take (i + 1) ms) v
+    → fields_put defs levels row R (take i ms) v ++ Enters ObjectOf (member_position m.position) ∷ puts (is_non_null m.position.nullability) (asks_seen defs v levels row m.asks) R ≡ fields_put defs levels row R (take (i + 1) ms) v
 fields-more defs levels row R ms i m v lt is =
-    ap (λ us. fields_put defs levels row R (take i ms) v ++ Enters ObjectOf (position_seen m.position) ∷ us) (sym (append-nil (puts (is_non_null m.position.nullability) (asks_seen defs v levels row m.asks) R)))
+    ap (λ us. fields_put defs levels row R (take i ms) v ++ Enters ObjectOf (member_position m.position) ∷ us) (sym (append-nil (puts (is_non_null m.position.nullability) (asks_seen defs v levels row m.asks) R)))
     ∙ ap (λ us. Begins ObjectOf ∷ us) (sym (puts-chained ObjectOf (members_seen defs v levels row (take i ms)) (members_seen defs v levels row (m ∷ [])) R))
     ∙ ap (λ ps. Begins ObjectOf ∷ all_puts ObjectOf ps R) (sym (members-append defs v levels row (take i ms) (m ∷ [])))
     ∙ ap (λ xs. fields_put defs levels row R xs v) (sym (take_more ms i m lt ∙ ap (λ x. take i ms ++ x ∷ []) (sym is)))
@@ -210,7 +209,7 @@ module _ (plan : PlanOf) (gs : List LoadingField) (v : View) (onward : OnwardOf)
   after-row row = ap (λ (f : List RowOf → Program). f (row ∷ [])) after-none
 
   -- says what a group does with the rows of its own load
-  after-own : (lent : List LoadingField) (next : RowUse) → onward.later ≡ None → lent ≡ gs → then_at lent onward.group ≡ next → v.after onward ≡ then_rows plan onward.levels next (children_at gs onward.group)
+  after-own : (lent : List LoadingField) (next : UseOf) → onward.later ≡ None → lent ≡ gs → then_at lent onward.group ≡ next → v.after onward ≡ then_rows plan onward.levels next (children_at gs onward.group)
   after-own lent next own same is =
       cov.tells onward lt ∙ ap (λ later. next_rows plan onward.levels later (then_at gs onward.group) (children_at gs onward.group)) own
       ∙ ap (λ n. then_rows plan onward.levels n (children_at gs onward.group)) (ap (λ (xs : List LoadingField). then_at xs onward.group) (sym same) ∙ is)
@@ -228,7 +227,7 @@ module _ (plan : PlanOf) (gs : List LoadingField) (v : View) (onward : OnwardOf)
       ∙ ap (λ (f : RowOf → Program). list_of (children_at gs onward.group) (map f rows)) (fun_ext (λ (row : RowOf). sym (after-row row)))
 
   -- all of the later loaders are left
-  pub after-joined : (lent : List LoadingField) (rows : List RowOf) (left : ℕ) (next : RowUse) → onward.later ≡ None → lent ≡ gs → then_at lent onward.group ≡ next → left ≡ length (steps_in next)
+  pub after-joined : (lent : List LoadingField) (rows : List RowOf) (left : ℕ) (next : UseOf) → onward.later ≡ None → lent ≡ gs → then_at lent onward.group ≡ next → left ≡ length (steps_in next)
       → ((below : ChildrenOf) → then_rows plan onward.levels next below rows ≡ joined_objects plan.definitions (object_program plan onward.levels) below (steps_in next) rows) → v.after onward rows ≡ items_after v gs onward left rows
   after-joined lent rows left next own same is all joins =
       let does : then_at gs onward.group ≡ next = ap (λ (xs : List LoadingField). then_at xs onward.group) (sym same) ∙ is in
@@ -237,6 +236,24 @@ module _ (plan : PlanOf) (gs : List LoadingField) (v : View) (onward : OnwardOf)
       ap (λ (f : List RowOf → Program). f rows) (after-own lent next own same is) ∙ joins (children_at gs onward.group)
       ∙ ap (λ (f : RowOf → Program). list_of (children_at gs onward.group) (map f rows))
       (fun_ext (λ (row : RowOf). sym (ap (λ (f : List RowOf → Program). f (row ∷ [])) (after-missing left _ refl) ∙ ap (λ (ss : List StepOf). joined_by ss row) steps)))
+
+  -- all rows are taken, and later loaders go on from each
+  pub after-taken : (lent : List LoadingField) (rows : List RowOf) (left : ℕ) → onward.later ≡ None → lent ≡ gs → taken.All left ≡ taken_by (then_at lent onward.group) → v.after onward rows ≡ items_after v gs onward left rows
+  after-taken lent rows left own same is = go (then_at lent onward.group) refl is
+    where
+      go : (next : UseOf) → then_at lent onward.group ≡ next → taken.All left ≡ taken_by next → v.after onward rows ≡ items_after v gs onward left rows
+      go First does e = absurd (cc e)
+      go Each does e = let none : left ≡ 0 = cc e in rw none (after-all lent rows own same does)
+      go (Joined steps) does e = after-joined lent rows left (Joined steps) own same does (cc e) (λ below. refl)
+
+  -- the first of the rows is taken
+  pub after-one : (lent : List LoadingField) → onward.later ≡ None → lent ≡ gs → taken.First ≡ taken_by (then_at lent onward.group) → v.after onward ≡ v.after (later_of 0 onward)
+  after-one lent own same is = go (then_at lent onward.group) refl is
+    where
+      go : (next : UseOf) → then_at lent onward.group ≡ next → taken.First ≡ taken_by next → v.after onward ≡ v.after (later_of 0 onward)
+      go First does e = after-first lent own same does
+      go Each does e = absurd (cc e)
+      go (Joined steps) does e = absurd (cc e)
 
   -- says where the last `left` of the later loaders came to from a row
   pub after-followed : (left : ℕ) (non_null : Bool) (R : Reader) (steps : List StepOf) (row : RowOf) (f : ViaRows) → steps ≡ steps_in (then_at gs onward.group) → FollowsTo R steps left row f
@@ -256,7 +273,7 @@ module _ (plan : PlanOf) (gs : List LoadingField) (v : View) (onward : OnwardOf)
 module _ (plan : PlanOf) (gs : List LoadingField) (v : View) (onward : OnwardOf) (cov : Covers plan gs v) (lt : onward.group < length gs) where
   -- its program is that of the type's fields
   pub after-only : (row : RowOf) (ms : List Member) → IsWhole plan gs (children_at gs onward.group) ms
-      → v.after (later_of 0 onward) (row ∷ []) ≡ object_program plan onward.levels (children_at gs onward.group).type_name (children_at gs onward.group).fields row
+      → v.after (later_of 0 onward) (row ∷ []) ≡ object_program plan onward.levels (children_at gs onward.group).type_name (children_at gs onward.group).below row
   after-only row ms whole =
       let typed : type_of_row plan.definitions (children_at gs onward.group).type_name row ≡ object_type (children_at gs onward.group).type_name = rw whole.object refl in
       after-row plan gs v onward cov lt row ∙ ap (typed_object (object_program plan onward.levels) (children_at gs onward.group) row) typed
@@ -271,7 +288,7 @@ module _ {S : Type 0} {goes : Putting S} {below : Below S} {most : ℕ} {plan : 
     puts = λ k r w v cov.
         let is : v.after (later_of 0 onward) (row ∷ []) ≡ Is Null =
         after-only plan a.groups.items v onward (p.grows.covers v cov) (among k) row ms (only plan r)
-        ∙ ap (λ (l : ℕ). object_program plan l (children_at a.groups.items onward.group).type_name (children_at a.groups.items onward.group).fields row) (sym none) in
+        ∙ ap (λ (l : ℕ). object_program plan l (children_at a.groups.items onward.group).type_name (children_at a.groups.items onward.group).below row) (sym none) in
         subst (λ (q : Program). goes v (puts non_null q R) a.out b.out) (sym is) (p.puts k r w v cov);
   }
 
@@ -287,7 +304,7 @@ module _ {S : Type 0} {goes : Putting S} {below : Below S} {most : ℕ} {plan : 
         let whole : IsWhole plan a.groups.items (children_at a.groups.items onward.group) ms = only plan r in
         let is : v.after (later_of 0 onward) (row ∷ []) ≡ Under ObjectOf (members_seen plan.definitions v n row ms) =
         after-only plan a.groups.items v onward covered (among k) row ms whole
-        ∙ ap (λ (l : ℕ). object_program plan l (children_at a.groups.items onward.group).type_name (children_at a.groups.items onward.group).fields row) above
+        ∙ ap (λ (l : ℕ). object_program plan l (children_at a.groups.items onward.group).type_name (children_at a.groups.items onward.group).below row) above
         ∙ ap (λ (us : Programs). Under ObjectOf us) (sym (whole.makes.members v covered n row)) in
         subst (λ (q : Program). goes v (puts non_null q R) a.out b.out) (sym is) (p.puts whole.makes.known r w v cov);
   }

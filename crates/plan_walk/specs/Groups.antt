@@ -22,37 +22,56 @@ use Rattle.plan_program.specs.declared.object_type.ObjectType.{ObjectType}
 use Rattle.plan_program.specs.declared.prepared.Children.{Children}
 use Rattle.plan_walk.specs.Steps.{last_steps}
 use Rattle.plan_walk.specs.Puts.{OnwardOf, View}
-use Rattle.plan_walk.specs.Positions.{is_non_null, position_seen}
+use Rattle.plan_walk.specs.Positions.{is_non_null, member_position}
 use Rattle.plan_walk.specs.declared.loading_fields.FieldResolver.{FieldResolver}
 use Rattle.plan_walk.specs.declared.loading_fields.FieldResolver.TheVariants as asks
 use Rattle.plan_walk.specs.declared.loading_fields.Member.{Member}
 use Rattle.plan_walk.specs.declared.loading_fields.TypePositions.{TypePositions}
 use Rattle.plan_walk.specs.declared.loading_fields.LoadingField.{LoadingField}
-use Rattle.plan_walk.specs.declared.loading_fields.RowUse.{RowUse}
-use Rattle.plan_walk.specs.declared.loading_fields.RowUse.TheVariants.{First, All as Each, Joined}
+use Rattle.plan_walk.specs.declared.loading_fields.RowUse as rust-use
+use Rattle.plan_walk.specs.declared.loading_fields.RowUse.TheVariants as rust-uses
+use Rattle.plan_walk.specs.declared.loading_fields.TakenRows.{TakenRows}
+use Rattle.plan_walk.specs.declared.loading_fields.TakenRows.TheVariants as taken
 
 abbrev pub children_in : Arc Children Global → ChildrenOf
 children_in children = children_seen (arc_value children)
 
 -- ---- what a group does with the rows of its load
 
+-- it takes the first of them, or all, or for each of them the first row of each later loader in turn, by a column of the row before
+pub data UseOf : Type 0 where
+  First : UseOf
+  Each : UseOf
+  Joined : List StepOf → UseOf
+
+abbrev pub use_seen : rust-use.RowUse → UseOf
+use_seen rust-uses.First = First
+use_seen rust-uses.All = Each
+use_seen (rust-uses.Joined steps) = Joined (map step_of (arc_value steps).items)
+
 -- the rows have `levels` levels of objects below them
-abbrev pub then_rows : PlanOf → ℕ → RowUse → ChildrenOf → List RowOf → Program
+abbrev pub then_rows : PlanOf → ℕ → UseOf → ChildrenOf → List RowOf → Program
 then_rows plan levels First children rows =
     first_object plan.definitions (object_program plan levels) children rows
 then_rows plan levels Each children rows =
     all_objects plan.definitions (object_program plan levels) children rows
-then_rows plan levels (Joined steps) children rows = joined_objects plan.definitions
-    (object_program plan levels) children (map step_of steps.now) rows
+then_rows plan levels (Joined steps) children rows =
+    joined_objects plan.definitions (object_program plan levels) children steps rows
 
 -- the later loaders of its `via`
-abbrev pub steps_in : RowUse → List StepOf
+abbrev pub steps_in : UseOf → List StepOf
 steps_in First = []
 steps_in Each = []
-steps_in (Joined steps) = map step_of steps.now
+steps_in (Joined steps) = steps
+
+-- how many rows are taken, and how many later loaders go on from each
+abbrev pub taken_by : UseOf → TakenRows
+taken_by First = taken.First
+taken_by Each = taken.All 0
+taken_by (Joined steps) = taken.All (length steps)
 
 -- after a later load the first row is taken, and `left` of these loaders are left
-abbrev pub next_rows : PlanOf → ℕ → Option ℕ → RowUse → ChildrenOf → List RowOf → Program
+abbrev pub next_rows : PlanOf → ℕ → Option ℕ → UseOf → ChildrenOf → List RowOf → Program
 next_rows plan levels None next children rows = then_rows plan levels next children rows
 next_rows plan levels (Some left) next children rows = first_of (joined_object plan.definitions
     (object_program plan levels) children (last_steps left (steps_in next))) rows
@@ -63,15 +82,15 @@ nowhere = record {
   type_name = [];
   item_non_null = false;
   place = record { line = 1; column = 1 };
-  fields = [];
+  below = [];
 }
 
 abbrev pub children_at : List LoadingField → ℕ → ChildrenOf
 children_at gs i =
     option_map_or (λ (g : LoadingField). children_in g.children) (slice_get gs i) nowhere
 
-abbrev pub then_at : List LoadingField → ℕ → RowUse
-then_at gs i = option_map_or (λ (g : LoadingField). g.then) (slice_get gs i) First
+abbrev pub then_at : List LoadingField → ℕ → UseOf
+then_at gs i = option_map_or (λ (g : LoadingField). use_seen g.then) (slice_get gs i) First
 
 abbrev pub after_at : PlanOf → List LoadingField → OnwardOf → List RowOf → Program
 after_at plan gs onward = next_rows plan onward.levels onward.later (then_at gs onward.group)
@@ -92,7 +111,7 @@ pub record Covers (plan : PlanOf) (gs : List LoadingField) (v : View) : Type 0 w
 abbrev pub asks_seen : List Definition → View → ℕ → RowOf → FieldResolver → Program
 asks_seen defs v levels row (asks.Known leaf_value) = Is (leaf_value_seen leaf_value)
 asks_seen defs v levels row (asks.Cell column ty) =
-    Is (cell_value defs column.now (type_of ty) (cell_of row column.now))
+    Is (cell_value defs column (type_of ty) (cell_of row column))
 asks_seen defs v levels row (asks.Load loader key group) = read_from loader (key_from_seen key) row
     (v.after (record { group = group; later = None; levels = levels }))
 asks_seen defs v levels row (asks.Each loader keys items group) =
@@ -101,7 +120,7 @@ asks_seen defs v levels row (asks.Each loader keys items group) =
 
 abbrev pub members_seen : List Definition → View → ℕ → RowOf → List Member → Programs
 members_seen defs v levels row [] = End
-members_seen defs v levels row (m ∷ ms) = With (position_seen m.position)
+members_seen defs v levels row (m ∷ ms) = With (member_position m.position)
     (asks_seen defs v levels row m.asks) (members_seen defs v levels row ms)
 
 -- its group is below `count`
@@ -119,7 +138,7 @@ AreKnown count ms = All (λ (m : Member). IsAsked count m.asks) ms
 -- gives what the plan asks of an object of this type below a group
 abbrev pub type_prepared : PlanOf → ChildrenOf → List ℕ → List PreparedOf
 type_prepared plan children ty =
-    all_prepared plan ty (collect_subfields plan ty nothing_collected children.fields).groups
+    all_prepared plan ty (collect_subfields plan ty nothing_collected children.below).groups
 
 -- over each row the members are these groups, however many levels of objects there are below
 abbrev pub AreMembers : PlanOf → View → List Member → List PreparedOf → Type 0
@@ -171,7 +190,7 @@ GrowsByShape count group shape old new = (plan : PlanOf)
 -- ---- what is made
 
 -- a group more, of this number
-pub record IsNew (old new : List LoadingField) (next : RowUse) (children : ChildrenOf)
+pub record IsNew (old new : List LoadingField) (next : UseOf) (children : ChildrenOf)
     (number : ℕ) : Type 0 where
   pub grows : (plan : PlanOf) → Grows plan old new
   pub front : take (length old) new ≡ old

@@ -85,7 +85,7 @@ abbrev pub WalksTyped : {S : Type 0} (goes : View → List Put → S → S → T
     → Progress S → Progress S → Type 0
 WalksTyped goes below walk to ty row old new =
     WalksAt goes below walk to (λ v. object_program (plan_of walk.plan.now) to.onward.levels ty
-    (children_at old.groups.items to.onward.group).fields row) old new
+    (children_at old.groups.items to.onward.group).below row) old new
 
 -- Groups from `count` on were let go, where there were `most` or more and no position more waits.
 pub record LetsGo {S : Type 0} (waits : S → ℕ) (most count held : ℕ)

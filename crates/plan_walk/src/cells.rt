@@ -104,7 +104,7 @@ fn enum_leaf<'t>(schema: &Schema, name: &str, text: &'t str) -> Option<CellValue
 }
 
 /// Returns what a text is at a type, if it is right there (section 3.5, Result Coercion).
-pub fn leaf_of<'t>(schema: &Schema, ty: &LeafType<'_>, text: &'t str) -> Option<CellValue<'t>>
+pub fn leaf_of<'t>(schema: &Schema, ty: &LeafType, text: &'t str) -> Option<CellValue<'t>>
     ensures { option_map value_seen result
         ≡ leaf_of (tree_of schema.now) (type_of ty.now) text.now }
 {
@@ -122,7 +122,7 @@ pub fn cell_value(
     alloc: Global,
     schema: &Schema,
     column: &str,
-    ty: &LeafType<'_>,
+    ty: &LeafType,
     row: &Row,
 ) -> Result<LeafValue, AllocError>
     ensures { IfOk result (λ leaf_value. leaf_value_seen leaf_value ≡ cell_value

@@ -43,7 +43,7 @@ fn step_from<'r>(
     alloc: Global,
     memory: &'r Memory,
     probe: &mut Probe,
-    step: &'r ViaLoader,
+    step: &ViaLoader,
     row: &'r Row,
 ) -> Result<ViaRow<'r>, AllocError>
     ensures { IfOk result (StepsTo (lookup memory.now) (step_of step.now) row.now) }
@@ -83,7 +83,7 @@ pub fn follow_steps<'r>(
     alloc: Global,
     memory: &'r Memory,
     probe: &mut Probe,
-    steps: &'r [ViaLoader],
+    steps: &[ViaLoader],
     left: usize,
     from: &'r Row,
 ) -> Result<ViaRows<'r>, AllocError>

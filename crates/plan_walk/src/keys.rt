@@ -15,12 +15,12 @@ use plan_program::{KeyFrom, KeyPartFrom};
 
 /// Says what a key is over a row.
 #[derive(Clone, Copy)]
-pub enum KeyOver<'k> {
+pub enum KeyOver<'k, 'c> {
     Known(KeyRef<'k>),
     /// There is no key, and so there is no load.
     Null,
     /// The row has no such column.
-    Lacking(&'k str),
+    Lacking(&'c str),
 }
 
 /// Says what a part of a key of two parts is over a row.
@@ -33,7 +33,7 @@ pub enum KeyPartOver<'k> {
 }
 
 /// Returns what the key in a column is.
-pub fn column_over<'k>(column: &'k str, row: &'k Row) -> KeyOver<'k>
+pub fn column_over<'k, 'c>(column: &'c str, row: &'k Row) -> KeyOver<'k, 'c>
     ensures { (loader : ℕ) (next : List RowOf → Program) → read_cell loader
         column.now (cell_of row.now column.now) next ≡ read_over loader result next }
 {
@@ -44,15 +44,15 @@ pub fn column_over<'k>(column: &'k str, row: &'k Row) -> KeyOver<'k>
     }
 }
 
-fn part_over<'k>(part: &'k KeyPartFrom<'k>, row: &'k Row) -> KeyPartOver<'k>
+fn part_over<'k>(part: &'k KeyPartFrom, row: &'k Row) -> KeyPartOver<'k>
     ensures { part_seen result
         ≡ part_over (part_from_seen part.now) row.now }
 {
     match part {
         KeyPartFrom::Fixed(Some(text)) => KeyPartOver::Known(Some(text.as_str())),
         KeyPartFrom::Fixed(None) => KeyPartOver::Known(None),
-        KeyPartFrom::Column(column) => match row.get(column) {
-            Cell::NoColumn => KeyPartOver::Lacking(column),
+        KeyPartFrom::Column(column) => match row.get(column.as_str()) {
+            Cell::NoColumn => KeyPartOver::Lacking(column.as_str()),
             Cell::Null => KeyPartOver::Known(None),
             Cell::Text(text) => KeyPartOver::Known(Some(text)),
         },
@@ -60,7 +60,7 @@ fn part_over<'k>(part: &'k KeyPartFrom<'k>, row: &'k Row) -> KeyPartOver<'k>
 }
 
 // The key of two parts. A column that the row lacks comes before a part that is null.
-fn pair_over<'k>(one: KeyPartOver<'k>, two: KeyPartOver<'k>) -> KeyOver<'k>
+fn pair_over<'k>(one: KeyPartOver<'k>, two: KeyPartOver<'k>) -> KeyOver<'k, 'k>
     ensures { (loader : ℕ) (next : List RowOf → Program) → read_pair loader
         (part_seen one.entry) (part_seen two.entry) next ≡ read_over loader result next }
 {
@@ -80,13 +80,13 @@ fn pair_over<'k>(one: KeyPartOver<'k>, two: KeyPartOver<'k>) -> KeyOver<'k>
 }
 
 /// Returns what a key is over a row.
-pub fn key_over<'k>(key: &'k KeyFrom<'k>, row: &'k Row) -> KeyOver<'k>
+pub fn key_over<'k>(key: &'k KeyFrom, row: &'k Row) -> KeyOver<'k, 'k>
     ensures { (loader : ℕ) (next : List RowOf → Program)
         → read_from loader (key_from_seen key.now) row.now next ≡ read_over loader result next }
 {
     match key {
         KeyFrom::Fixed(key) => KeyOver::Known(key.as_key_ref()),
-        KeyFrom::Column(column) => column_over(column, row),
+        KeyFrom::Column(column) => column_over(column.as_str(), row),
         KeyFrom::Pair(one, two) => pair_over(part_over(one, row), part_over(two, row)),
     }
 }

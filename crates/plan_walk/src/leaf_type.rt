@@ -24,13 +24,12 @@ pub(crate) enum LeafKind {
 /// A type of leaves. What it says of texts is decided when it is made, and not for each cell.
 ///
 /// A contract sees the type.
-#[derive(Drop)]
-pub struct LeafType<'p> {
-    ty: &'p TypeRef,
+pub struct LeafType {
+    ty: TypeRef,
     kind: LeafKind,
 }
 
-impl<'p> Model for LeafType<'p> {
+impl Model for LeafType {
     ghost use Rattle.std.specs.Prelude.{◌≡◌};
     ghost use Rattle.gq_parser.specs.declared.tree.TypeRef.{TypeRef};
     ghost use Rattle.gq_parser.specs.contracts.tree.TypeRef as type_ref;
@@ -41,9 +40,18 @@ impl<'p> Model for LeafType<'p> {
 
     ghost coded = { type_ref.the_row.coded };
 
-    ghost view = { λ leaf. leaf.ty.now };
+    ghost view = { λ leaf. leaf.ty };
 
-    ghost invariant = { λ leaf. leaf.kind ≡ leaf_kind (type_of leaf.ty.now) };
+    ghost invariant = { λ leaf. leaf.kind ≡ leaf_kind (type_of leaf.ty) };
+}
+
+impl Drop for LeafType {
+    fn drop(self) {
+        let LeafType {
+            ty: _ty,
+            kind: _kind,
+        } = self;
+    }
 }
 
 // The kind of the type of this name.
@@ -67,15 +75,13 @@ fn leaf_kind(ty: &TypeRef) -> LeafKind
     }
 }
 
-impl<'p> LeafType<'p> {
+impl LeafType {
     /// The type of a leaf.
-    pub fn new(ty: &'p TypeRef) -> LeafType<'p>
-        ensures { result ≡ ty.now }
+    pub fn new(ty: TypeRef) -> LeafType
+        ensures { result ≡ ty }
     {
-        LeafType {
-            ty,
-            kind: leaf_kind(ty),
-        }
+        let kind = leaf_kind(&ty);
+        LeafType { ty, kind }
     }
 
     /// Says which texts are right there.

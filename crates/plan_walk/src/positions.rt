@@ -1,12 +1,12 @@
 //! Positions of an answer, and what is put at them.
 
 ghost use Rattle.std.specs.Prelude.{◌≡◌, None};
-ghost use Rattle.plan_walk.specs.Positions.{is_non_null};
+ghost use Rattle.plan_walk.specs.Positions.{is_non_null, position_seen, member_position};
 
 use crate::leaf_type::LeafType;
 use gq_lexer::Place;
 use gq_schema::Schema;
-use load_memory::Row;
+use load_memory::{Row, Text};
 
 /// Says what a position with others below it is.
 #[derive(Clone, Copy, PartialEq, Eq, Debug, Drop)]
@@ -30,6 +30,27 @@ pub struct FieldPosition<'p> {
     pub place: Place,
 }
 
+/// A field of an object as a plan keeps it.
+#[derive(Drop)]
+pub struct MemberPosition {
+    pub key: Text,
+    pub nullability: Nullability,
+    pub place: Place,
+}
+
+impl MemberPosition {
+    /// The position, which borrows its key.
+    pub fn as_position(&self) -> FieldPosition<'_>
+        ensures { position_seen result ≡ member_position self.now }
+    {
+        FieldPosition {
+            key: self.key.as_str(),
+            nullability: self.nullability,
+            place: self.place,
+        }
+    }
+}
+
 /// The items of a list: whether they may be null, and where their errors are.
 #[derive(Clone, Copy, Drop)]
 pub struct Items {
@@ -42,7 +63,7 @@ pub struct Items {
 pub struct Leaf<'r> {
     pub schema: &'r Schema,
     pub column: &'r str,
-    pub ty: &'r LeafType<'r>,
+    pub ty: &'r LeafType,
     pub row: &'r Row,
 }
 

@@ -45,7 +45,6 @@ enum HeldPositions {
 ///
 /// A position is the number of its group and its load, so positions of one group and load are one. It keeps no
 /// text with gaps: the pieces and the joined text would stand side by side, which can be twice the answer.
-#[derive(Drop)]
 pub struct Waiting {
     alloc: Global,
     held: HeldPositions,
@@ -61,6 +60,15 @@ impl Model for Waiting {
     ghost view = { λ w. positions_in w.held };
 
     ghost invariant = { λ w. IsHeld w.held };
+}
+
+impl Drop for Waiting {
+    fn drop(self) {
+        let Waiting {
+            alloc: _,
+            held: _held,
+        } = self;
+    }
 }
 
 // Tells whether two keys are exactly equal.

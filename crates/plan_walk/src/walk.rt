@@ -17,8 +17,8 @@ use crate::cells::{TypeOf, type_of_row};
 use crate::following::{ViaRows, follow_steps};
 use crate::keys::{KeyOver, key_over};
 use crate::loading_fields::{
-    FieldResolver, LoadingField, Member, RowUse, items_of, only_members, shape_of, steps_of,
-    then_of, type_name_of,
+    FieldResolver, LoadingField, Member, TakenRows, children_of, items_of, only_members, shape_of,
+    steps_of, taken_of,
 };
 use crate::positions::{Items, Leaf, Nullability, Onward, PositionKind};
 use crate::reading::look_up;
@@ -30,9 +30,9 @@ use std::alloc::{AllocError, Global};
 
 /// Holds what a walk goes over.
 #[derive(Clone, Copy, Drop)]
-pub struct Walk<'w, 'p> {
+pub struct Walk<'w> {
     pub alloc: Global,
-    pub plan: &'p Plan,
+    pub plan: &'w Plan,
     pub memory: &'w Memory,
     /// Says how many groups are kept at most, beside those on the way to the current object.
     pub most: usize,
@@ -40,9 +40,9 @@ pub struct Walk<'w, 'p> {
 
 /// Progress of a walk.
 #[derive(Drop)]
-pub struct Progress<'p, S> {
+pub struct Progress<S> {
     /// The groups that were met.
-    pub groups: Vec<LoadingField<'p>>,
+    pub groups: Vec<LoadingField>,
     /// Holds what the memory is asked by, of one load after another.
     pub probe: Probe,
     pub out: S,
@@ -55,14 +55,14 @@ pub struct LoadingPosition {
     pub nullability: Nullability,
 }
 
-impl<'w, 'p> Walk<'w, 'p> {
+impl<'w> Walk<'w> {
     /// An object over a row, with `levels` levels of objects below it.
     #[cycle(walk)]
     pub fn object<S: Sink>(
         &self,
-        at: &mut Progress<'p, S>,
+        at: &mut Progress<S>,
         levels: u32,
-        members: &[Member<'p>],
+        members: &[Member],
         row: &Row,
     ) -> Result<(), AllocError>
         ensures { OnOk result
@@ -70,7 +70,7 @@ impl<'w, 'p> Walk<'w, 'p> {
     {
         at.out.begin(PositionKind::Object)?;
         for member in members {
-            at.out.field(member.position)?;
+            at.out.field(member.position.as_position())?;
             let nullability = member.position.nullability;
             self.ask(at, levels, nullability, &member.asks, row)?;
         }
@@ -81,10 +81,10 @@ impl<'w, 'p> Walk<'w, 'p> {
     #[cycle(walk)]
     fn ask<S: Sink>(
         &self,
-        at: &mut Progress<'p, S>,
+        at: &mut Progress<S>,
         levels: u32,
         nullability: Nullability,
-        asks: &FieldResolver<'p>,
+        asks: &FieldResolver,
         row: &Row,
     ) -> Result<(), AllocError>
         ensures { OnOk result (WalksAsks S.goes S.below self.now
@@ -97,7 +97,7 @@ impl<'w, 'p> Walk<'w, 'p> {
                 at.out.cell(
                     Leaf {
                         schema,
-                        column,
+                        column: column.as_str(),
                         ty,
                         row,
                     },
@@ -124,10 +124,10 @@ impl<'w, 'p> Walk<'w, 'p> {
     #[cycle(walk)]
     fn read_from<S: Sink>(
         &self,
-        at: &mut Progress<'p, S>,
+        at: &mut Progress<S>,
         to: LoadingPosition,
         loader: usize,
-        key: &KeyFrom<'p>,
+        key: &KeyFrom,
         row: &Row,
     ) -> Result<(), AllocError>
         ensures { OnOk result (WalksAt S.goes S.below self.now to (λ v.
@@ -147,7 +147,7 @@ impl<'w, 'p> Walk<'w, 'p> {
     #[cycle(walk)]
     pub fn read<S: Sink>(
         &self,
-        at: &mut Progress<'p, S>,
+        at: &mut Progress<S>,
         to: LoadingPosition,
         loader: usize,
         key: KeyRef<'_>,
@@ -165,7 +165,7 @@ impl<'w, 'p> Walk<'w, 'p> {
     #[cycle(walk)]
     pub fn go_on<S: Sink>(
         &self,
-        at: &mut Progress<'p, S>,
+        at: &mut Progress<S>,
         to: LoadingPosition,
         outcome: &Outcome,
     ) -> Result<(), AllocError>
@@ -187,7 +187,7 @@ impl<'w, 'p> Walk<'w, 'p> {
     #[cycle(walk)]
     fn rows<S: Sink>(
         &self,
-        at: &mut Progress<'p, S>,
+        at: &mut Progress<S>,
         to: LoadingPosition,
         rows: &[Row],
     ) -> Result<(), AllocError>
@@ -197,10 +197,9 @@ impl<'w, 'p> Walk<'w, 'p> {
         if let Some(left) = to.onward.later {
             return self.first(at, to, left, rows);
         }
-        match then_of(&at.groups, to.onward.group) {
-            RowUse::First => self.first(at, to, 0, rows),
-            RowUse::All => self.all(at, to.onward, 0, rows),
-            RowUse::Joined { steps } => self.all(at, to.onward, steps.len(), rows),
+        match taken_of(&at.groups, to.onward.group) {
+            TakenRows::First => self.first(at, to, 0, rows),
+            TakenRows::All(left) => self.all(at, to.onward, left, rows),
         }
     }
 
@@ -208,7 +207,7 @@ impl<'w, 'p> Walk<'w, 'p> {
     #[cycle(walk)]
     fn first<S: Sink>(
         &self,
-        at: &mut Progress<'p, S>,
+        at: &mut Progress<S>,
         to: LoadingPosition,
         left: usize,
         rows: &[Row],
@@ -225,7 +224,7 @@ impl<'w, 'p> Walk<'w, 'p> {
     #[cycle(walk)]
     fn all<S: Sink>(
         &self,
-        at: &mut Progress<'p, S>,
+        at: &mut Progress<S>,
         onward: Onward,
         left: usize,
         rows: &[Row],
@@ -251,7 +250,7 @@ impl<'w, 'p> Walk<'w, 'p> {
     #[cycle(walk)]
     fn follow<S: Sink>(
         &self,
-        at: &mut Progress<'p, S>,
+        at: &mut Progress<S>,
         to: LoadingPosition,
         left: usize,
         row: &Row,
@@ -281,7 +280,7 @@ impl<'w, 'p> Walk<'w, 'p> {
     #[cycle(walk)]
     fn each<S: Sink>(
         &self,
-        at: &mut Progress<'p, S>,
+        at: &mut Progress<S>,
         onward: Onward,
         loader: usize,
         keys: &[Option<Key>],
@@ -306,7 +305,7 @@ impl<'w, 'p> Walk<'w, 'p> {
     #[cycle(walk)]
     fn read_if<S: Sink>(
         &self,
-        at: &mut Progress<'p, S>,
+        at: &mut Progress<S>,
         to: LoadingPosition,
         loader: usize,
         key: &Option<Key>,
@@ -324,7 +323,7 @@ impl<'w, 'p> Walk<'w, 'p> {
     #[cycle(walk)]
     fn row_object<S: Sink>(
         &self,
-        at: &mut Progress<'p, S>,
+        at: &mut Progress<S>,
         to: LoadingPosition,
         row: &Row,
     ) -> Result<(), AllocError>
@@ -333,7 +332,8 @@ impl<'w, 'p> Walk<'w, 'p> {
         if let Some(members) = only_members(&at.groups, to.onward.group)? {
             return self.only_object(at, to, &members, row);
         }
-        let name = type_name_of(&at.groups, to.onward.group);
+        let children = children_of(self.alloc, &at.groups, to.onward.group)?;
+        let name = children.type_name.as_str();
         match type_of_row(self.alloc, self.plan.schema(), name, row)? {
             TypeOf::Object(ty) => self.typed_object(at, to, ty, row),
             TypeOf::Fault(text) => at.out.leaf_value(&LeafValue::Fault(text), to.nullability),
@@ -344,9 +344,9 @@ impl<'w, 'p> Walk<'w, 'p> {
     #[cycle(walk)]
     fn only_object<S: Sink>(
         &self,
-        at: &mut Progress<'p, S>,
+        at: &mut Progress<S>,
         to: LoadingPosition,
-        members: &[Member<'p>],
+        members: &[Member],
         row: &Row,
     ) -> Result<(), AllocError>
         ensures { AreOnly at.old.groups.items to.onward.group members.now
@@ -363,7 +363,7 @@ impl<'w, 'p> Walk<'w, 'p> {
     #[cycle(walk)]
     fn typed_object<S: Sink>(
         &self,
-        at: &mut Progress<'p, S>,
+        at: &mut Progress<S>,
         to: LoadingPosition,
         ty: &str,
         row: &Row,
@@ -384,7 +384,7 @@ impl<'w, 'p> Walk<'w, 'p> {
 }
 
 // Lets the groups past the first `count` go, if there are as many as are kept and no position more waits than were held.
-fn let_go<'p, S: Sink>(at: &mut Progress<'p, S>, most: usize, count: usize, held: usize)
+fn let_go<S: Sink>(at: &mut Progress<S>, most: usize, count: usize, held: usize)
     ensures { LetsGo S.waits most count held at.old at.new }
 {
     if most <= count && at.out.waiting() == held {

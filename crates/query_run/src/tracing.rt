@@ -98,6 +98,7 @@ pub fn trace_service<R: Threads + Wait + AllocGlobal + Sync, I: Read, W: Write, 
     };
     let mut traced = TracedClient::new(run.rt.alloc(), client, trace);
     let stop = trace_lines(run.rt, run.words.workers, &mut traced, reader, writer);
-    let (_, trace) = traced.into_parts();
+    let (client, trace) = traced.into_parts();
+    drop(client);
     TracedRun { stop, trace }
 }

@@ -21,7 +21,8 @@ use Rattle.rounds_by_hand.specs.declared.hand.Advance.TheVariants.{Finished, Rou
 use Rattle.rounds_by_hand.specs.declared.hand.Far.{Far}
 use Rattle.rounds_by_hand.specs.declared.hand.Far.TheVariants as rust
 use Rattle.rounds_by_hand.specs.declared.pending.Pending.{Pending}
-use Rattle.rounds_by_hand.specs.Pending.{order_in, is_in, IsAnswered, MayAnswer}
+use Rattle.rounds_by_hand.specs.Pending.{order_in, is_in, replies_in, IsAnswered, MayAnswer}
+use Rattle.rounds_by_hand.specs.Stored.{ForgetsFailed, KnowsTheSame, Stores, StoresRound}
 
 -- says how far they are: nothing is done yet, or a round of a run is out with its orders, or nothing more can be done
 pub data FarOf (P E : Type 0) : Type 0 where
@@ -37,9 +38,15 @@ pub record HandOf (S P E : Type 0) : Type 0 where
 
 -- No public clause names it. What contracts see of how far they are.
 abbrev pub far_of : {P E : Type 0} → Far P E → FarOf P E
-far_of rust.Handed = handed
+far_of (rust.Handed plans) = handed
 far_of (rust.Out run pending) = out run pending.items
 far_of rust.Over = over
+
+-- No public clause names it. Where nothing is done yet, these are the plans.
+abbrev pub AreHanded : {P E : Type 0} → Far P E → List P → Type 0
+AreHanded (rust.Handed plans) seen = plans.items ≡ seen
+AreHanded (rust.Out run pending) seen = Unit {0}
+AreHanded rust.Over seen = Unit {0}
 
 module _ {P E : Type 0} where
   -- the orders of the round that is out
@@ -76,6 +83,13 @@ module _ {P E : Type 0} where
   IsStep far Waiting = ⊥
   IsStep far Over = ⊥
 
+-- a fact of each call that gave the answers or made a round; of one that did nothing it says nothing
+abbrev pub OnStep : Advance → Type 0 → Type 0
+OnStep (Finished answers) fact = fact
+OnStep Round fact = fact
+OnStep Waiting fact = Unit {0}
+OnStep Over fact = Unit {0}
+
 module _ {S P : Type 0} (program : P → Program) (text_of : P → AnsweredOf → List ℕ)
     (may : S → List KeyOf → AnswerOf → Type 0) where
   -- from whichever session they were begun: the answers have the headline
@@ -106,6 +120,26 @@ module _ {S P E : Type 0} where
   AsksAndAdvances old new Round = ¬ (IsOver old.far) × IsNewRound new.far
   AsksAndAdvances old new Waiting = ⊥
   AsksAndAdvances old new Over = IsOver old.far × (new ≡ old)
+
+  -- says what is known after a step, by how far they were before: of a round that was out, what its replies say and no more
+  abbrev pub StoresFrom : FarOf P E → SessionOf S → SessionOf S → Type 0
+  StoresFrom handed old new = ForgetsFailed old new
+  StoresFrom (out run pending) old new = Stores old new (replies_in pending)
+  StoresFrom over old new = KnowsTheSame old new
+
+  -- What is known after a step in which each order of the round was answered. A new round adds nothing to it.
+  abbrev pub StoresReplies : HandOf S P E → HandOf S P E → Type 0
+  StoresReplies old new = StoresFrom old.far old.session new.session
+
+  module _ (may : S → List KeyOf → AnswerOf → Type 0) where
+    -- says the same where the sources are asked for the orders that nobody answered
+    abbrev pub StoresAskedFrom : FarOf P E → SessionOf S → SessionOf S → Type 0
+    StoresAskedFrom handed old new = ForgetsFailed old new
+    StoresAskedFrom (out run pending) old new = StoresRound may old new pending
+    StoresAskedFrom over old new = KnowsTheSame old new
+
+    abbrev pub AsksAndStores : HandOf S P E → HandOf S P E → Type 0
+    AsksAndStores old new = StoresAskedFrom old.far old.session new.session
 
   module _ (program : P → Program) (text_of : P → AnsweredOf → List ℕ) where
     -- A round is out, the latest of the session. Its orders are the batches of all that is needed and missing, and each that is answered

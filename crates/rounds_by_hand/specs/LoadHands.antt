@@ -18,7 +18,8 @@ use Rattle.rounds_by_hand.specs.declared.load_hand.LoadAdvance.TheVariants.{Load
 use Rattle.rounds_by_hand.specs.declared.load_hand.LoadFar.{LoadFar}
 use Rattle.rounds_by_hand.specs.declared.load_hand.LoadFar.TheVariants as rust
 use Rattle.rounds_by_hand.specs.declared.pending.Pending.{Pending}
-use Rattle.rounds_by_hand.specs.Pending.{order_in, is_in, IsAnswered, MayAnswer}
+use Rattle.rounds_by_hand.specs.Pending.{order_in, is_in, replies_in, IsAnswered, MayAnswer}
+use Rattle.rounds_by_hand.specs.Stored.{ForgetsFailed, KnowsTheSame, Stores, StoresRound}
 
 -- says how far a load is: nothing is done yet, or its round is out with its orders, or nothing more can be done
 pub data LoadFarOf : Type 0 where
@@ -70,6 +71,13 @@ IsLoadStep far Round = IsNewLoadRound far
 IsLoadStep far Waiting = ⊥
 IsLoadStep far Over = ⊥
 
+-- a fact of each call that gave the outcomes or made the round; of one that did nothing it says nothing
+abbrev pub OnLoadStep : LoadAdvance → Type 0 → Type 0
+OnLoadStep (Loaded outcomes) fact = fact
+OnLoadStep Round fact = fact
+OnLoadStep Waiting fact = Unit {0}
+OnLoadStep Over fact = Unit {0}
+
 module _ {S : Type 0} where
   abbrev pub load_hand_of : SessionOf S → ℕ → List KeyOf → LoadFarOf → LoadHandOf S
   load_hand_of session loader keys far =
@@ -88,6 +96,16 @@ module _ {S : Type 0} where
   AsksAndAdvancesLoad old new Round = (old.far ≡ handed) × IsNewLoadRound new.far
   AsksAndAdvancesLoad old new Waiting = ⊥
   AsksAndAdvancesLoad old new Over = (old.far ≡ over) × (new ≡ old)
+
+  -- says what is known after a step, by how far the load was before: of the round that was out, what its replies say and no more
+  abbrev pub StoresLoadFrom : LoadFarOf → SessionOf S → SessionOf S → Type 0
+  StoresLoadFrom handed old new = ForgetsFailed old new
+  StoresLoadFrom (out pending) old new = Stores old new (replies_in pending)
+  StoresLoadFrom over old new = KnowsTheSame old new
+
+  -- What is known after a step in which each order of the round was answered. The round, where it is made, adds nothing to it.
+  abbrev pub StoresLoadReplies : LoadHandOf S → LoadHandOf S → Type 0
+  StoresLoadReplies old new = StoresLoadFrom old.far old.session new.session
 
   -- it loads the same keys of the same loader
   pub record IsSameLoad (old new : LoadHandOf S) : Type 0 where
@@ -118,6 +136,15 @@ module _ {S : Type 0} where
     -- each order that is answered is answered as its source may answer it
     abbrev pub AreAnsweredIn : SessionOf S → List Pending → Type 0
     AreAnsweredIn session pending = All (IsAnswered (may_at may session.loaders)) pending
+
+    -- says what is known after a step where the source is asked for the orders that nobody answered
+    abbrev pub StoresLoadAskedFrom : LoadFarOf → SessionOf S → SessionOf S → Type 0
+    StoresLoadAskedFrom handed old new = ForgetsFailed old new
+    StoresLoadAskedFrom (out pending) old new = StoresRound may old new pending
+    StoresLoadAskedFrom over old new = KnowsTheSame old new
+
+    abbrev pub AsksAndStoresLoad : LoadHandOf S → LoadHandOf S → Type 0
+    AsksAndStoresLoad old new = StoresLoadAskedFrom old.far old.session new.session
 
     -- the session as it is, by how far the load is
     abbrev pub HasGoneLoad : SessionOf S → SessionOf S → ℕ → List KeyOf → LoadFarOf → Type 0

@@ -1,5 +1,5 @@
 -- Orders of a round that is out, some of which are answered.
-use Rattle.std.specs.Prelude.{◌≡◌, ◌≤◌, ◌↔◌, ℕ, All, Bool, true, false, List, map, length, slice_get, Option, Some, None, Result, IsErrOf}
+use Rattle.std.specs.Prelude.{◌≡◌, ◌≤◌, ◌↔◌, ℕ, All, Bool, true, false, List, [], ◌∷◌, map, length, slice_get, Option, Some, None, Result, IsErrOf}
 use Rattle.std.specs.List.{slice_set}
 use Rattle.std.specs.Global.{Vec}
 use Rattle.load_memory.specs.Keys.{KeyOf}
@@ -11,7 +11,7 @@ use Rattle.load_queue.specs.Fetched.{Fetched, Follow}
 use Rattle.load_queue.specs.Loaders.{LoaderOf}
 use Rattle.load_queue.specs.Orders.{OrderOf, order_of}
 use Rattle.load_queue.specs.declared.source.FetchFault.{FetchFault}
-use Rattle.execution.specs.Rounds.{AreReplies}
+use Rattle.execution.specs.Rounds.{AreReplies, IsReply}
 use Rattle.rounds_by_hand.specs.declared.fault.TakeFault.{TakeFault}
 use Rattle.rounds_by_hand.specs.declared.fault.TakeFault.TheVariants.{NoSuchOrder, Answered, NoMemory}
 use Rattle.rounds_by_hand.specs.declared.pending.Pending.{Pending}
@@ -30,6 +30,26 @@ is_in (In reply) = true
 abbrev pub is_in_at : Option Pending → Bool
 is_in_at None = false
 is_in_at (Some pending) = is_in pending
+
+-- the replies that the orders of a round have so far, in order
+abbrev pub replies_in : List Pending → List ReplyOf
+replies_in [] = []
+replies_in (Out order ∷ rest) = replies_in rest
+replies_in (In reply ∷ rest) = reply_of reply ∷ replies_in rest
+
+-- an order that was answered has the reply that it was given, as it is; one that wasn't has a reply with an answer that may be given
+abbrev pub IsReplyFor : (ℕ → List KeyOf → AnswerOf → Type 0) → Pending → ReplyOf → Type 0
+IsReplyFor may (Out order) reply = IsReply may order reply
+IsReplyFor may (In given) reply = reply ≡ reply_of given
+
+-- one such reply for each order, in order
+abbrev pub AreRepliesFor : (ℕ → List KeyOf → AnswerOf → Type 0)
+    → List Pending → List ReplyOf → Type 0
+AreRepliesFor may [] [] = Unit {0}
+AreRepliesFor may [] (reply ∷ replies) = ⊥
+AreRepliesFor may (one ∷ rest) [] = ⊥
+AreRepliesFor may (one ∷ rest) (reply ∷ replies) = IsReplyFor may one reply
+    × AreRepliesFor may rest replies
 
 -- the outcomes are those of an answer that may be given
 pub record HasAnswer (may : ℕ → List KeyOf → AnswerOf → Type 0) (reply : ReplyOf) : Type 0 where

@@ -3,6 +3,7 @@ ghost use Rattle.std.specs.Prelude.{◌≡◌, slice_get, IfOk, IfSome, OnOk, On
 
 use crate::fault::TakeFault;
 use crate::pending::{Pending, are_in, take_answer};
+use crate::seen::Seen;
 use crate::steps::{begin, finish_round};
 use execution::Execute;
 use load_memory::Item;
@@ -14,11 +15,11 @@ use std::mem;
 
 /// Says how far they are.
 #[derive(Drop)]
-pub(crate) enum Far<'p, P, E> {
-    /// Nothing is done yet.
-    Handed,
+pub(crate) enum Far<P, E> {
+    /// Nothing is done yet of these plans.
+    Handed(Vec<P>),
     /// A round is out, with its orders.
-    Out(AllRoundsByHand<'p, P, E>, Vec<Pending>),
+    Out(AllRoundsByHand<P, E>, Vec<Pending>),
     /// Nothing more can be done.
     Over,
 }
@@ -36,43 +37,46 @@ pub enum Advance {
     Over,
 }
 
-/// Answers to several plans, in rounds that they share and that the caller runs, with the session in which they are answered. While they
-/// are under way, nothing else can change the session.
+/// Answers to several plans, which it owns, in rounds that they share and that the caller runs, with the session in which they are answered.
+/// While they are under way, nothing else can change the session.
 ///
 /// It is used in turns. [`advance`](Hand::advance) returns the answers, or a new round is out: then the caller answers each of the orders
 /// ([`orders`](Hand::orders)) by its number, in any order ([`answer`](Hand::answer)), and advances again.
 ///
 /// A contract sees the session, the plans, and how far they are. `Holds` of `specs/Hands.antt` is what each call needs and keeps: the
-/// session has the loaders of each plan, as where they were begun. (In this kit no invariant of the type can say it, since it speaks of
-/// what a trait with a lifetime says.) What was done in the session since they were begun is `IsUnderway` of `specs/Hands.antt`: each call
-/// keeps it, and in the end it is the headline.
+/// session has the loaders of each plan, as where they were begun. (No invariant of the type says it, since the type asks nothing of its
+/// parameters.) What was done in the session since they were begun is `IsUnderway` of `specs/Hands.antt`: each call keeps it, and in the
+/// end it is the headline.
 #[derive(Drop)]
-pub struct Hand<'p, S, P, E> {
+pub struct Hand<S, P, E> {
     session: Session<S>,
-    plans: &'p [P],
-    far: Far<'p, P, E>,
+    // The plans that were handed in, also once they are over and the plans are gone.
+    plans: Seen<Vec<P>>,
+    far: Far<P, E>,
 }
 
-impl<'p, S, P, E> Model for Hand<'p, S, P, E> {
-    ghost use Rattle.rounds_by_hand.specs.Hands.{HandOf, far_of};
+impl<S, P, E> Model for Hand<S, P, E> {
+    ghost use Rattle.rounds_by_hand.specs.Hands.{HandOf, far_of, AreHanded};
 
     ghost Value = { HandOf S P E };
 
-    ghost view = { λ h. record { session = h.session; plans = h.plans.now; far = far_of h.far } };
+    ghost view = { λ h. record { session = h.session; plans = h.plans.value.items; far = far_of h.far } };
+
+    ghost invariant = { λ h. AreHanded h.far h.plans.value.items };
 }
 
-impl<'p, S, P, E> Hand<'p, S, P, E> {
+impl<S, P, E> Hand<S, P, E> {
     ghost use Rattle.rounds_by_hand.specs.Hands.{handed, pending_in};
 
     /// Answers to these plans in the session, of which nothing is done. It takes no memory. The session is to have the loaders of each
     /// plan, before the first call.
-    pub fn new(session: Session<S>, plans: &'p [P]) -> Hand<'p, S, P, E>
-        ensures { result ≡ record { session = session; plans = plans.now; far = handed } }
+    pub fn new(session: Session<S>, plans: Vec<P>) -> Hand<S, P, E>
+        ensures { result ≡ record { session = session; plans = plans.items; far = handed } }
     {
         Hand {
             session,
-            plans,
-            far: Far::Handed,
+            plans: Seen::of(&plans),
+            far: Far::Handed(plans),
         }
     }
 
@@ -94,8 +98,8 @@ impl<'p, S, P, E> Hand<'p, S, P, E> {
     }
 }
 
-impl<'p, S: LocalSource, P: Execute<'p, E>, E: Drop> Hand<'p, S, P, E> {
-    ghost use Rattle.rounds_by_hand.specs.Hands.{Advances, AsksAndAdvances, AnswersFrom, GoesOn, GoesOnIfMay, GivesUp, Holds, IsOver, KeepsHand, KeepsSession, pending_in};
+impl<S: LocalSource, P: Execute<E> + Drop, E: Drop> Hand<S, P, E> {
+    ghost use Rattle.rounds_by_hand.specs.Hands.{Advances, AsksAndAdvances, AsksAndStores, AnswersFrom, GoesOn, GoesOnIfMay, GivesUp, Holds, IsOver, KeepsHand, KeepsSession, OnStep, StoresReplies, pending_in};
     ghost use Rattle.rounds_by_hand.specs.Pending.{RefusesAnswer, TakesAnswer};
 
     /// Stores the round that is out, if each of its orders is answered, and goes on over what is known: returns the answers, or makes the
@@ -116,6 +120,9 @@ impl<'p, S: LocalSource, P: Execute<'p, E>, E: Drop> Hand<'p, S, P, E> {
             P.text_of S.may_tell self.old self.new }
         ensures answers { IfOk result
             (AnswersFrom P.program P.text_of S.may_tell self.old self.new) }
+        // What was given as the reply to an order is what is stored.
+        ensures stored { IfOk result (λ did. OnStep did
+            (StoresReplies self.old self.new)) }
     {
         if !are_in(self.orders()) {
             return Ok(Advance::Waiting);
@@ -141,10 +148,12 @@ impl<'p, S: LocalSource, P: Execute<'p, E>, E: Drop> Hand<'p, S, P, E> {
             P.text_of S.may_tell self.old self.new }
         ensures answers { IfOk result
             (AnswersFrom P.program P.text_of S.may_tell self.old self.new) }
+        ensures stored { OnOk result
+            (AsksAndStores S.may_tell self.old self.new) }
     {
         let (far, advance) = match mem::replace(&mut self.far, Far::Over) {
             Far::Over => (Far::Over, Advance::Over),
-            Far::Handed => begin(&mut self.session, self.plans)?,
+            Far::Handed(plans) => begin(&mut self.session, plans)?,
             Far::Out(run, pending) => finish_round(&mut self.session, run, pending)?,
         };
         self.far = far;
@@ -193,9 +202,9 @@ impl<'p, S: LocalSource, P: Execute<'p, E>, E: Drop> Hand<'p, S, P, E> {
     /// Gives the session back, whatever is done: the finished rounds stay, and a round that is out is lost. Its batches stay in the logs
     /// as not stored.
     pub fn into_session(self) -> Session<S>
-        ensures session { result ≡ self.entry.session }
+        ensures session { result ≡ self.session }
         ensures stopped { GivesUp P.program
-            P.text_of S.may_tell self.entry result }
+            P.text_of S.may_tell self result }
     {
         self.session
     }

@@ -1,24 +1,30 @@
 //! Rounds by hand: answers whose orders the caller answers itself, by number and in any order, in a session that no one else can change
 //! meanwhile.
 //!
-//! The layer above may rely on this: a [`Hand`] owns its session until it is given back. Whoever answered the orders, and in whatever
+//! The layer above may rely on this: a [`Hand`] owns its session until it is given back, and its plans. Whoever answered the orders, and in whatever
 //! order, what was done in the session since the hand was begun is `IsUnderway` of `specs/Hands.antt`, which each call keeps: rounds were
 //! made and nothing else, each order was answered as its source may answer it, and in the end the answers have the headline of
-//! `load_rounds`. An answer that no source may give is taken too, and then nothing is promised of the answers' texts. The requests of
+//! `load_rounds`. An answer that no source may give is taken too, and then nothing is promised of the answers' texts; but what was given as
+//! the reply to an order is what is stored, whoever gave it (`StoresReplies` of `specs/Hands.antt`). The requests of
 //! these calls are what the hand was made with, the loaders that the plans need, and each call keeps that.
 //!
 //! A [`LoadHand`] does the same for keys of one loader, which take at most one round: `IsLoadUnderway` of
-//! `specs/LoadHands.antt`, and in the end what was done is a call of `load_many`.
+//! `specs/LoadHands.antt`, and in the end what was done is a call of `load_many`. There too, what was given as the reply to an order is what
+//! is stored (`StoresLoadReplies` of `specs/LoadHands.antt`).
 #![tactic(auto)]
 
 pub mod fault;
 pub mod hand;
+pub mod handed_in;
 pub mod load_hand;
 mod load_steps;
 pub mod pending;
+mod seen;
 mod steps;
+mod threads;
 
 pub use fault::TakeFault;
 pub use hand::{Advance, Hand};
+pub use handed_in::HandedIn;
 pub use load_hand::{LoadAdvance, LoadHand};
 pub use pending::Pending;

@@ -104,6 +104,7 @@ impl<S> LoadHand<S> {
 
 impl<S: LocalSource> LoadHand<S> {
     ghost use Rattle.rounds_by_hand.specs.LoadHands.{AdvancesLoad, AsksAndAdvancesLoad, GivesUpLoad, IsSameLoad, LoadGoesOn, LoadGoesOnIfMay, LoadsKeys};
+    ghost use Rattle.rounds_by_hand.specs.LoadHands.{AsksAndStoresLoad, OnLoadStep, StoresLoadReplies};
     ghost use Rattle.rounds_by_hand.specs.LoadHands.{load_pending_in, over};
     ghost use Rattle.rounds_by_hand.specs.Pending.{RefusesAnswer, TakesAnswer};
 
@@ -121,6 +122,9 @@ impl<S: LocalSource> LoadHand<S> {
             S.may_tell self.old self.new }
         ensures loaded { IfOk result
             (LoadsKeys S.may_tell self.old self.new) }
+        // What was given as the reply to an order is what is stored.
+        ensures stored { IfOk result (λ did. OnLoadStep did
+            (StoresLoadReplies self.old self.new)) }
         ensures same { IsSameLoad self.old self.new }
         ensures recorded { AreOnRecord self.old.session.loaders self.new.session.loaders }
     {
@@ -144,6 +148,8 @@ impl<S: LocalSource> LoadHand<S> {
             S.may_tell self.old self.new }
         ensures loaded { IfOk result
             (LoadsKeys S.may_tell self.old self.new) }
+        ensures stored { OnOk result
+            (AsksAndStoresLoad S.may_tell self.old self.new) }
         ensures same { IsSameLoad self.old self.new }
         ensures recorded { AreOnRecord self.old.session.loaders self.new.session.loaders }
     {

@@ -1,10 +1,11 @@
 //! Steps of a load by hand: what a call does, on its parts.
-ghost use Rattle.std.specs.Prelude.{◌<◌, length, map, IfOk, OnErr};
+ghost use Rattle.std.specs.Prelude.{◌<◌, length, map, IfOk, OnOk, OnErr};
 ghost use Rattle.load_memory.specs.Keys.{key_of};
 ghost use Rattle.load_queue.specs.Loaders.{AreOnRecord};
 ghost use Rattle.load_rounds.specs.Sessions.{state_of};
 ghost use Rattle.load_rounds.specs.Histories.{IsCallOf, StoppedLoading};
 ghost use Rattle.rounds_by_hand.specs.LoadHands.{load_far_of, HasBegunLoad, IsLoadOutWith, OutLoads, OutLoadStops};
+ghost use Rattle.rounds_by_hand.specs.Stored.{ForgetsFailed, StoresRound};
 
 use crate::load_hand::{LoadAdvance, LoadFar};
 use crate::pending::{Pending, all_out, replies_to};
@@ -24,6 +25,8 @@ pub(crate) fn begin_keys<S: LocalSource>(
         loader (map key_of keys.now) (load_far_of gone.0) gone.1) }
     ensures stopped { OnErr result (IsCallOf S.may_tell
         (StoppedLoading loader (map key_of keys.now)) session.old session.new) }
+    ensures forgot { OnOk result
+        (ForgetsFailed session.old session.new) }
     ensures recorded { AreOnRecord
         session.old.loaders session.new.loaders }
 {
@@ -49,6 +52,8 @@ pub(crate) fn finish_keys<S: LocalSource>(
         (OutLoads S.may_tell session.old session.new loader (map key_of keys.now) pending.items) }
     ensures stopped { OnErr result (OutLoadStops S.may_tell session.old
         session.new loader (map key_of keys.now) pending.items) }
+    ensures stored { OnOk result (StoresRound S.may_tell
+        session.old session.new pending.items) }
     ensures recorded { AreOnRecord
         session.old.loaders session.new.loaders }
 {

@@ -4,7 +4,7 @@ ghost use Rattle.std.specs.List.{list_all};
 ghost use Rattle.load_memory.specs.Replies.{reply_of};
 ghost use Rattle.execution.specs.Rounds.{any_answer, may_at, IsReply};
 ghost use Rattle.load_rounds.specs.Histories.{any_tell};
-ghost use Rattle.rounds_by_hand.specs.Pending.{order_in, is_in, is_in_at, IsAnswered, AreRepliesTo, AreRepliesIfAnswered, TakesAnswer};
+ghost use Rattle.rounds_by_hand.specs.Pending.{order_in, is_in, is_in_at, IsAnswered, IsReplyFor, AreRepliesFor, AreRepliesTo, AreRepliesIfAnswered, TakesAnswer};
 
 use crate::fault::TakeFault;
 use load_memory::{Item, Keys, Reply};
@@ -58,6 +58,8 @@ fn reply_to<S: LocalSource>(
         → IfOk result (λ r. IsReply (may_at any_tell loaders.now) (order_in one) (reply_of r)) }
     ensures told { IsAnswered (may_at S.may_tell loaders.now) one
         → IfOk result (λ r. IsReply (may_at S.may_tell loaders.now) (order_in one) (reply_of r)) }
+    ensures as_given { IfOk result (λ r.
+        IsReplyFor (may_at S.may_tell loaders.now) one (reply_of r)) }
 {
     match one {
         Pending::Out(order) => order.run(alloc, loaders),
@@ -76,6 +78,8 @@ pub(crate) fn replies_to<S: LocalSource>(
         → IfOk result (λ rs. AreRepliesTo (may_at any_tell loaders.now) pending.items rs.items) }
     ensures told { IfOk result (λ rs.
         AreRepliesIfAnswered (may_at S.may_tell loaders.now) pending.items rs.items) }
+    ensures as_given { IfOk result (λ rs. AreRepliesFor
+        (may_at S.may_tell loaders.now) pending.items (map reply_of rs.items)) }
 {
     let alloc = *pending.allocator();
     let mut replies = Vec::with_capacity(alloc, pending.len())?;

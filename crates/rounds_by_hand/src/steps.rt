@@ -1,9 +1,10 @@
 //! Steps of a hand: what a call does, on its parts.
-ghost use Rattle.std.specs.Prelude.{◌≡◌, ◌≤◌, All, length, IfOk, OnErr};
+ghost use Rattle.std.specs.Prelude.{◌≡◌, ◌≤◌, All, length, IfOk, OnOk, OnErr};
 ghost use Rattle.load_rounds.specs.Sessions.{SessionOf, state_of, memory_of};
 ghost use Rattle.load_rounds.specs.SharedRuns.{CanGoOnAll, FitsRun, FitsLater, KeepsFitting};
 ghost use Rattle.rounds_by_hand.specs.Hands.{far_of, IsOutWith, StepsFrom, StopsFrom};
 ghost use Rattle.rounds_by_hand.specs.Hands.{RunSteps, RunStops, OutSteps, OutStops, GoesOnIfAnswered};
+ghost use Rattle.rounds_by_hand.specs.Stored.{ForgetsFailed, KnowsTheSame, StoresRound};
 
 use crate::hand::{Advance, Far};
 use crate::pending::{Pending, all_out, replies_to};
@@ -13,19 +14,21 @@ use load_rounds::{AllRoundsByHand, NextAll, Session, Stage};
 use std::alloc::AllocError;
 
 // Goes on with a run over what is known.
-fn go_on<'p, E: Drop, P: Execute<'p, E>, S: LocalSource>(
+fn go_on<E: Drop, P: Execute<E> + Drop, S: LocalSource>(
     session: &mut Session<S>,
-    run: AllRoundsByHand<'p, P, E>,
-) -> Result<(Far<'p, P, E>, Advance), AllocError>
+    run: AllRoundsByHand<P, E>,
+) -> Result<(Far<P, E>, Advance), AllocError>
     requires can { CanGoOnAll P.loaders run session.old }
     requires fits { FitsRun P.program P.text_of
         P.loaders P.fits run (memory_of session.old) }
     ensures gone { IfOk result (λ gone. RunSteps P.program P.text_of S.may_tell session.old
-        run.entry session.new P.loaders P.fits (far_of gone.0) gone.1) }
+        run session.new P.loaders P.fits (far_of gone.0) gone.1) }
     ensures stopped { OnErr result
-        (RunStops P.program P.text_of S.may_tell session.old run.entry session.new) }
+        (RunStops P.program P.text_of S.may_tell session.old run session.new) }
     ensures loaders { length session.new.loaders
         ≡ length session.old.loaders }
+    ensures same { OnOk result
+        (KnowsTheSame session.old session.new) }
 {
     let mut run = run;
     match run.next_round(session)? {
@@ -35,41 +38,45 @@ fn go_on<'p, E: Drop, P: Execute<'p, E>, S: LocalSource>(
 }
 
 /// Begins answers to these plans, and goes on with them over what is known.
-pub(crate) fn begin<'p, E: Drop, P: Execute<'p, E>, S: LocalSource>(
+pub(crate) fn begin<E: Drop, P: Execute<E> + Drop, S: LocalSource>(
     session: &mut Session<S>,
-    plans: &'p [P],
-) -> Result<(Far<'p, P, E>, Advance), AllocError>
+    plans: Vec<P>,
+) -> Result<(Far<P, E>, Advance), AllocError>
     requires enough { All (λ plan. P.loaders plan
-        ≤ length session.old.loaders) plans.now }
+        ≤ length session.old.loaders) plans.items }
     ensures gone { IfOk result (λ gone. StepsFrom P.program P.text_of S.may_tell P.loaders P.fits
-        (λ begun. session.old ≡ begun) session.new plans.now (far_of gone.0) gone.1) }
+        (λ begun. session.old ≡ begun) session.new plans.items (far_of gone.0) gone.1) }
     ensures stopped { OnErr result (StopsFrom P.program P.text_of
-        S.may_tell (λ begun. session.old ≡ begun) session.new plans.now) }
+        S.may_tell (λ begun. session.old ≡ begun) session.new plans.items) }
     ensures loaders { length session.new.loaders
         ≡ length session.old.loaders }
+    ensures forgot { OnOk result
+        (ForgetsFailed session.old session.new) }
 {
     let run = session.begin_all(plans)?;
     go_on(session, run)
 }
 
 // Stores the replies to the round that is out. The sources are asked for the orders that nobody has answered.
-fn store<'p, E: Drop, P: Execute<'p, E>, S: LocalSource>(
+fn store<E: Drop, P: Execute<E> + Drop, S: LocalSource>(
     session: &mut Session<S>,
-    run: AllRoundsByHand<'p, P, E>,
+    run: AllRoundsByHand<P, E>,
     pending: Vec<Pending>,
-) -> Result<AllRoundsByHand<'p, P, E>, AllocError>
+) -> Result<AllRoundsByHand<P, E>, AllocError>
     requires { IsOutWith P.program P.text_of
         (state_of session.old) run pending.items }
     ensures ready { IfOk result (λ later.
-        later ≡ record run.entry { stage = Stage.Ready }) }
+        later ≡ record run { stage = Stage.Ready }) }
     ensures fits { IfOk result (λ later. KeepsFitting P.program P.text_of P.loaders
-        P.fits run.entry later (memory_of session.old) (memory_of session.new)) }
+        P.fits run later (memory_of session.old) (memory_of session.new)) }
     ensures ran { IfOk result (GoesOnIfAnswered P.program P.text_of
-        S.may_tell session.old run.entry session.new pending.items) }
+        S.may_tell session.old run session.new pending.items) }
     ensures lost { OnErr result
         (state_of session.new ≡ state_of session.old) }
     ensures loaders { length session.new.loaders
         ≡ length session.old.loaders }
+    ensures stored { OnOk result (StoresRound S.may_tell
+        session.old session.new pending.items) }
 {
     let mut run = run;
     let replies = replies_to(pending, session.loaders())?;
@@ -78,11 +85,11 @@ fn store<'p, E: Drop, P: Execute<'p, E>, S: LocalSource>(
 }
 
 /// Stores the round that is out, and goes on over what is known then. The sources are asked for the orders that nobody has answered.
-pub(crate) fn finish_round<'p, E: Drop, P: Execute<'p, E>, S: LocalSource>(
+pub(crate) fn finish_round<E: Drop, P: Execute<E> + Drop, S: LocalSource>(
     session: &mut Session<S>,
-    run: AllRoundsByHand<'p, P, E>,
+    run: AllRoundsByHand<P, E>,
     pending: Vec<Pending>,
-) -> Result<(Far<'p, P, E>, Advance), AllocError>
+) -> Result<(Far<P, E>, Advance), AllocError>
     requires enough { All (λ plan. P.loaders plan
         ≤ length session.old.loaders) run.plans }
     requires out { IsOutWith P.program P.text_of
@@ -90,11 +97,13 @@ pub(crate) fn finish_round<'p, E: Drop, P: Execute<'p, E>, S: LocalSource>(
     requires fits { FitsLater P.program P.text_of
         P.loaders P.fits run (memory_of session.old) }
     ensures gone { IfOk result (λ gone. OutSteps P.program P.text_of S.may_tell session.old
-        run.entry session.new P.loaders P.fits pending.items (far_of gone.0) gone.1) }
+        run session.new P.loaders P.fits pending.items (far_of gone.0) gone.1) }
     ensures stopped { OnErr result
-        (OutStops P.program P.text_of S.may_tell session.old run.entry session.new pending.items) }
+        (OutStops P.program P.text_of S.may_tell session.old run session.new pending.items) }
     ensures loaders { length session.new.loaders
         ≡ length session.old.loaders }
+    ensures stored { OnOk result (StoresRound S.may_tell
+        session.old session.new pending.items) }
 {
     let run = store(session, run, pending)?;
     go_on(session, run)

@@ -4,10 +4,12 @@ use Rattle.load_memory.specs.Outcomes.{OutcomeOf}
 use Rattle.load_queue.specs.Orders.{OrderOf}
 use Rattle.plan_requests.specs.Servers.{ServerOf, IsServer}
 use Rattle.server.specs.Clients.{ClientOf}
-use Rattle.server_owned.specs.declared.handed_in.HandedIn.{HandedIn}
+use Rattle.rounds_by_hand.specs.declared.handed_in.HandedIn.{HandedIn}
 use Rattle.host_clients.specs.Asked.{HostAsked}
-use Rattle.host_clients.specs.Clients.{Advances, HasCount, IsBegun, IsBegunLoad, KeepsOrStops, TakesFailure, TakesReply, client_in, is_busy}
+use Rattle.host_clients.specs.Clients.{Advances, HasCount, IsBegun, IsBegunLoad, KeepsOrStops, TakesFailure, TakesReply, client_in, is_busy, width_in}
 use Rattle.host_clients.specs.Faults.{code_of}
+use Rattle.flat_rows.specs.Keyed.{LaidRows}
+use Rattle.host_clients.specs.Keyed.{KeyedRowsFault, TakesKeyed}
 use Rattle.host_clients.specs.Known.{KeepsOrForgets, OnClient, PrimesSaid, Clears}
 use Rattle.host_clients.specs.Laid.{AreKeyTexts, AreKeys, LaidKeys, LaidReply, TextsOf, items_at, key_at, keys_at, reply_at}
 use Rattle.host_clients.specs.Loads.{AreOutcomesOf, load_orders}
@@ -19,13 +21,15 @@ use Rattle.host_clients.specs.declared.client.HostClient.TheVariants.{Asked, Ans
 use Rattle.host_clients.specs.declared.client.ClientProgress.{ClientProgress}
 use Rattle.host_clients.specs.declared.fault.Fault.{Fault}
 use Rattle.host_clients.specs.declared.fault.Fault.TheVariants as fault
+use Rattle.host_clients.specs.declared.keyed.KeyedRefusal.{KeyedRefusal}
+use Rattle.host_clients.specs.declared.keyed.KeyedRefusal.TheVariants as keyed
 use Rattle.host_clients.specs.declared.object.Object.{Object}
 use Rattle.host_clients.specs.declared.object.Object.TheVariants as object
 use Rattle.host_clients.specs.declared.opening.FaultPlace.{FaultPlace}
 use Rattle.host_clients.specs.declared.opening.OpenFault.TheVariants.{NotUtf8, Refused}
 use Rattle.rudzkvano_c.specs.Codes.{code_in, progress_in}
 use Rattle.rudzkvano_c.specs.Put.{Puts}
-use Rattle.rudzkvano_c.specs.Told.{fault_told, number_of}
+use Rattle.rudzkvano_c.specs.Told.{IsRowTold, fault_told, number_of}
 use Rattle.rudzkvano_c.specs.declared.servers.SchemaFault.{SchemaFault}
 
 -- a server is held, of which this holds
@@ -99,9 +103,10 @@ BeginsWith asked old new (Ok done) = IsBegun old asked new
 BeginsWith asked old new (Err e) = (client_in new ≡ client_in old) × StaysUnderWay old new
     × BeginFault old e
 
--- it is begun to load keys, which are well formed; or it is refused for that fault, and nothing has changed
+-- it is begun to load keys, which are well formed, and as wide as the loader's keys; or it is refused for that fault, and nothing has changed
 abbrev pub BeginsLoad : LaidKeys → HostClient → HostClient → Result (Unit {0}) Fault → Type 0
-BeginsLoad keys old new (Ok done) = AreKeys keys × IsBegunLoad (keys_at keys) old new
+BeginsLoad keys old new (Ok done) = AreKeys (width_in old keys.loader) keys
+    × IsBegunLoad (keys_at keys) old new
 BeginsLoad keys old new (Err e) = (new ≡ old) × LoadFault keys old e
 
 -- says what a call to go on makes of an object
@@ -134,33 +139,50 @@ abbrev pub TakesFailed : ℕ → List ℕ → HostClient → HostClient → Resu
 TakesFailed order text old new done = OnOk done (IsUtf8 text × TakesFailure order text old new)
     × IfErr done (KeepsIfRefused order old new) × IfErr done (FailureFault order text old)
 
+abbrev pub rows_at : ℕ → ℕ → List ℕ → List ℕ → LaidRows
+rows_at columns count ends bytes =
+    record { columns = columns; count = count; ends = ends; bytes = bytes }
+
+abbrev pub KeepsByKey : ℕ → HostClient → HostClient → KeyedRefusal → Type 0
+KeepsByKey order old new refusal = (refusal ≢ keyed.Refused fault.NoMemory → new ≡ old)
+    × (refusal ≡ keyed.Refused fault.NoMemory → KeepsOrStops order old new)
+
+-- Rows in any order are taken for an order, or they are refused for that fault. For a row whose key wasn't asked for its number is told, and
+-- else nothing.
+abbrev pub TakesRowsByKey : ℕ → LaidRows → ℕ → ℕ
+    → HostClient → HostClient → Result (Unit {0}) Fault → Type 0
+TakesRowsByKey order r was told old new done = (taken : Result (Unit {0}) KeyedRefusal)
+    × IsRowTold taken was told done × OnOk taken (TakesKeyed order r old new)
+    × IfErr taken (KeepsByKey order old new) × IfErr taken (KeyedRowsFault order r old)
+
 -- ---- what a client knows
 
--- this is made of the client, or it is refused for that fault, and the client is as it was; what is under way stays as it is
+-- this is made of the client, or it is refused for that fault, and nothing has changed; but where memory ran out, an answer or outcomes may be
+-- let go, and the client is else as it was. What is under way stays as it is.
 abbrev pub Becomes : (ClientOf HandedIn → ClientOf HandedIn → Type 0) → (HostClient → Fault → Type 0)
     → HostClient → HostClient → Result (Unit {0}) Fault → Type 0
 Becomes becomes refuses old new done = OnOk done (OnClient becomes old new)
-    × OnErr done (client_in new ≡ client_in old) × IfErr done (refuses old)
-    × StaysUnderWay old new
+    × OnErr done (client_in new ≡ client_in old) × IfErr done (λ e. e ≢ fault.NoMemory → new ≡ old)
+    × IfErr done (refuses old) × StaysUnderWay old new
 
--- a refused call leaves the client as it was, but that failed batches may be forgotten where memory ran out
+-- a refused call changes nothing, but that failed batches may be forgotten, and an answer or outcomes let go, where memory ran out
 abbrev pub KeepsClient : HostClient → HostClient → Fault → Type 0
-KeepsClient old new e = (e ≢ fault.NoMemory → client_in new ≡ client_in old)
+KeepsClient old new e = (e ≢ fault.NoMemory → new ≡ old)
     × (e ≡ fault.NoMemory → KeepsOrForgets old new)
 
--- says the same of a call with the texts of a key that takes memory, and what it tells of it is written as a number
-abbrev pub Tells : TextsOf → (Bool → ClientOf HandedIn → ClientOf HandedIn → Type 0)
+-- says the same of a call with the texts of a loader's key that takes memory, and what it tells of it is written as a number
+abbrev pub Tells : ℕ → TextsOf → (Bool → ClientOf HandedIn → ClientOf HandedIn → Type 0)
     → (HostClient → Fault → Type 0) → ℕ
     → HostClient → HostClient → Result (Unit {0}) Fault → Type 0
-Tells key becomes refuses told old new done =
+Tells loader key becomes refuses told old new done =
     OnOk done (OnClient (λ c d. (b : Bool) × (told ≡ number_of b) × becomes b c d) old new)
-    × OnOk done (AreKeyTexts key) × IfErr done (KeepsClient old new) × IfErr done (refuses old)
-    × StaysUnderWay old new
+    × OnOk done (AreKeyTexts (width_in old loader) key) × IfErr done (KeepsClient old new)
+    × IfErr done (refuses old) × StaysUnderWay old new
 
 -- an item is added for a key, and whether it was added is told
 abbrev pub Primes : ℕ → TextsOf → LaidReply → ℕ
     → HostClient → HostClient → Result (Unit {0}) Fault → Type 0
-Primes loader key reply told = Tells key (PrimesSaid loader (key_at key) (items_at reply))
+Primes loader key reply told = Tells loader key (PrimesSaid loader (key_at key) (items_at reply))
     (PrimeFault loader key reply) told
 
 -- the reply of one key
@@ -170,7 +192,7 @@ one_in columns rows ends bytes = reply_at columns (rows ∷ []) ends bytes
 -- a key is forgotten, and whether something was known of it is told
 abbrev pub TellsCleared : ℕ → TextsOf → ℕ
     → HostClient → HostClient → Result (Unit {0}) Fault → Type 0
-TellsCleared loader key told = Tells key (Clears loader (key_at key)) (ClearFault loader key) told
+TellsCleared loader key told = Tells loader key (Clears loader (key_at key)) (ClearFault loader key) told
 
 -- ---- what is copied
 

@@ -2,6 +2,9 @@
 use Rattle.std.specs.Prelude.{◌≡◌, ℕ, Bool, Result, Ok, Err, if◌then◌else◌}
 use Rattle.host_clients.specs.declared.opening.FaultPlace.{FaultPlace}
 use Rattle.host_clients.specs.declared.fault.Fault.{Fault}
+use Rattle.host_clients.specs.declared.fault.Fault.TheVariants as fault
+use Rattle.host_clients.specs.declared.keyed.KeyedRefusal.{KeyedRefusal}
+use Rattle.host_clients.specs.declared.keyed.KeyedRefusal.TheVariants.{NotAsked, Refused}
 use Rattle.rudzkvano_c.specs.declared.servers.SchemaFault.{SchemaFault}
 
 abbrev pub number_of : Bool → ℕ
@@ -20,3 +23,10 @@ fault_told place = record {
   number = place.number;
   in_bindings = number_of place.in_bindings;
 }
+
+-- the number of a row that is refused is written, and nothing else
+abbrev pub IsRowTold : Result (Unit {0}) KeyedRefusal → ℕ → ℕ
+    → Result (Unit {0}) Fault → Type 0
+IsRowTold (Ok taken) old new done = (new ≡ old) × (done ≡ Ok tt)
+IsRowTold (Err (Refused e)) old new done = (new ≡ old) × (done ≡ Err e)
+IsRowTold (Err (NotAsked row)) old new done = (new ≡ row) × (done ≡ Err fault.NotAsked)

@@ -66,9 +66,9 @@ fn limit_answers(object: &mut Object, most: usize) -> Result<(), Fault>
 ///
 /// # Promise
 ///
-/// The client as these calls of `server` make it (`Becomes`); what is under way stays as it is. Refused, the client is
-/// as it was, but that failed batches may be forgotten where memory ran out in `rz_prime` or `rz_clear`
-/// (`KeepsOrForgets`), and the code says why (`specs/Refused.antt` of `host_clients`)
+/// The client as these calls of `server` make it (`Becomes`, `Tells`); what is under way stays as it is. Refused,
+/// nothing has changed; but where memory ran out, an answer or outcomes may be let go, and in `rz_prime` or `rz_clear`
+/// failed batches be forgotten (`KeepsOrForgets`). The code says why (`specs/Refused.antt` of `host_clients`)
 #[unsafe(no_mangle)]
 pub extern "C" fn rz_limit_answers(alloc: Global, client: &mut Handle, most: usize) -> i32
     ensures { Makes (Becomes (LimitsAnswers (limit_of most)) BusyFault)

@@ -38,8 +38,9 @@ fn begin_load(alloc: Global, object: &mut Object, keys: &FlatKeys<'_>) -> Result
 ///
 /// # Promise
 ///
-/// The keys that the buffers say (`keys_said`) are well formed (`AreKeys`) and are to be loaded, and nothing is done
-/// yet (`IsBegunLoad`); or, refused, nothing has changed, and the code says why (`LoadFault`)
+/// The keys that the buffers say (`keys_said`) are well formed, each as wide as its loader's keys (`AreKeys`), and are
+/// to be loaded, and nothing is done yet (`IsBegunLoad`); or, refused, nothing has changed, and the code says why
+/// (`LoadFault`)
 #[unsafe(no_mangle)]
 pub extern "C" fn rz_begin_load(
     alloc: Global,

@@ -5,17 +5,22 @@
 ghost use Rattle.std.specs.Prelude.{◌≡◌, IfOk, IfErr};
 ghost use Rattle.load_memory.specs.Cells.{cut};
 ghost use Rattle.flat_orders.specs.Orders.{orders_said};
+ghost use Rattle.flat_rows.specs.Keyed.{laid_rows};
 ghost use Rattle.host_clients.specs.Asked.{line as line_asked, parts_asked, request as request_asked};
 ghost use Rattle.host_clients.specs.Clients.{Cancels};
 ghost use Rattle.host_clients.specs.Laid.{laid_reply, reply_at};
 ghost use Rattle.host_clients.specs.Texts.{flat_parts};
 ghost use Rattle.rudzkvano_c.specs.Held.{AdvancesHeld, AdvancesObject, AreNoOrdersIn, AreOrdersIn, BeginsWith, Copies, CopiesAnswer, CopiesObject, CopiesOrders, Makes, MakesObject};
-ghost use Rattle.rudzkvano_c.specs.Held.{TakesFailed, TakesRows};
+ghost use Rattle.rudzkvano_c.specs.Held.{TakesFailed, TakesRows, TakesRowsByKey, rows_at};
+ghost use Rattle.rudzkvano_c.specs.Told.{IsRowTold};
 ghost use Rattle.rudzkvano_c.specs.Sizes.{TellsSizes, sizes_in, sizes_of};
 
 use crate::codes::{code_of, progress_code};
 use crate::handle::Handle;
-use host_clients::{ClientProgress, Fault, FlatOrders, FlatReply, FlatRequest, HostClient, Object};
+use host_clients::{
+    ClientProgress, Fault, FlatOrders, FlatReply, FlatRequest, HostClient, KeyedRefusal,
+    KeyedReply, Object,
+};
 use std::alloc::Global;
 
 /// Numbers of elements that the buffers of `rz_orders` and `rz_answer` have to hold, and of the rounds that the answer
@@ -328,6 +333,72 @@ pub extern "C" fn rz_take_rows(
         bytes,
     };
     let taken = take_rows(alloc, &mut object, order, &reply);
+    client.put(alloc, object);
+    code_of(taken)
+}
+
+// Tells the number of a row whose key wasn't asked for.
+fn tell_row(taken: Result<(), KeyedRefusal>, row: &mut u32) -> Result<(), Fault>
+    ensures { IsRowTold taken row.old row.new result }
+{
+    match taken {
+        Ok(()) => Ok(()),
+        Err(KeyedRefusal::Refused(fault)) => Err(fault),
+        Err(KeyedRefusal::NotAsked(number)) => {
+            *row = number;
+            Err(Fault::NotAsked)
+        }
+    }
+}
+
+fn take_keyed_rows(
+    alloc: Global,
+    object: &mut Object,
+    order: usize,
+    reply: &KeyedReply<'_>,
+    row: &mut u32,
+) -> Result<(), Fault>
+    ensures { MakesObject (TakesRowsByKey order (laid_rows reply.now) row.old row.new)
+        object.old object.new result }
+{
+    match object {
+        Object::Client(client) => tell_row(client.take_keyed_rows(alloc, order, reply), row),
+        Object::Server(_) => Err(Fault::BadHandle),
+    }
+}
+
+/// Takes rows for the keys of an order, in any order.
+///
+/// # Promise
+///
+/// Where it gives 0, each key of the order of that number takes the rows that have it in the columns of the order's
+/// loader, in the order given (`keyed_items`), no row has another key (`AreAsked`), and no other order changes.
+/// Refused, it is as `rz_take_rows`; for a row whose key wasn't asked for `row` has the number of the first, from 1
+/// (`TakesRowsByKey`, `KeyedRowsFault`)
+#[unsafe(no_mangle)]
+pub extern "C" fn rz_take_keyed_rows(
+    alloc: Global,
+    client: &mut Handle,
+    order: usize,
+    columns: usize,
+    rows: u32,
+    ends: &[u32],
+    bytes: &[u8],
+    row: &mut u32,
+) -> i32
+    ensures { let r = rows_at columns rows ends.now bytes.now in Makes
+        (TakesRowsByKey order r row.old row.new) client.old.held client.new.held result }
+{
+    let Some(mut object) = client.take(alloc) else {
+        return Fault::BadHandle.code();
+    };
+    let reply = KeyedReply {
+        columns,
+        rows,
+        ends,
+        bytes,
+    };
+    let taken = take_keyed_rows(alloc, &mut object, order, &reply, row);
     client.put(alloc, object);
     code_of(taken)
 }

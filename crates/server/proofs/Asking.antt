@@ -12,40 +12,36 @@ use Rattle.load_rounds.specs.Sessions.{SessionOf, state_of}
 use Rattle.load_rounds.specs.SharedRounds.{ReportOf, request_of, requests, together, joint, SharedHeadline, greatest, report_of}
 use Rattle.load_rounds.specs.declared.answer.Answer.{Answer}
 use Rattle.load_rounds.proofs.Requests.{headline-one, stops-one}
-use Rattle.request_line.specs.Requests.{RequestOf}
-use Rattle.plan_requests.specs.Planning.{PlanValues, PlansValue, PlansRequest, refusals_of, plans_of}
-use Rattle.plan_requests.specs.declared.plans.ArrayPlan.{ArrayPlan}
-use Rattle.plan_requests.specs.declared.plans.RequestPlan.{RequestPlan}
-use Rattle.plan_requests.specs.declared.plans.RequestPlan.TheVariants as request_plan
+use Rattle.request_line.specs.Requests.{RequestOf, IsRequest, AreRequests, IsNoRequest}
+use Rattle.plan_requests.specs.Planning.{PlanValues}
 use Rattle.plan_requests.specs.Servers.{ServerOf}
 use Rattle.plan_requests.proofs.Requests.{planned-valid}
 use Rattle.server.specs.Answers.{unasked, AnswersRequest, refused, planned, StopsRequest, unplanned, stopped}
 use Rattle.server.specs.Arrays as arrays
-use Rattle.server.specs.Bounded.{AreBounded, bounded_program, bounded_text}
 use Rattle.server.specs.Clients.{ClientOf}
 use Rattle.server.specs.Lines as lines
-use Rattle.server.specs.Plans.{requests_within}
-use Rattle.server.specs.Planned.{AskedOf, one, several, text, PlannedOf, refuses_one, is_refused, IsTextPlanned, no_request, request, several_requests, IsPlannedAs, PlansAsked, IsOneResponse, IsResponseOf, IsResponse, AnswersAsked, StopsAsked}
-use Rattle.server.specs.declared.bounded.BoundedPlan.{BoundedPlan}
-use Rattle.server.proofs.Bounding.{bounded-asks}
+use Rattle.server.specs.Plans.{requests_within, AreLimited, limited_program, limited_text}
+use Rattle.server.specs.Planned.{AskedOf, one, several, text, PlannedOf, refuses_one, is_refused, IsTextPlanned, no_request, request, several_requests, IsPlannedAs, PlansAll, PlansAsked, PlansFor, IsOneResponse, IsResponseOf, IsResponse, AnswersAsked, StopsAsked}
+use Rattle.gq_resolve.specs.PreparedPlans.{LimitedPlanOf}
+use Rattle.server.proofs.Limits.{limited-asks}
 use Rattle.server.proofs.Values.{array-answered, texts-report}
 
 -- of no plans there are none within a limit, and the other way round
-none-bounded : (most : Option ℕ) (bs : List BoundedPlan) → AreBounded most [] bs → bs ≡ []
-none-bounded most [] are = refl
-none-bounded most (b ∷ bs) are = absurd (cc are)
+none-limited : (most : Option ℕ) (bs : List LimitedPlanOf) → AreLimited most [] bs → bs ≡ []
+none-limited most [] are = refl
+none-limited most (b ∷ bs) are = absurd (cc are)
 
-bounded-none : (most : Option ℕ) (plans : List PlanOf) → AreBounded most plans [] → plans ≡ []
-bounded-none most [] are = refl
-bounded-none most (p ∷ ps) are = absurd (cc are)
+limited-none : (most : Option ℕ) (plans : List PlanOf) → AreLimited most plans [] → plans ≡ []
+limited-none most [] are = refl
+limited-none most (p ∷ ps) are = absurd (cc are)
 
-refused-none : (many : Bool) (bs : List BoundedPlan) → refuses_one many bs ≡ true → bs ≡ []
+refused-none : (many : Bool) (bs : List LimitedPlanOf) → refuses_one many bs ≡ true → bs ≡ []
 refused-none true bs e = absurd (cc e)
 refused-none false [] e = refl
 refused-none false (b ∷ bs) e = absurd (cc e)
 
-refused-plans : (most : Option ℕ) (many : Bool) (plans : List PlanOf) (bs : List BoundedPlan) → AreBounded most plans bs → refuses_one many bs ≡ true → plans ≡ []
-refused-plans most many plans bs are e = bounded-none most plans (subst (AreBounded most plans) (refused-none many bs e) are)
+refused-plans : (most : Option ℕ) (many : Bool) (plans : List PlanOf) (bs : List LimitedPlanOf) → AreLimited most plans bs → refuses_one many bs ≡ true → plans ≡ []
+refused-plans most many plans bs are e = limited-none most plans (subst (AreLimited most plans) (refused-none many bs e) are)
 
 -- one request, whose refusal is all that there is
 module _ (s : ServerOf) (value : Option RequestOf) where
@@ -67,10 +63,10 @@ module _ {S : Type 0} (may : S → List KeyOf → AnswerOf → Type 0) (c : Clie
   alone p (t ∷ []) report h e = subst (λ (x : ReportOf). SharedHeadline may (state_of c.session) (state_of new) (requests_within c.most (p ∷ [])) (x ∷ [])) (sym e) h
   alone p (t ∷ u ∷ us) report h e = absurd h.answers.1
 
-  one-answered : (r : RequestOf) (refusals : List (Option (List ℕ))) (plans : List PlanOf) (bs : List BoundedPlan) (reports : List ReportOf) (report : ReportOf) → PlanValues c.server (Some r ∷ []) refusals plans
-      → AreBounded c.most plans bs → refuses_one false bs ≡ false → SharedHeadline may (state_of c.session) (state_of new) (requests_within c.most plans) reports → IsResponseOf false refusals reports report → AnswersRequest may c r report new
+  one-answered : (r : RequestOf) (refusals : List (Option (List ℕ))) (plans : List PlanOf) (bs : List LimitedPlanOf) (reports : List ReportOf) (report : ReportOf) → PlanValues c.server (Some r ∷ []) refusals plans
+      → AreLimited c.most plans bs → refuses_one false bs ≡ false → SharedHeadline may (state_of c.session) (state_of new) (requests_within c.most plans) reports → IsResponseOf false refusals reports report → AnswersRequest may c r report new
   one-answered r [] plans bs reports report h are e shared is = absurd h
-  one-answered r (Some t ∷ []) [] bs reports report h are e shared is = absurd (cc (ap (refuses_one false) (sym (none-bounded c.most bs are)) ∙ e))
+  one-answered r (Some t ∷ []) [] bs reports report h are e shared is = absurd (cc (ap (refuses_one false) (sym (none-limited c.most bs are)) ∙ e))
   one-answered r (Some t ∷ []) (p ∷ ps) bs reports report h are e shared is = absurd h.1
   one-answered r (Some t ∷ x ∷ rs) plans bs reports report h are e shared is = absurd h.1
   one-answered r (None ∷ rs) [] bs reports report h are e shared is = absurd h
@@ -80,13 +76,13 @@ module _ {S : Type 0} (may : S → List KeyOf → AnswerOf → Type 0) (c : Clie
   one-answered r (None ∷ []) (p ∷ q ∷ ps) bs reports report h are e shared is = absurd h.1
   one-answered r (None ∷ x ∷ rs) (p ∷ ps) bs reports report h are e shared is = absurd h.1
 
-  several-answered : (values : List (Option RequestOf)) (refusals : List (Option (List ℕ))) (plans : List PlanOf) (answers : List Answer) (report : ReportOf) → PlanValues c.server values refusals plans
+  pub several-answered : (values : List (Option RequestOf)) (refusals : List (Option (List ℕ))) (plans : List PlanOf) (answers : List Answer) (report : ReportOf) → PlanValues c.server values refusals plans
       → SharedHeadline may (state_of c.session) (state_of new) (requests_within c.most plans) (map report_of answers) → IsResponseOf true refusals (map report_of answers) report → arrays.AnswersArray may c values report new
   several-answered values refusals plans answers report h shared is =
       array-answered may c new values refusals plans answers report h shared (is.0 ∙ ap (λ ts. arrays.array_text (arrays.in_places refusals ts)) (texts-report answers)) is.1
 
-  text-answered : (t : List ℕ) (many : Bool) (refusals : List (Option (List ℕ))) (plans : List PlanOf) (bs : List BoundedPlan) (answers : List Answer) (report : ReportOf) → IsTextPlanned c.server t many refusals plans
-      → AreBounded c.most plans bs → refuses_one many bs ≡ false → SharedHeadline may (state_of c.session) (state_of new) (requests_within c.most plans) (map report_of answers) → IsResponseOf many refusals (map report_of answers) report
+  text-answered : (t : List ℕ) (many : Bool) (refusals : List (Option (List ℕ))) (plans : List PlanOf) (bs : List LimitedPlanOf) (answers : List Answer) (report : ReportOf) → IsTextPlanned c.server t many refusals plans
+      → AreLimited c.most plans bs → refuses_one many bs ≡ false → SharedHeadline may (state_of c.session) (state_of new) (requests_within c.most plans) (map report_of answers) → IsResponseOf many refusals (map report_of answers) report
       → lines.AnswersText may c t report new
   text-answered t many refusals plans bs answers report (no_request is m h) are e shared response =
       absurd (no-plan refusals plans h (subst (λ b. refuses_one b bs ≡ false) m e))
@@ -101,7 +97,7 @@ module _ {S : Type 0} (may : S → List KeyOf → AnswerOf → Type 0) (c : Clie
 
       no-plan : (rs : List (Option (List ℕ))) (ps : List PlanOf) → PlanValues c.server (None ∷ []) rs ps → refuses_one false bs ≡ false → ⊥
       no-plan [] ps k f = k
-      no-plan (Some u ∷ []) [] k f = cc (ap (refuses_one false) (sym (none-bounded c.most bs (subst (λ qs. AreBounded c.most qs bs) (none-here refusals plans h) are))) ∙ f)
+      no-plan (Some u ∷ []) [] k f = cc (ap (refuses_one false) (sym (none-limited c.most bs (subst (λ qs. AreLimited c.most qs bs) (none-here refusals plans h) are))) ∙ f)
       no-plan (Some u ∷ []) (p ∷ ps) k f = k.1
       no-plan (Some u ∷ x ∷ rs) ps k f = k.1
       no-plan (None ∷ rs) [] k f = k
@@ -112,25 +108,25 @@ module _ {S : Type 0} (may : S → List KeyOf → AnswerOf → Type 0) (c : Clie
       lines.several is (several-answered _ refusals plans answers report h shared (subst (λ b. IsResponseOf b refusals (map report_of answers) report) m response))
 
   pub asked-answered : (asked : AskedOf) (what : PlannedOf) (answers : List Answer) (report : ReportOf) → PlansAsked c asked what → is_refused what ≡ false
-      → SharedHeadline may (state_of c.session) (state_of new) (requests bounded_program bounded_text what.plans) (map report_of answers) → IsResponse what (map report_of answers) report → AnswersAsked may c asked report new
+      → SharedHeadline may (state_of c.session) (state_of new) (requests limited_program limited_text what.plans) (map report_of answers) → IsResponse what (map report_of answers) report → AnswersAsked may c asked report new
   asked-answered (one r) what answers report h e shared response =
-      let asks = subst (λ rs. SharedHeadline may (state_of c.session) (state_of new) rs (map report_of answers)) (bounded-asks c.most h.plans what.plans h.bounded) shared in
+      let asks = subst (λ rs. SharedHeadline may (state_of c.session) (state_of new) rs (map report_of answers)) (limited-asks c.most h.plans what.plans h.limited) shared in
       let m = h.planned_as.0 in
-      one-answered r what.refusals h.plans what.plans (map report_of answers) report h.planned_as.1 h.bounded (subst (λ b. refuses_one b what.plans ≡ false) m e) asks (subst (λ b. IsResponseOf b what.refusals (map report_of answers) report) m response)
+      one-answered r what.refusals h.plans what.plans (map report_of answers) report h.planned_as.1 h.limited (subst (λ b. refuses_one b what.plans ≡ false) m e) asks (subst (λ b. IsResponseOf b what.refusals (map report_of answers) report) m response)
   asked-answered (several values) what answers report h e shared response =
-      let asks = subst (λ rs. SharedHeadline may (state_of c.session) (state_of new) rs (map report_of answers)) (bounded-asks c.most h.plans what.plans h.bounded) shared in
+      let asks = subst (λ rs. SharedHeadline may (state_of c.session) (state_of new) rs (map report_of answers)) (limited-asks c.most h.plans what.plans h.limited) shared in
       several-answered values what.refusals h.plans answers report h.planned_as.1 asks (subst (λ b. IsResponseOf b what.refusals (map report_of answers) report) h.planned_as.0 response)
   asked-answered (text t) what answers report h e shared response =
-      let asks = subst (λ rs. SharedHeadline may (state_of c.session) (state_of new) rs (map report_of answers)) (bounded-asks c.most h.plans what.plans h.bounded) shared in
-      text-answered t what.many what.refusals h.plans what.plans answers report h.planned_as h.bounded e asks response
+      let asks = subst (λ rs. SharedHeadline may (state_of c.session) (state_of new) rs (map report_of answers)) (limited-asks c.most h.plans what.plans h.limited) shared in
+      text-answered t what.many what.refusals h.plans what.plans answers report h.planned_as h.limited e asks response
 
   -- ---- stops
 
-  one-stops : (r : RequestOf) (refusals : List (Option (List ℕ))) (plans : List PlanOf) (bs : List BoundedPlan) → PlanValues c.server (Some r ∷ []) refusals plans → AreBounded c.most plans bs → (refuses_one false bs ≡ true → new ≡ c.session)
+  one-stops : (r : RequestOf) (refusals : List (Option (List ℕ))) (plans : List PlanOf) (bs : List LimitedPlanOf) → PlanValues c.server (Some r ∷ []) refusals plans → AreLimited c.most plans bs → (refuses_one false bs ≡ true → new ≡ c.session)
       → (new ≡ c.session) ⊎ StopsAnswering may (state_of c.session) (state_of new) (together (requests_within c.most plans)) → StopsRequest may c r new
   one-stops r refusals plans bs h are same (inl e) = unplanned e
   one-stops r [] plans bs h are same (inr st) = absurd h
-  one-stops r (Some t ∷ []) [] bs h are same (inr st) = unplanned (same (ap (refuses_one false) (none-bounded c.most bs are)))
+  one-stops r (Some t ∷ []) [] bs h are same (inr st) = unplanned (same (ap (refuses_one false) (none-limited c.most bs are)))
   one-stops r (Some t ∷ []) (p ∷ ps) bs h are same (inr st) = absurd h.1
   one-stops r (Some t ∷ x ∷ rs) plans bs h are same (inr st) = absurd h.1
   one-stops r (None ∷ rs) [] bs h are same (inr st) = absurd h
@@ -138,9 +134,9 @@ module _ {S : Type 0} (may : S → List KeyOf → AnswerOf → Type 0) (c : Clie
   one-stops r (None ∷ []) (p ∷ q ∷ ps) bs h are same (inr st) = absurd h.1
   one-stops r (None ∷ x ∷ rs) (p ∷ ps) bs h are same (inr st) = absurd h.1
 
-  none-stops : (refusals : List (Option (List ℕ))) (plans : List PlanOf) (bs : List BoundedPlan) → PlanValues c.server (None ∷ []) refusals plans → AreBounded c.most plans bs → (refuses_one false bs ≡ true → new ≡ c.session) → new ≡ c.session
+  none-stops : (refusals : List (Option (List ℕ))) (plans : List PlanOf) (bs : List LimitedPlanOf) → PlanValues c.server (None ∷ []) refusals plans → AreLimited c.most plans bs → (refuses_one false bs ≡ true → new ≡ c.session) → new ≡ c.session
   none-stops [] plans bs h are same = absurd h
-  none-stops (Some t ∷ []) [] bs h are same = same (ap (refuses_one false) (none-bounded c.most bs are))
+  none-stops (Some t ∷ []) [] bs h are same = same (ap (refuses_one false) (none-limited c.most bs are))
   none-stops (Some t ∷ []) (p ∷ ps) bs h are same = absurd h.1
   none-stops (Some t ∷ x ∷ rs) plans bs h are same = absurd h.1
   none-stops (None ∷ rs) [] bs h are same = absurd h
@@ -151,20 +147,20 @@ module _ {S : Type 0} (may : S → List KeyOf → AnswerOf → Type 0) (c : Clie
   several-stops values refusals plans h (inl e) = arrays.unplanned e
   several-stops values refusals plans h (inr st) = arrays.stopped refusals plans h st
 
-  text-stops : (t : List ℕ) (many : Bool) (refusals : List (Option (List ℕ))) (plans : List PlanOf) (bs : List BoundedPlan) → IsTextPlanned c.server t many refusals plans → AreBounded c.most plans bs → (refuses_one many bs ≡ true → new ≡ c.session)
+  text-stops : (t : List ℕ) (many : Bool) (refusals : List (Option (List ℕ))) (plans : List PlanOf) (bs : List LimitedPlanOf) → IsTextPlanned c.server t many refusals plans → AreLimited c.most plans bs → (refuses_one many bs ≡ true → new ≡ c.session)
       → (new ≡ c.session) ⊎ StopsAnswering may (state_of c.session) (state_of new) (together (requests_within c.most plans)) → lines.StopsText may c t new
   text-stops t many refusals plans bs (no_request is m h) are same st = lines.unread (none-stops refusals plans bs h are (subst (λ b. refuses_one b bs ≡ true → new ≡ c.session) m same))
   text-stops t many refusals plans bs (request is m h) are same st = lines.request is (one-stops _ refusals plans bs h are (subst (λ b. refuses_one b bs ≡ true → new ≡ c.session) m same) st)
   text-stops t many refusals plans bs (several_requests is m h) are same st = lines.several is (several-stops _ refusals plans h st)
 
-  pub asked-stops : (asked : AskedOf) (what : PlannedOf) → PlansAsked c asked what → (is_refused what ≡ true → new ≡ c.session) → (new ≡ c.session) ⊎ StopsAnswering may (state_of c.session) (state_of new) (joint bounded_program bounded_text what.plans)
+  pub asked-stops : (asked : AskedOf) (what : PlannedOf) → PlansAsked c asked what → (is_refused what ≡ true → new ≡ c.session) → (new ≡ c.session) ⊎ StopsAnswering may (state_of c.session) (state_of new) (joint limited_program limited_text what.plans)
       → StopsAsked may c asked new
-  asked-stops asked what h same st = go asked h.planned_as (subst (λ rs. (new ≡ c.session) ⊎ StopsAnswering may (state_of c.session) (state_of new) (together rs)) (bounded-asks c.most h.plans what.plans h.bounded) st)
+  asked-stops asked what h same st = go asked h.planned_as (subst (λ rs. (new ≡ c.session) ⊎ StopsAnswering may (state_of c.session) (state_of new) (together rs)) (limited-asks c.most h.plans what.plans h.limited) st)
     where
       go : (a : AskedOf) → IsPlannedAs c.server a what.many what.refusals h.plans → (new ≡ c.session) ⊎ StopsAnswering may (state_of c.session) (state_of new) (together (requests_within c.most h.plans)) → StopsAsked may c a new
-      go (one r) as' end = one-stops r what.refusals h.plans what.plans as'.1 h.bounded (subst (λ b. refuses_one b what.plans ≡ true → new ≡ c.session) as'.0 same) end
+      go (one r) as' end = one-stops r what.refusals h.plans what.plans as'.1 h.limited (subst (λ b. refuses_one b what.plans ≡ true → new ≡ c.session) as'.0 same) end
       go (several values) as' end = several-stops values what.refusals h.plans as'.1 end
-      go (text t) as' end = text-stops t what.many what.refusals h.plans what.plans as' h.bounded same end
+      go (text t) as' end = text-stops t what.many what.refusals h.plans what.plans as' h.limited same end
 
 -- ---- a request that is refused
 
@@ -174,7 +170,7 @@ module _ {S : Type 0} (may : S → List KeyOf → AnswerOf → Type 0) (c : Clie
       let t = one-refusal c.server (Some r) refusals plans h e in
       refused t.2.0 (subst (λ rs. IsResponseOf false rs [] report) t.1 response) refl
 
-  refused-text : (t : List ℕ) (many : Bool) (refusals : List (Option (List ℕ))) (plans : List PlanOf) (bs : List BoundedPlan) (report : ReportOf) → IsTextPlanned c.server t many refusals plans → plans ≡ [] → refuses_one many bs ≡ true
+  refused-text : (t : List ℕ) (many : Bool) (refusals : List (Option (List ℕ))) (plans : List PlanOf) (bs : List LimitedPlanOf) (report : ReportOf) → IsTextPlanned c.server t many refusals plans → plans ≡ [] → refuses_one many bs ≡ true
       → IsResponseOf many refusals [] report → lines.AnswersText may c t report c.session
   refused-text t many refusals plans bs report (no_request is m h) none e response =
       let u = one-refusal c.server None refusals plans h none in
@@ -187,26 +183,28 @@ module _ {S : Type 0} (may : S → List KeyOf → AnswerOf → Type 0) (c : Clie
 
   pub asked-refused : (asked : AskedOf) (what : PlannedOf) (report : ReportOf) → PlansAsked c asked what → is_refused what ≡ true → IsResponse what [] report → AnswersAsked may c asked report c.session
   asked-refused (one r) what report h e response =
-      refused-one r what.refusals h.plans report h.planned_as.1 (refused-plans c.most what.many h.plans what.plans h.bounded e) (subst (λ b. IsResponseOf b what.refusals [] report) h.planned_as.0 response)
+      refused-one r what.refusals h.plans report h.planned_as.1 (refused-plans c.most what.many h.plans what.plans h.limited e) (subst (λ b. IsResponseOf b what.refusals [] report) h.planned_as.0 response)
   asked-refused (several values) what report h e response = absurd (cc (ap (λ b. refuses_one b what.plans) (sym h.planned_as.0) ∙ e))
   asked-refused (text t) what report h e response =
-      refused-text t what.many what.refusals h.plans what.plans report h.planned_as (refused-plans c.most what.many h.plans what.plans h.bounded e) e response
+      refused-text t what.many what.refusals h.plans what.plans report h.planned_as (refused-plans c.most what.many h.plans what.plans h.limited e) e response
 
 -- ---- planning
 
--- a client's request is planned as the plans and refusals that stand for it
-pub asks : {S : Type 0} (c : ClientOf S) (asked : AskedOf) (many : Bool) (array : ArrayPlan) (what : PlannedOf) → what.many ≡ many → what.refusals ≡ refusals_of array → AreBounded c.most (plans_of array) what.plans
-    → IsPlannedAs c.server asked many (refusals_of array) (plans_of array) → PlansAsked c asked what
-asks c asked many array what m r are h = record {
-  plans = plans_of array;
-  bounded = are;
-  planned_as = subst (λ b. IsPlannedAs c.server asked b what.refusals (plans_of array)) (sym m) (subst (λ rs. IsPlannedAs c.server asked many rs (plans_of array)) (sym r) h);
-}
+module _ (s : ServerOf) (most : Option ℕ) (what : PlannedOf) where
+  pub asks-one : (r : RequestOf) → PlansAll s most (Some r ∷ []) false what → PlansFor s most (one r) what
+  asks-one r h = record { plans = h.each.plans; limited = h.each.limited; planned_as = (h.many_is, h.each.each) }
 
--- a request asks what the value asks that it is
-pub request-value : (s : ServerOf) (r : RequestOf) (plan : RequestPlan) → PlansRequest s r plan → PlansValue s (Some r) plan
-request-value s r (request_plan.Refused said) h = h
-request-value s r (request_plan.Planned plan) h = h
+  pub asks-several : (values : List (Option RequestOf)) → PlansAll s most values true what → PlansFor s most (several values) what
+  asks-several values h = record { plans = h.each.plans; limited = h.each.limited; planned_as = (h.many_is, h.each.each) }
+
+  pub asks-none : (t : List ℕ) → IsNoRequest t → PlansAll s most (None ∷ []) false what → PlansFor s most (text t) what
+  asks-none t is h = record { plans = h.each.plans; limited = h.each.limited; planned_as = no_request is h.many_is h.each.each }
+
+  pub asks-text : (t : List ℕ) (r : RequestOf) → IsRequest t r → PlansAll s most (Some r ∷ []) false what → PlansFor s most (text t) what
+  asks-text t r is h = record { plans = h.each.plans; limited = h.each.limited; planned_as = request is h.many_is h.each.each }
+
+  pub asks-texts : (t : List ℕ) (values : List (Option RequestOf)) → AreRequests t values → PlansAll s most values true what → PlansFor s most (text t) what
+  asks-texts t values is h = record { plans = h.each.plans; limited = h.each.limited; planned_as = several_requests is h.many_is h.each.each }
 
 -- ---- responses
 

@@ -9,18 +9,31 @@ use Rattle.std.proofs.MapsCrossing as maps
 use Rattle.gq_bindings.proofs.read.Bindings.TheSendSync as bindings_cross
 use Rattle.gq_check.specs.contracts.prepared_document.PreparedDocument as kept
 use Rattle.plan_requests.specs.contracts.server.Server as server
+use Rattle.plan_requests.proofs.Crossing as kept_documents
 use Rattle.plan_requests.specs.contracts.document_cache.DocumentCache as documents
-use Rattle.kept_plans.proofs.KeptCrossing.{kept_plan_send}
 use Rattle.server.specs.contracts.request_cache.RequestCache as request_cache
+use Rattle.server.specs.contracts.request_cache.RequestCache.TheInside as cache_inside
+use Rattle.text_cache.proofs.cache.TextCache.TheSendSync as texts
 use Rattle.gq_check.specs.contracts.checked.CheckedDocument as checked
-use Rattle.kept_plans.proofs.PlanCrossing.{fragment_send, fragment_sync, operation_send, operation_sync, plan_send, schema_send, schema_sync}
+use Rattle.gq_resolve.specs.contracts.limited_plan.LimitedPlan as limited
+use Rattle.gq_resolve.specs.contracts.root_state.RootState as state
+use Rattle.gq_resolve.proofs.Crossing.{limited_send, prepared_send, prepared_sync, state_send}
+use Rattle.gq_resolve.proofs.PlanCrossing.{fragment_send, fragment_sync, operation_send, operation_sync, plan_send, schema_send, schema_sync}
 use Rattle.plan_requests.specs.contracts.plans.RequestPlan as request_plan
 use Rattle.plan_requests.specs.contracts.plans.ArrayPlan as array_plan
 use Rattle.load_rounds.proofs.session.Session.TheSendSync as session
+use Rattle.rounds_by_hand.proofs.hand.Hand.TheSendSync as hand
 use Rattle.request_line.specs.contracts.reader.LineReader as reader
 use Rattle.serde_json.proofs.value.Value.TheLaws.TheKnot as json
+use Rattle.server.specs.contracts.by_hand.ByHand as by_hand
+use Rattle.server.specs.contracts.by_hand.ByHand.TheInside as by_hand_inside
 use Rattle.server.specs.contracts.client.ClientSession as client
 use Rattle.server.specs.contracts.client.ClientSession.TheInside as inside
+use Rattle.server.specs.contracts.planned.PlannedRequest as planned
+use Rattle.server.specs.contracts.planned.PlannedRequest.TheInside as planned_inside
+use Rattle.server.specs.contracts.planned.ResponseForm as form
+use Rattle.server.specs.contracts.queries.Queries as queries
+use Rattle.server.specs.contracts.queries.Queries.TheInside as queries_inside
 
 pub server_send : IsSend server.the_row
 server_send = search (over.crosses, sendable, schema_send, schema_sync, bindings_cross.the_send, bindings_cross.the_sync) depth 20
@@ -44,16 +57,43 @@ pub array_plan_send : IsSend array_plan.the_row
 array_plan_send = search (over.crosses, maps.crosses, sendable, plan_send) depth 20
 
 pub documents_send : IsSend documents.the_row
-documents_send = search (over.crosses, maps.crosses, sendable, server_send, kept_send) depth 40 fits 10000
+documents_send = kept_documents.documents_send server_send kept_send
+
+request_cache_inside_send : IsSend cache_inside.the_row
+request_cache_inside_send = declared_send cache_inside.the_type (documents_send, (search (over.crosses, sendable, texts.the_send, prepared_send, prepared_sync) depth 20, (search (over.crosses, sendable) depth 20, tt)))
 
 pub request_cache_send : IsSend request_cache.the_row
-request_cache_send = search (over.crosses, maps.crosses, sendable, documents_send, kept_plan_send) depth 40 fits 10000
+request_cache_send = let i = request_cache_inside_send in record { owned = λ d vs x. (i.owned x.0 vs, tt); leaving = λ k d w. tt }
 
 pub reader_send : IsSend reader.the_row
 reader_send = search (over.crosses, maps.crosses, sendable, json.send-Value) depth 40 fits 10000
 
+queries_inside_send : IsSend queries_inside.the_row
+queries_inside_send = declared_send queries_inside.the_type (reader_send, (request_cache_send, tt))
+
+pub queries_send : IsSend queries.the_row
+queries_send = let i = queries_inside_send in record { owned = λ d vs x. (i.owned x.0 vs, tt); leaving = λ k d w. tt }
+
+form_send : IsSend form.the_row
+form_send = search (over.crosses, sendable) depth 20
+
+planned_inside_send : IsSend planned_inside.the_row
+planned_inside_send = declared_send planned_inside.the_type (form_send, (search (over.crosses, sendable, limited_send) depth 20, (search sendable depth 20, tt)))
+
+pub planned_send : IsSend planned.the_row
+planned_send = let i = planned_inside_send in record { owned = λ d vs x. (i.owned x.0 vs, tt); leaving = λ k d w. tt }
+
 pub inside_send : (S : RattleType) → IsSend S → IsSend (inside.the_row S)
-inside_send S s = declared_send (inside.the_type S) (search sendable depth 20, (search request_cache_send, (search reader_send, (search (session.the_send, sendable, s) depth 20, (search sendable depth 20, tt)))))
+inside_send S s = declared_send (inside.the_type S) (search sendable depth 20, (queries_send, (search (session.the_send, sendable, s) depth 20, (search sendable depth 20, tt))))
 
 pub client_send : (S : RattleType) → IsSend S → IsSend (client.the_row S)
 client_send S s = let i = inside_send S s in record { owned = λ d vs x. (i.owned x.0 vs, tt); leaving = λ k d w. tt }
+
+module _ (S : RattleType) (s : IsSend S) where
+  by_hand_inside_send : IsSend (by_hand_inside.the_row S)
+  by_hand_inside_send =
+      declared_send (by_hand_inside.the_type S)
+      (search sendable depth 20, (queries_send, (search sendable depth 20, (form_send, (search sendable depth 20, (search sendable depth 20, (hand.the_send S limited.the_row state.the_row s limited_send state_send, tt)))))))
+
+  pub by_hand_send : IsSend (by_hand.the_row S)
+  by_hand_send = let i = by_hand_inside_send in record { owned = λ d vs x. (i.owned x.0 vs, tt); leaving = λ k d w. tt }

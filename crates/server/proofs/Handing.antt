@@ -1,5 +1,5 @@
 -- Lemmas on what a hand did, and what is made of it for the client that it is of.
-use Rattle.std.proofs.Common.{◌≡◌, ◌≤◌, ◌∙◌, ◌⊎◌, ℕ, true, false, List, [], map, length, All, Option, Some, None, Result, Ok, Err, refl, sym, ap, subst, inl, inr, arith}
+use Rattle.std.proofs.Common.{◌≡◌, ◌≤◌, ◌∙◌, ◌⊎◌, ℕ, Bool, true, false, List, [], map, length, All, Option, Some, None, Result, Ok, Err, refl, sym, ap, subst, inl, inr, arith}
 use Rattle.std.proofs.lemmas.List.Elements.{All-weaker}
 use Rattle.std.specs.Prelude.{◌↔◌, IfSome, OnOk}
 use Rattle.std.specs.Global.{Vec}
@@ -19,18 +19,19 @@ use Rattle.rounds_by_hand.specs.declared.hand.Advance.{Advance}
 use Rattle.rounds_by_hand.specs.declared.hand.Advance.TheVariants as did
 use Rattle.rounds_by_hand.specs.declared.pending.Pending.{Pending}
 use Rattle.plan_requests.specs.Servers.{ServerOf}
-use Rattle.server.specs.Bounded.{bounded_program, bounded_text, bounded_loaders}
+use Rattle.server.specs.Plans.{limited_program, limited_text, limited_loaders, limited_fits}
 use Rattle.server.specs.Clients.{ClientOf, HasLoaders, IsSameClient, client_of}
-use Rattle.server.specs.Hands.{ByHandOf, answer_in, by_hand_of, IsFinished, IsStepOf, Ends, Steps, AsksAndSteps, GivesFrom, Responds, GivesUp, GoesOn, GoesOnIfMay, HoldsByHand}
+use Rattle.server.specs.Hands.{ByHandOf, answer_in, by_hand_of, planned_of, IsFinished, IsStepOf, Ends, Steps, AsksAndSteps, GivesFrom, Responds, GivesUp, GoesOn, GoesOnIfMay, HoldsByHand, OnStep}
 use Rattle.server.specs.Planned.{AskedOf, PlannedOf, PlansAsked, AnswersAsked, IsResponse, is_refused}
-use Rattle.server.specs.declared.bounded.BoundedPlan.{BoundedPlan}
+use Rattle.gq_resolve.specs.PreparedPlans.{LimitedPlanOf}
 use Rattle.server.specs.declared.by_hand.ClientAdvance.{ClientAdvance}
+use Rattle.server.specs.declared.planned.ResponseForm.{ResponseForm}
 use Rattle.server.specs.declared.by_hand.ClientAdvance.TheVariants as step
 use Rattle.server.proofs.Asking.{asked-answered, asked-refused, asked-stops}
 
 -- a client's advance is of the kind of the hand's advance
 each-step : (planned : PlannedOf) (T : Advance → ClientAdvance → Type 0) → ((answers : Vec Answer) (answer : Answer) → IsResponse planned (map report_of answers.items) (report_of answer) → T (did.Finished answers) (step.Answered answer))
-    → T did.Round step.Round → T did.Waiting step.Waiting → T did.Over step.Over → (d : Advance) (s : ClientAdvance) → IsStepOf planned d s → T d s
+    → T did.Round step.Round → T did.Waiting step.Waiting → T did.Over step.Over → (d : Advance) (s : ClientAdvance) → IsStepOf planned.many planned.refusals d s → T d s
 each-step planned T finished round waiting over' (did.Finished answers) (step.Answered answer) is = finished answers answer is
 each-step planned T finished round waiting over' (did.Finished answers) step.Round is = absurd is
 each-step planned T finished round waiting over' (did.Finished answers) step.Waiting is = absurd is
@@ -60,86 +61,108 @@ answer-keeps old new number Refused when same e =
     let none : length (pending_in old.far) ≤ number = subst (λ far. length (pending_in far) ≤ number) (sym e) (omega arith) in
     ap (λ (h : HandOf _ _ _). h.far) (same (when.1 none)) ∙ e
 
+-- what is stored at the hand's step is stored at the client's
+pub on-step : (planned : PlannedOf) (d : Advance) (s : ClientAdvance) (fact : Type 0) → IsStepOf planned.many planned.refusals d s → hands.OnStep d fact → OnStep s fact
+on-step planned d s fact is = each-step planned (λ d s. hands.OnStep d fact → OnStep s fact) (λ answers answer is h. h) (λ h. h) (λ h. tt) (λ h. tt) d s is
+
 module _ {S : Type 0} (server : ServerOf) (most : Option ℕ) (planned : PlannedOf) where
   -- the hand with the client that it is of
-  abbrev pub held : HandOf S BoundedPlan RootState → ByHandOf S
+  abbrev pub held : HandOf S LimitedPlanOf RootState → ByHandOf S
   held hand = by_hand_of (client_of server most hand.session) planned hand.far
 
-  pub steps : (old new : HandOf S BoundedPlan RootState) (d : Advance) (s : ClientAdvance) → IsStepOf planned d s → hands.Advances old new d → Steps (held old) (held new) s
+  pub steps : (old new : HandOf S LimitedPlanOf RootState) (d : Advance) (s : ClientAdvance) → IsStepOf planned.many planned.refusals d s → hands.Advances old new d → Steps (held old) (held new) s
   steps old new = each-step planned (λ d s. hands.Advances old new d → Steps (held old) (held new) s) (λ answers answer is h. (h.0, inr h.1)) (λ h. h) (λ h. (h.0, ap held h.1)) (λ h. (h.0, ap held h.1))
 
-  pub asks-steps : (old new : HandOf S BoundedPlan RootState) (d : Advance) (s : ClientAdvance) → IsStepOf planned d s → hands.AsksAndAdvances old new d → AsksAndSteps (held old) (held new) s
+  pub asks-steps : (old new : HandOf S LimitedPlanOf RootState) (d : Advance) (s : ClientAdvance) → IsStepOf planned.many planned.refusals d s → hands.AsksAndAdvances old new d → AsksAndSteps (held old) (held new) s
   asks-steps old new = each-step planned (λ d s. hands.AsksAndAdvances old new d → AsksAndSteps (held old) (held new) s) (λ answers answer is h. (h.0, inr h.1)) (λ h. h) (λ h. h) (λ h. (h.0, ap held h.1))
 
   -- says where there are answers it is over
-  pub finished : (old new : HandOf S BoundedPlan RootState) (d : Advance) → IsFinished d → hands.Advances old new d → Ends (held old) (held new)
+  pub finished : (old new : HandOf S LimitedPlanOf RootState) (d : Advance) → IsFinished d → hands.Advances old new d → Ends (held old) (held new)
   finished old new (did.Finished answers) is h = inr h.1
   finished old new did.Round is h = absurd is
   finished old new did.Waiting is h = absurd is
   finished old new did.Over is h = absurd is
 
-  pub finished-asks : (old new : HandOf S BoundedPlan RootState) (d : Advance) → IsFinished d → hands.AsksAndAdvances old new d → Ends (held old) (held new)
+  pub finished-asks : (old new : HandOf S LimitedPlanOf RootState) (d : Advance) → IsFinished d → hands.AsksAndAdvances old new d → Ends (held old) (held new)
   finished-asks old new (did.Finished answers) is h = inr h.1
   finished-asks old new did.Round is h = absurd is
   finished-asks old new did.Waiting is h = absurd is
   finished-asks old new did.Over is h = absurd is
 
   -- a request that is refused stays as it is
-  pub refused-steps : (hand : HandOf S BoundedPlan RootState) → is_refused planned ≡ true → hand.far ≡ handed → (answer : Answer) → Steps (held hand) (held hand) (step.Answered answer)
+  pub refused-steps : (hand : HandOf S LimitedPlanOf RootState) → is_refused planned ≡ true → hand.far ≡ handed → (answer : Answer) → Steps (held hand) (held hand) (step.Answered answer)
   refused-steps hand refused far answer = (ap can_advance far, inl (refused, refl))
 
-  pub refused-asks : (hand : HandOf S BoundedPlan RootState) → is_refused planned ≡ true → hand.far ≡ handed → (answer : Answer) → AsksAndSteps (held hand) (held hand) (step.Answered answer)
+  pub refused-asks : (hand : HandOf S LimitedPlanOf RootState) → is_refused planned ≡ true → hand.far ≡ handed → (answer : Answer) → AsksAndSteps (held hand) (held hand) (step.Answered answer)
   refused-asks hand refused far answer = (λ e. absurd (cc (sym far ∙ e)), inl (refused, refl))
 
   module _ (may : S → List KeyOf → AnswerOf → Type 0) where
     -- a hand goes on for what is planned as it goes on for its own plans
-    as-planned : (begun : SessionOf S) (hand : HandOf S BoundedPlan RootState) (ps qs : List BoundedPlan) → ps ≡ qs → HasGone bounded_program bounded_text may begun hand.session ps hand.far → HasGone bounded_program bounded_text may begun hand.session qs hand.far
-    as-planned begun hand ps qs e h = subst (λ (plans : List BoundedPlan). HasGone bounded_program bounded_text may begun hand.session plans hand.far) e h
+    as-planned : (begun : SessionOf S) (hand : HandOf S LimitedPlanOf RootState) (ps qs : List LimitedPlanOf) → ps ≡ qs → HasGone limited_program limited_text may begun hand.session ps hand.far → HasGone limited_program limited_text may begun hand.session qs hand.far
+    as-planned begun hand ps qs e h = subst (λ (plans : List LimitedPlanOf). HasGone limited_program limited_text may begun hand.session plans hand.far) e h
 
-    pub goes : (old new : HandOf S BoundedPlan RootState) → old.plans ≡ planned.plans → new.plans ≡ old.plans → hands.GoesOn bounded_program bounded_text may old new → GoesOn may (held old) (held new)
+    pub goes : (old new : HandOf S LimitedPlanOf RootState) → old.plans ≡ planned.plans → new.plans ≡ old.plans → hands.GoesOn limited_program limited_text may old new → GoesOn may (held old) (held new)
     goes old new is same go = λ begun h. as-planned begun new new.plans planned.plans (same ∙ is) (go begun (as-planned begun old planned.plans old.plans (sym is) h))
 
-    pub responds : (old new : HandOf S BoundedPlan RootState) → old.plans ≡ planned.plans → new.plans ≡ old.plans → is_refused planned ≡ false → (d : Advance) (s : ClientAdvance) → IsStepOf planned d s
-        → hands.AnswersFrom bounded_program bounded_text may old new d → Responds may (held old) (held new) s
+    pub responds : (old new : HandOf S LimitedPlanOf RootState) → old.plans ≡ planned.plans → new.plans ≡ old.plans → is_refused planned ≡ false → (d : Advance) (s : ClientAdvance) → IsStepOf planned.many planned.refusals d s
+        → hands.AnswersFrom limited_program limited_text may old new d → Responds may (held old) (held new) s
     responds old new is same open' =
-        each-step planned (λ d s. hands.AnswersFrom bounded_program bounded_text may old new d → Responds may (held old) (held new) s) answered (λ _. tt) (λ _. tt) (λ _. tt)
+        each-step planned (λ d s. hands.AnswersFrom limited_program limited_text may old new d → Responds may (held old) (held new) s) answered (λ _. tt) (λ _. tt) (λ _. tt)
       where
-        answered : (answers : Vec Answer) (answer : Answer) → IsResponse planned (map report_of answers.items) (report_of answer) → hands.AnswersFrom bounded_program bounded_text may old new (did.Finished answers)
+        answered : (answers : Vec Answer) (answer : Answer) → IsResponse planned (map report_of answers.items) (report_of answer) → hands.AnswersFrom limited_program limited_text may old new (did.Finished answers)
             → Responds may (held old) (held new) (step.Answered answer)
         answered answers answer response tells c asked h p =
             let shared = tells c.session (as-planned c.session old planned.plans old.plans (sym is) h) in
-            let asked-for = subst (λ (plans : List BoundedPlan). SharedHeadline may (state_of c.session) (state_of new.session) (requests bounded_program bounded_text plans) (map report_of answers.items)) (same ∙ is) shared in
+            let asked-for = subst (λ (plans : List LimitedPlanOf). SharedHeadline may (state_of c.session) (state_of new.session) (requests limited_program limited_text plans) (map report_of answers.items)) (same ∙ is) shared in
             asked-answered may c new.session asked planned answers.items (report_of answer) p open' asked-for response
 
     -- the session of a request that is refused is as it was
-    untouched : (begun : SessionOf S) (hand : HandOf S BoundedPlan RootState) → hand.far ≡ handed → HasGone bounded_program bounded_text may begun hand.session planned.plans hand.far → hand.session ≡ begun
-    untouched begun hand e h = subst (λ (far : FarOf BoundedPlan RootState). HasGone bounded_program bounded_text may begun hand.session planned.plans far) e h
+    untouched : (begun : SessionOf S) (hand : HandOf S LimitedPlanOf RootState) → hand.far ≡ handed → HasGone limited_program limited_text may begun hand.session planned.plans hand.far → hand.session ≡ begun
+    untouched begun hand e h = subst (λ (far : FarOf LimitedPlanOf RootState). HasGone limited_program limited_text may begun hand.session planned.plans far) e h
 
-    pub refusal-responds : (hand : HandOf S BoundedPlan RootState) → is_refused planned ≡ true → hand.far ≡ handed → (answer : Answer) → IsResponse planned [] (report_of answer) → Responds may (held hand) (held hand) (step.Answered answer)
+    pub refusal-responds : (hand : HandOf S LimitedPlanOf RootState) → is_refused planned ≡ true → hand.far ≡ handed → (answer : Answer) → IsResponse planned [] (report_of answer) → Responds may (held hand) (held hand) (step.Answered answer)
     refusal-responds hand refused far answer response c asked h p =
         subst (λ (s : SessionOf S). AnswersAsked may c asked (report_of answer) s) (sym (untouched c.session hand far h)) (asked-refused may c asked planned (report_of answer) p refused response)
 
-    pub gives-up : (hand : HandOf S BoundedPlan RootState) (session : SessionOf S) → hand.plans ≡ planned.plans → (is_refused planned ≡ true → hand.far ≡ handed) → session ≡ hand.session
-        → hands.GivesUp bounded_program bounded_text may hand session → GivesUp may (held hand) (client_of server most session)
+    pub gives-up : (hand : HandOf S LimitedPlanOf RootState) (session : SessionOf S) → hand.plans ≡ planned.plans → (is_refused planned ≡ true → hand.far ≡ handed) → session ≡ hand.session
+        → hands.GivesUp limited_program limited_text may hand session → GivesUp may (held hand) (client_of server most session)
     gives-up hand session is far same up c asked h p =
         let end = up c.session (as-planned c.session hand planned.plans hand.plans (sym is) h) in
-        let ended = subst (λ (plans : List BoundedPlan). (session ≡ c.session) ⊎ StopsAnswering may (state_of c.session) (state_of session) (joint bounded_program bounded_text plans)) is end in
+        let ended = subst (λ (plans : List LimitedPlanOf). (session ≡ c.session) ⊎ StopsAnswering may (state_of c.session) (state_of session) (joint limited_program limited_text plans)) is end in
         asked-stops may c session asked planned p (λ refused. same ∙ untouched c.session hand (far refused) h) ended
 
     -- an order is answered
-    pub goes-if-may : {X E : Type 0} (r : Result X E) (at' : Option Pending) (answer : Result (Vec Item) FetchFault) (old new : HandOf S BoundedPlan RootState) → old.plans ≡ planned.plans → new.plans ≡ old.plans
-        → OnOk r (IfSome at' (hands.GoesOnIfMay bounded_program bounded_text may answer old new)) → OnOk r (IfSome at' (GoesOnIfMay may answer (held old) (held new)))
+    pub goes-if-may : {X E : Type 0} (r : Result X E) (at' : Option Pending) (answer : Result (Vec Item) FetchFault) (old new : HandOf S LimitedPlanOf RootState) → old.plans ≡ planned.plans → new.plans ≡ old.plans
+        → OnOk r (IfSome at' (hands.GoesOnIfMay limited_program limited_text may answer old new)) → OnOk r (IfSome at' (GoesOnIfMay may answer (held old) (held new)))
     goes-if-may (Ok x) (Some one) answer old new is same h = λ can. goes old new is same (h can)
     goes-if-may (Ok x) None answer old new is same h = tt
     goes-if-may (Err e) at' answer old new is same h = tt
 
 -- properties of a client that is handed in
-pub handed-in : {S : Type 0} (client : ClientOf S) (planned : PlannedOf) (hand : HandOf S BoundedPlan RootState) → HasLoaders client.server client.session → hand ≡ record { session = client.session; plans = planned.plans; far = handed }
-    → All (λ (b : BoundedPlan). bounded_loaders b ≤ planned.loaders) planned.plans → planned.loaders ≤ length client.session.loaders → HoldsByHand (client_of client.server client.most hand.session) planned hand
+pub handed-in : {S : Type 0} (client : ClientOf S) (planned : PlannedOf) (hand : HandOf S LimitedPlanOf RootState) → HasLoaders client.server client.session → hand ≡ record { session = client.session; plans = planned.plans; far = handed }
+    → All (λ (b : LimitedPlanOf). limited_loaders b ≤ planned.loaders) planned.plans → planned.loaders ≤ length client.session.loaders → HoldsByHand (client_of client.server client.most hand.session) planned (is_refused planned) hand
 handed-in {S} client planned hand has e each fits =
-    let enough = All-weaker (λ (b : BoundedPlan). bounded_loaders b ≤ planned.loaders) (λ (b : BoundedPlan). bounded_loaders b ≤ length client.session.loaders) (λ b below. omega (arith, below, fits)) planned.plans each in
-    subst (λ (h : HandOf S BoundedPlan RootState). HoldsByHand (client_of client.server client.most h.session) planned h) (sym e)
-    (record { loaders = has; plans = refl; holds = record { enough = enough; round = tt }; refused = λ _. refl })
+    let enough = All-weaker (λ (b : LimitedPlanOf). limited_loaders b ≤ planned.loaders) (λ (b : LimitedPlanOf). limited_loaders b ≤ length client.session.loaders) (λ b below. omega (arith, below, fits)) planned.plans each in
+    subst (λ (h : HandOf S LimitedPlanOf RootState). HoldsByHand (client_of client.server client.most h.session) planned (is_refused planned) h) (sym e)
+    (record { loaders = has; refuses_is = refl; holds = record { enough = enough; round = tt }; refused = λ _. refl })
+
+-- what holds between calls holds after one that keeps the hand
+pub holds-on : {S : Type 0} (server : ServerOf) (most : Option ℕ) (form : ResponseForm) (loaders : ℕ) (refuses : Bool) (old new : HandOf S LimitedPlanOf RootState)
+    → HoldsByHand (client_of server most old.session) (planned_of form loaders old.plans) refuses old → refuses ≡ false → hands.KeepsHand limited_program limited_text limited_loaders limited_fits old new
+    → HoldsByHand (client_of server most new.session) (planned_of form loaders new.plans) refuses new
+holds-on server most form loaders refuses old new was open' kept =
+    let refuses_is : refuses ≡ is_refused (planned_of form loaders new.plans) = was.refuses_is ∙ ap (λ ps. is_refused (planned_of form loaders ps)) (sym kept.plans) in
+    record {
+      loaders = subst (λ n. length server.bindings.loaders ≤ n) (sym kept.count) was.loaders;
+      refuses_is = refuses_is;
+      holds = kept.holds;
+      refused = λ e. absurd (cc (sym open' ∙ refuses_is ∙ e));
+    }
+
+-- what is so of the plans as they were is so of them as they are
+pub told : {S : Type 0} (server : ServerOf) (most : Option ℕ) (form : ResponseForm) (loaders : ℕ) (old new : HandOf S LimitedPlanOf RootState) (T : ByHandOf S → Type 0) → new.plans ≡ old.plans
+    → T (held server most (planned_of form loaders old.plans) new) → T (held server most (planned_of form loaders new.plans) new)
+told server most form loaders old new T same x = subst (λ ps. T (held server most (planned_of form loaders ps) new)) (sym same) x
 
 -- ---- as a future
 

@@ -1,5 +1,4 @@
 pub mod Asking
-pub mod Bounding
 pub mod Handing
 pub mod Crossing
 pub mod Limits

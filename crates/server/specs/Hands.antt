@@ -1,5 +1,5 @@
 -- A client that is answered by hand: what contracts see of it, and what was done in its session since.
-use Rattle.std.specs.Prelude.{◌≡◌, ◌⊎◌, true, List, map, Option, Some, None, IfOk, OnErr, Result}
+use Rattle.std.specs.Prelude.{◌≡◌, ◌⊎◌, ℕ, Bool, true, List, map, option_map, string_bytes, Option, Some, None, IfOk, OnErr, Result}
 use Rattle.std.specs.Global.{Vec}
 use Rattle.load_memory.specs.Keys.{KeyOf}
 use Rattle.load_memory.specs.declared.outcome.Item.{Item}
@@ -10,32 +10,49 @@ use Rattle.gq_resolve.specs.declared.root_state.RootState.{RootState}
 use Rattle.load_rounds.specs.Sessions.{SessionOf}
 use Rattle.load_rounds.specs.SharedRounds.{report_of}
 use Rattle.load_rounds.specs.declared.answer.Answer.{Answer}
-use Rattle.rounds_by_hand.specs.Hands.{FarOf, HandOf, handed, Holds, HasGone, IsNewRound, IsWaiting, IsOver, can_advance}
+use Rattle.rounds_by_hand.specs.Hands.{FarOf, HandOf, handed, Holds, HasGone, IsNewRound, IsWaiting, IsOver, StoresAskedFrom, StoresFrom, can_advance}
 use Rattle.rounds_by_hand.specs.Pending.{order_in, MayAnswer}
 use Rattle.rounds_by_hand.specs.declared.hand.Advance.{Advance}
 use Rattle.rounds_by_hand.specs.declared.hand.Advance.TheVariants as advance
 use Rattle.rounds_by_hand.specs.declared.pending.Pending.{Pending}
-use Rattle.server.specs.Bounded.{bounded_program, bounded_text, bounded_loaders, bounded_fits}
+use Rattle.server.specs.Plans.{limited_program, limited_text, limited_loaders, limited_fits}
 use Rattle.server.specs.Clients.{ClientOf, HasLoaders, IsSameClient}
-use Rattle.server.specs.Planned.{AskedOf, PlannedOf, PlansAsked, AnswersAsked, StopsAsked, IsResponse, is_refused}
-use Rattle.server.specs.declared.bounded.BoundedPlan.{BoundedPlan}
+use Rattle.server.specs.Planned.{AskedOf, PlannedOf, PlansAsked, AnswersAsked, StopsAsked, IsResponseOf, is_refused}
+use Rattle.gq_resolve.specs.PreparedPlans.{LimitedPlanOf}
 use Rattle.server.specs.declared.by_hand.ClientAdvance.{ClientAdvance}
+use Rattle.server.specs.declared.planned.ResponseForm.{ResponseForm}
 use Rattle.server.specs.declared.by_hand.ClientAdvance.TheVariants.{Answered, Round, Waiting, Over}
 
 -- the client as it is, what it is asked, and how far that is
 pub record ByHandOf (S : Type 0) : Type 0 where
   pub client : ClientOf S
   pub planned : PlannedOf
-  pub far : FarOf BoundedPlan RootState
+  pub far : FarOf LimitedPlanOf RootState
 
--- says what is made of what the hand did: of the answers to the plans their response, and of all else the same
-abbrev pub IsStepOf : PlannedOf → Advance → ClientAdvance → Type 0
-IsStepOf planned (advance.Finished answers) (Answered answer) =
-    IsResponse planned (map report_of answers.items) (report_of answer)
-IsStepOf planned advance.Round Round = Unit {0}
-IsStepOf planned advance.Waiting Waiting = Unit {0}
-IsStepOf planned advance.Over Over = Unit {0}
-IsStepOf planned did step = ⊥
+-- says what is made of what the hand did: of the answers to the plans a response of this form, and of all else the same
+abbrev pub IsStepOf : Bool → List (Option (List ℕ)) → Advance → ClientAdvance → Type 0
+IsStepOf many refusals (advance.Finished answers) (Answered answer) =
+    IsResponseOf many refusals (map report_of answers.items) (report_of answer)
+IsStepOf many refusals advance.Round Round = Unit {0}
+IsStepOf many refusals advance.Waiting Waiting = Unit {0}
+IsStepOf many refusals advance.Over Over = Unit {0}
+IsStepOf many refusals did step = ⊥
+
+-- the refusals of a response
+abbrev pub refusals_in : ResponseForm → List (Option (List ℕ))
+refusals_in form = map (option_map string_bytes) form.refusals.items
+
+abbrev pub MakesStep : ResponseForm → Advance → ClientAdvance → Type 0
+MakesStep form did step = IsStepOf form.is_array (refusals_in form) did step
+
+-- what is planned, by its parts
+abbrev pub planned_of : ResponseForm → ℕ → List LimitedPlanOf → PlannedOf
+planned_of form loaders plans = record {
+  many = form.is_array;
+  refusals = refusals_in form;
+  plans = plans;
+  loaders = loaders;
+}
 
 -- the answer that a step gives
 abbrev pub answer_in : ClientAdvance → Option Answer
@@ -43,6 +60,13 @@ answer_in (Answered answer) = Some answer
 answer_in Round = None
 answer_in Waiting = None
 answer_in Over = None
+
+-- of a call that gave the answer or made a round, and not of one that did nothing
+abbrev pub OnStep : ClientAdvance → Type 0 → Type 0
+OnStep (Answered answer) fact = fact
+OnStep Round fact = fact
+OnStep Waiting fact = Unit {0}
+OnStep Over fact = Unit {0}
 
 -- there are answers, of which a response is made
 abbrev pub IsFinished : Advance → Type 0
@@ -52,15 +76,15 @@ IsFinished advance.Waiting = ⊥
 IsFinished advance.Over = ⊥
 
 module _ {S : Type 0} where
-  abbrev pub by_hand_of : ClientOf S → PlannedOf → FarOf BoundedPlan RootState → ByHandOf S
+  abbrev pub by_hand_of : ClientOf S → PlannedOf → FarOf LimitedPlanOf RootState → ByHandOf S
   by_hand_of client planned far = record { client = client; planned = planned; far = far }
 
-  -- Gives what holds between calls: the client has its loaders, the hand is of its plans, and nothing is asked for a refused request.
-  pub record HoldsByHand (client : ClientOf S) (planned : PlannedOf)
-      (hand : HandOf S BoundedPlan RootState) : Type 0 where
+  -- Gives what holds between calls: the client has its loaders, and nothing is asked for a refused request.
+  pub record HoldsByHand (client : ClientOf S) (planned : PlannedOf) (refuses : Bool)
+      (hand : HandOf S LimitedPlanOf RootState) : Type 0 where
     pub loaders : HasLoaders client.server client.session
-    pub plans : hand.plans ≡ planned.plans
-    pub holds : Holds bounded_program bounded_text bounded_loaders bounded_fits
+    pub refuses_is : refuses ≡ is_refused planned
+    pub holds : Holds limited_program limited_text limited_loaders limited_fits
         hand.session hand.plans hand.far
     pub refused : is_refused planned ≡ true → hand.far ≡ handed
 
@@ -82,6 +106,15 @@ module _ {S : Type 0} where
   AsksAndSteps old new Waiting = ⊥
   AsksAndSteps old new Over = IsOver old.far × (new ≡ old)
 
+  -- it is one request that is refused, and the client stays as it is
+  abbrev pub StaysRefused : ByHandOf S → ClientOf S → Type 0
+  StaysRefused old client = (is_refused old.planned ≡ true) × (client ≡ old.client)
+
+  -- What the client knows after a step: what it knew before, with just what the replies to the round say that was out.
+  abbrev pub StoresReplies : ByHandOf S → ClientOf S → Type 0
+  StoresReplies old client = StaysRefused old client
+      ⊎ StoresFrom old.far old.client.session client.session
+
   -- a future that hasn't answered yet
   abbrev pub CanPoll : Option (ByHandOf S) → Type 0
   CanPoll None = ⊥
@@ -92,7 +125,7 @@ module _ {S : Type 0} where
     -- source may answer it.
     abbrev pub IsUnderway : SessionOf S → ByHandOf S → Type 0
     IsUnderway begun b =
-        HasGone bounded_program bounded_text may begun b.client.session b.planned.plans b.far
+        HasGone limited_program limited_text may begun b.client.session b.planned.plans b.far
 
     -- says what was so before a call is so after it, from whichever session it was begun on
     abbrev pub GoesOn : ByHandOf S → ByHandOf S → Type 0
@@ -103,6 +136,11 @@ module _ {S : Type 0} where
         → ByHandOf S → ByHandOf S → Pending → Type 0
     GoesOnIfMay answer old new one = MayAnswer may old.client.session.loaders (order_in one) answer
         → GoesOn old new
+
+    -- What it knows after a step in which the sources were asked for the orders that nobody answered.
+    abbrev pub AsksAndStores : ByHandOf S → ClientOf S → Type 0
+    AsksAndStores old client = StaysRefused old client
+        ⊎ StoresAskedFrom may old.far old.client.session client.session
 
     -- says what answers it answers what was asked of the client that it was begun on, in the client's session as it is now
     abbrev pub Responds : ByHandOf S → ByHandOf S → ClientAdvance → Type 0

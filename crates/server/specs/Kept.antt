@@ -1,25 +1,28 @@
--- Definitions of what is kept of a client's requests.
-use Rattle.std.specs.Prelude.{◌≡◌, ℕ, List, Option, Some, None, Result, IfOk, IfSome, OnErr, length}
-use Rattle.load_memory.specs.Keys.{KeyOf}
-use Rattle.std.specs.declared.alloc.AllocError.{AllocError}
-use Rattle.load_queue.specs.Answers.{AnswerOf}
-use Rattle.gq_check.specs.Plans.{PlanParts, plan_of}
-use Rattle.load_rounds.specs.Sessions.{SessionOf}
-use Rattle.load_rounds.specs.SharedRounds.{report_of}
-use Rattle.load_rounds.specs.declared.answer.Answer.{Answer}
+-- Definitions of what is kept of a client's requests, and of what requests ask, prepared.
+use Rattle.std.specs.Prelude.{◌≡◌, ◌≤◌, ℕ, List, [], ◌∷◌, ◌++◌, Option, Some, None, IfSome, length, string_bytes}
+use Rattle.std.specs.Arc.{arc_value}
+use Rattle.std.specs.declared.alloc.Global.{Global}
+use Rattle.std.specs.declared.sync.Arc.{Arc}
+use Rattle.gq_check.specs.Plans.{PlanOf, PlanParts, plan_of}
+use Rattle.gq_resolve.specs.PreparedPlans.{LimitedPlanOf, within}
 use Rattle.request_line.specs.Keys.{IsKey}
 use Rattle.request_line.specs.Requests.{RequestOf}
-use Rattle.plan_requests.specs.Planning.{IsPlanned}
+use Rattle.plan_requests.specs.Planning.{HasPlan, IsPlanned, IsRefusal, IsRefused}
 use Rattle.plan_requests.specs.Servers.{ServerOf}
-use Rattle.server.specs.Answers.{AnswersRequest, StopsRequest}
-use Rattle.kept_plans.specs.Kept.{within}
-use Rattle.server.specs.Clients.{ClientOf}
-use Rattle.server.specs.Runners.{RunsPlan}
+use Rattle.text_cache.specs.TextCaches.{TextCacheOf, AreBounded, find, texts_of}
+use Rattle.text_cache.specs.declared.cache.CacheLimits.{CacheLimits}
+use Rattle.server.specs.declared.request_cache.PreparedRequest.{PreparedRequest}
+use Rattle.server.specs.declared.request_cache.PreparedRequest.TheVariants.{Refused, Planned}
 
--- the server, and the text under which the plan of the last request is kept
+-- the server, the text under which the plan of the last request is kept, and those whose plans are kept
 pub record RequestCacheOf : Type 0 where
   pub server : ServerOf
   pub key : List ℕ
+  pub texts : List (List ℕ)
+
+-- at most so many plans are kept, whose keys have together at most so many bytes
+abbrev pub plan_limits : CacheLimits
+plan_limits = record { texts = 2048; bytes = 262144 }
 
 -- the plan is that of the request that has this key
 pub record IsPlanAt (s : ServerOf) (key : List ℕ) (plan : PlanParts) : Type 0 where
@@ -27,27 +30,46 @@ pub record IsPlanAt (s : ServerOf) (key : List ℕ) (plan : PlanParts) : Type 0 
   pub has_key : IsKey key request
   pub planned : IsPlanned s request (plan_of plan)
 
+-- a plan that many share
+abbrev pub SharedPlan : Type 0
+SharedPlan = Arc PlanParts Global
+
 -- each plan is that of the request that has its key
-abbrev pub AreKept : ServerOf → (List ℕ → Option PlanParts) → Type 0
-AreKept s plans = (key : List ℕ) → IfSome (plans key) (IsPlanAt s key)
+abbrev pub AreKept : ServerOf → (List ℕ → Option SharedPlan) → Type 0
+AreKept s plans = (key : List ℕ) → IfSome (plans key) (λ plan. IsPlanAt s key (arc_value plan))
 
-module _ {S : Type 0} (may : S → List KeyOf → AnswerOf → Type 0) where
-  -- a plan that was kept was run within a limit; where none was, nothing was done
-  abbrev pub RunsKept : Option PlanParts → Option ℕ → SessionOf S
-      → Option (Result Answer AllocError) → SessionOf S → Type 0
-  RunsKept None most old ran new = (ran ≡ None) × (new ≡ old)
-  RunsKept (Some plan) most old None new = ⊥
-  RunsKept (Some plan) most old (Some ran) new = RunsPlan may old (within plan most) ran new
+-- The plans that are kept are few, and each is that of the request that has its key.
+pub record KeepsPlans (s : ServerOf) (plans : TextCacheOf SharedPlan) : Type 0 where
+  pub each : AreKept s (find plans)
+  pub limits : plans.limits ≡ plan_limits
+  pub bounded : AreBounded plan_limits (texts_of plans)
 
-  -- A request was answered, or memory ran out at it. The session has as many loaders as before.
-  pub record Answered (c : ClientOf S) (request : RequestOf) (answer : Result Answer AllocError)
-      (new : SessionOf S) : Type 0 where
-    pub answered : IfOk answer (λ a. AnswersRequest may c request (report_of a) new)
-    pub stopped : OnErr answer (StopsRequest may c request new)
-    pub loaders : length new.loaders ≡ length c.session.loaders
+-- what was found under a key is the plan of each request that has it
+abbrev pub IsFoundFor : RequestCacheOf → Option SharedPlan → Type 0
+IsFoundFor kept found = (request : RequestOf) → IsKey kept.key request
+    → IfSome found (λ plan. IsPlanned kept.server request (plan_of (arc_value plan)))
 
-  -- the request was answered by a plan that was kept, or nothing was done
-  abbrev pub AnswersAgain : ClientOf S → RequestOf → Option (Result Answer AllocError)
-      → SessionOf S → Type 0
-  AnswersAgain c request None new = new ≡ c.session
-  AnswersAgain c request (Some answer) new = Answered c request answer new
+-- a request is refused by this text, or has this plan
+abbrev pub PreparesRequest : ServerOf → RequestOf → PreparedRequest → Type 0
+PreparesRequest s asked (Refused text) = IsRefusal s asked (string_bytes text)
+PreparesRequest s asked (Planned plan) = IsPlanned s asked (plan_of (arc_value plan))
+
+-- a value of an array is refused by this text, or has this plan
+abbrev pub PreparesValue : ServerOf → Option RequestOf → PreparedRequest → Type 0
+PreparesValue s value (Refused text) = IsRefused s value (string_bytes text)
+PreparesValue s value (Planned plan) = HasPlan s value (plan_of (arc_value plan))
+
+-- its loaders are below this number
+abbrev pub NeedsLoaders : ℕ → PreparedRequest → Type 0
+NeedsLoaders loaders (Refused text) = Unit {0}
+NeedsLoaders loaders (Planned plan) = length (plan_of (arc_value plan)).bindings.loaders ≤ loaders
+
+-- the refusal of a request, if it has no plan
+abbrev pub refusal_in : PreparedRequest → Option (List ℕ)
+refusal_in (Refused text) = Some (string_bytes text)
+refusal_in (Planned plan) = None
+
+-- its plan within a limit, if it has one
+abbrev pub plans_in : Option ℕ → PreparedRequest → List LimitedPlanOf
+plans_in most (Refused text) = []
+plans_in most (Planned plan) = within (arc_value plan) most ∷ []

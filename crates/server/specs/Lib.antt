@@ -11,6 +11,5 @@ pub mod LoadsByHand
 pub mod Asked
 pub mod Opening
 pub mod Counts
-pub mod Bounded
 pub mod Planned
 pub mod Hands

@@ -4,7 +4,7 @@ use Rattle.load_memory.specs.Keys.{KeyOf}
 use Rattle.load_memory.specs.Outcomes.{outcome_of}
 use Rattle.load_queue.specs.Answers.{AnswerOf}
 use Rattle.load_rounds.specs.Histories.{Loading, StoppedLoading}
-use Rattle.rounds_by_hand.specs.LoadHands.{LoadFarOf, LoadHandOf, IsLoadUnderway, load_hand_of}
+use Rattle.rounds_by_hand.specs.LoadHands.{LoadFarOf, LoadHandOf, IsLoadUnderway, StoresLoadAskedFrom, StoresLoadFrom, load_hand_of}
 use Rattle.rounds_by_hand.specs.declared.load_hand.LoadAdvance.{LoadAdvance}
 use Rattle.rounds_by_hand.specs.declared.load_hand.LoadAdvance.TheVariants.{Loaded, Round, Waiting, Over}
 use Rattle.server.specs.Clients.{ClientOf, IsClientCall}
@@ -25,7 +25,16 @@ module _ {S : Type 0} where
   abbrev pub load_in : LoadByHandOf S → LoadHandOf S
   load_in b = load_hand_of b.client.session b.loader b.keys b.far
 
+  -- What the client knows after a step: what it knew before, with just what the replies to the round say that was out.
+  abbrev pub ClientStores : LoadByHandOf S → ClientOf S → Type 0
+  ClientStores old client = StoresLoadFrom old.far old.client.session client.session
+
   module _ (may : S → List KeyOf → AnswerOf → Type 0) where
+    -- What it knows after a step in which the source was asked for the orders that nobody answered.
+    abbrev pub ClientAsksAndStores : LoadByHandOf S → ClientOf S → Type 0
+    ClientAsksAndStores old client =
+        StoresLoadAskedFrom may old.far old.client.session client.session
+
     -- The keys were loaded, from whichever client the load was begun in: all that was done in its session is a call that loads them.
     abbrev pub ClientLoads : LoadByHandOf S → LoadByHandOf S → LoadAdvance → Type 0
     ClientLoads old new (Loaded outcomes) =

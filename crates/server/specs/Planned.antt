@@ -1,26 +1,21 @@
 -- Plans of what is asked, and what answers them.
-use Rattle.std.specs.Prelude.{◌≡◌, ℕ, Bool, true, false, List, [], ◌∷◌, map, Option, Some, None}
+use Rattle.std.specs.Prelude.{◌≡◌, ℕ, Bool, true, false, List, [], ◌∷◌, ◌++◌, map, length, Option, Some, None}
 use Rattle.load_memory.specs.Keys.{KeyOf}
 use Rattle.load_queue.specs.Answers.{AnswerOf}
 use Rattle.gq_check.specs.Plans.{PlanOf}
 use Rattle.load_rounds.specs.Sessions.{SessionOf}
 use Rattle.load_rounds.specs.SharedRounds.{ReportOf, greatest}
 use Rattle.request_line.specs.Requests.{RequestOf, IsRequest, AreRequests, IsNoRequest}
-use Rattle.plan_requests.specs.Planning.{PlanValues, PlansValue, PlansArray}
-use Rattle.plan_requests.specs.declared.plans.ArrayPlan.{ArrayPlan}
-use Rattle.plan_requests.specs.declared.plans.RequestPlan.{RequestPlan}
+use Rattle.plan_requests.specs.Planning.{PlanValues}
 use Rattle.plan_requests.specs.Servers.{ServerOf}
 use Rattle.server.specs.Answers.{unasked, AnswersRequest, StopsRequest}
 use Rattle.server.specs.Arrays.{AnswersArray, StopsArray, array_text, in_places}
-use Rattle.server.specs.Bounded.{AreBounded}
+use Rattle.server.specs.Plans.{AreLimited}
+use Rattle.server.specs.declared.request_cache.PreparedRequest.{PreparedRequest}
 use Rattle.server.specs.Clients.{ClientOf}
+use Rattle.server.specs.Kept.{refusal_in, plans_in}
 use Rattle.server.specs.Lines.{AnswersText, StopsText}
-use Rattle.server.specs.declared.bounded.BoundedPlan.{BoundedPlan}
-
--- a value that is asked alone has this refusal or this plan
-abbrev pub PlansAlone : RequestPlan → ArrayPlan → Type 0
-PlansAlone plan array = (s : ServerOf) (value : Option RequestOf)
-    → PlansValue s value plan → PlansArray s (value ∷ []) array
+use Rattle.gq_resolve.specs.PreparedPlans.{LimitedPlanOf}
 
 -- says what is asked: a request, several, or text that may be either
 pub data AskedOf : Type 0 where
@@ -33,8 +28,30 @@ pub data AskedOf : Type 0 where
 pub record PlannedOf : Type 0 where
   pub many : Bool
   pub refusals : List (Option (List ℕ))
-  pub plans : List BoundedPlan
+  pub plans : List LimitedPlanOf
   pub loaders : ℕ
+
+-- one request more was planned: it has its refusal, or its plan within a limit
+pub record AddsRequest (most : Option ℕ) (prepared : PreparedRequest)
+    (old new : PlannedOf) : Type 0 where
+  pub many : new.many ≡ old.many
+  pub refusals : new.refusals ≡ old.refusals ++ refusal_in prepared ∷ []
+  pub plans : new.plans ≡ old.plans ++ plans_in most prepared
+  pub loaders : new.loaders ≡ old.loaders
+
+-- a server plans each of these values: it has its refusal, or its plan within a limit
+pub record PlansEach (s : ServerOf) (most : Option ℕ) (values : List (Option RequestOf))
+    (planned : PlannedOf) : Type 0 where
+  pub plans : List PlanOf
+  pub limited : AreLimited most plans planned.plans
+  pub each : PlanValues s values planned.refusals plans
+
+-- gives the same of what is asked alone, or in an array
+pub record PlansAll (s : ServerOf) (most : Option ℕ) (values : List (Option RequestOf))
+    (many : Bool) (planned : PlannedOf) : Type 0 where
+  pub each : PlansEach s most values planned
+  pub many_is : planned.many ≡ many
+  pub loaders : planned.loaders ≡ length s.bindings.loaders
 
 -- it is one request, which is refused
 abbrev pub refuses_one : {X : Type 0} → Bool → List X → Bool
@@ -64,12 +81,16 @@ IsPlannedAs s (several values) many refusals plans = (many ≡ true)
     × PlanValues s values refusals plans
 IsPlannedAs s (text asked) many refusals plans = IsTextPlanned s asked many refusals plans
 
--- A client plans what it is asked over its server, and within its limit.
-pub record PlansAsked {S : Type 0} (c : ClientOf S) (asked : AskedOf)
+-- what is asked is planned over a server, within a limit
+pub record PlansFor (s : ServerOf) (most : Option ℕ) (asked : AskedOf)
     (planned : PlannedOf) : Type 0 where
   pub plans : List PlanOf
-  pub bounded : AreBounded c.most plans planned.plans
-  pub planned_as : IsPlannedAs c.server asked planned.many planned.refusals plans
+  pub limited : AreLimited most plans planned.plans
+  pub planned_as : IsPlannedAs s asked planned.many planned.refusals plans
+
+-- a client plans what it is asked over its server, and within its limit
+abbrev pub PlansAsked : {S : Type 0} → ClientOf S → AskedOf → PlannedOf → Type 0
+PlansAsked c asked planned = PlansFor c.server c.most asked planned
 
 -- the response to one request: the answer to its plan, or its refusal
 abbrev pub IsOneResponse : List (Option (List ℕ)) → List ReportOf → ReportOf → Type 0

@@ -1,19 +1,34 @@
 -- Plans with a limit: what they ask of a session.
 use Rattle.std.specs.Prelude.{◌≡◌, ◌≤◌, ℕ, List, Option, map, length}
+use Rattle.load_memory.specs.Pairs.{MemoryOf}
+use Rattle.execution.specs.Completion.{AnsweredOf}
 use Rattle.gq_check.specs.Plans.{PlanOf, plan_of}
 use Rattle.execution.specs.Program.{Program}
 use Rattle.plan_program.specs.PlanPrograms.{plan_program}
 use Rattle.load_rounds.specs.Sessions.{SessionOf}
 use Rattle.load_rounds.specs.SharedRounds.{RequestOf, requests}
+use Rattle.gq_resolve.specs.Suspended.{FitsMemory}
 use Rattle.gq_resolve.specs.Within.{text_within}
+use Rattle.gq_resolve.specs.declared.root_state.RootState.{RootState}
 use Rattle.gq_resolve.specs.PreparedPlans.{LimitedPlanOf as LimitedPlan}
 
 abbrev pub limited_program : LimitedPlan → Program
 limited_program l = plan_program (plan_of l.plan)
 
+abbrev pub limited_text : LimitedPlan → AnsweredOf → List ℕ
+limited_text l = text_within l.most
+
+-- its loaders are below this number
+abbrev pub limited_loaders : LimitedPlan → ℕ
+limited_loaders l = length (plan_of l.plan).bindings.loaders
+
+-- an execution of it holds nothing as done that isn't so over the memory
+abbrev pub limited_fits : LimitedPlan → RootState → MemoryOf → Type 0
+limited_fits l state m = FitsMemory (plan_of l.plan) state m
+
 -- gives what plans ask, each within its limit
 abbrev pub limited_requests : List LimitedPlan → List RequestOf
-limited_requests plans = requests limited_program (λ l. text_within l.most) plans
+limited_requests plans = requests limited_program limited_text plans
 
 -- gives what plans ask, all within one limit
 abbrev pub requests_within : Option ℕ → List PlanOf → List RequestOf

@@ -42,11 +42,11 @@ module _ {S : Type 0} (may : S → List KeyOf → AnswerOf → Type 0) where
         → post session limited result later → RunsPlan session.now limited.now result later.now
 
   -- gives the same of several plans
-  pub record RunsAll (pre : MutBor (SessionOf S) → Bor (List LimitedPlan) → Type 0)
-      (post : MutBor (SessionOf S) → Bor (List LimitedPlan) → Result (Vec Answer) AllocError
+  pub record RunsAll (pre : MutBor (SessionOf S) → Vec LimitedPlan → Type 0)
+      (post : MutBor (SessionOf S) → Vec LimitedPlan → Result (Vec Answer) AllocError
       → MutBor (SessionOf S) → Type 0) : Type 0 where
-    pub can : (session : MutBor (SessionOf S)) (plans : Bor (List LimitedPlan))
-        → All (HasLoadersFor session.now) plans.now → pre session plans
-    pub runs : (session : MutBor (SessionOf S)) (plans : Bor (List LimitedPlan))
+    pub can : (session : MutBor (SessionOf S)) (plans : Vec LimitedPlan)
+        → All (HasLoadersFor session.now) plans.items → pre session plans
+    pub runs : (session : MutBor (SessionOf S)) (plans : Vec LimitedPlan)
         (result : Result (Vec Answer) AllocError) (later : MutBor (SessionOf S))
-        → post session plans result later → RunsPlans session.now plans.now result later.now
+        → post session plans result later → RunsPlans session.now plans.items result later.now

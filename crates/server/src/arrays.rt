@@ -1,41 +1,19 @@
 //! Answers to arrays of requests, whose plans are answered together in one session.
-//!
-//! All documents are kept before any value is planned, so that the values are planned over the same documents.
-//! A query's fault isn't remembered in between, so a query that is refused is read twice, and so is
-//! one that others of the array drop for want of room.
 
 ghost use Rattle.std.specs.Prelude.{◌≡◌, length, map, IfOk, OnErr, string_bytes};
 ghost use Rattle.load_rounds.specs.SharedRounds.{greatest, report_of};
 ghost use Rattle.request_line.specs.Seen.{requests_of};
-ghost use Rattle.gq_check.specs.Plans.{plan_of};
 ghost use Rattle.server.specs.Arrays.{AnswersArray, StopsArray, array_text, texts_of};
 ghost use Rattle.server.specs.Clients.{HasLoaders, client_of};
-ghost use Rattle.server.specs.Plans.{AreLimited};
 ghost use Rattle.server.specs.Runners.{RunsAll};
 
+use crate::planned::{PlannedRequest, plan_several};
 use crate::request_cache::RequestCache;
-use gq_check::Plan;
 use gq_resolve::LimitedPlan;
 use load_queue::LocalSource;
 use load_rounds::{Answer, Session};
 use plan_requests::Request;
 use std::alloc::{AllocError, Global};
-
-// The plans in order, each with this limit.
-fn limit_plans<'p>(
-    alloc: Global,
-    plans: &'p [Plan],
-    most: Option<usize>,
-) -> Result<Vec<LimitedPlan<'p, 'p>>, AllocError>
-    ensures { IfOk result (λ limited. AreLimited most
-        (map plan_of plans.entry.now) limited.items) }
-{
-    let mut limited = Vec::with_capacity(alloc, plans.len())?;
-    for plan in plans {
-        limited.push(LimitedPlan::new(plan, most))?;
-    }
-    Ok(limited)
-}
 
 // The text of each value: its refusal, or the next of these answers.
 fn texts<'t>(
@@ -94,7 +72,7 @@ fn most_rounds(answers: &[Answer]) -> u32
 /// All plans are answered in the session, within a limit each.
 pub(crate) fn answer_requests<
     S: LocalSource,
-    G: Fn(&mut Session<S>, &[LimitedPlan<'_, '_>]) -> Result<Vec<Answer>, AllocError>,
+    G: Fn(&mut Session<S>, Vec<LimitedPlan>) -> Result<Vec<Answer>, AllocError>,
 >(
     alloc: Global,
     run: &G,
@@ -115,9 +93,8 @@ pub(crate) fn answer_requests<
     ensures loaders { length session.new.loaders
         ≡ length session.old.loaders }
 {
-    kept.cache_each(alloc, values);
-    let array = kept.plan_each(alloc, values)?;
-    let plans = limit_plans(alloc, array.plans(), most)?;
-    let answers = run(session, &plans)?;
-    Ok(array_answer(alloc, array.refusals(), &answers)?)
+    let planned = plan_several(alloc, kept, values, most)?;
+    let PlannedRequest { form, plans, .. } = planned;
+    let answers = run(session, plans)?;
+    form.response(alloc, answers)
 }

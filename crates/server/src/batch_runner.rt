@@ -58,7 +58,7 @@ impl<'r, R: Threads + Wait + Sync> Workers<'r, R> {
     pub(crate) fn answer<S: Source>(
         &self,
         session: &mut Session<S>,
-        limited: &LimitedPlan<'_, '_>,
+        limited: &LimitedPlan,
     ) -> Result<Answer, AllocError>
         requires { HasLoadersFor session.old limited.now }
         ensures { RunsPlan S.may_answer session.old
@@ -75,12 +75,12 @@ impl<'r, R: Threads + Wait + Sync> Workers<'r, R> {
     pub(crate) fn answer_all<S: Source>(
         &self,
         session: &mut Session<S>,
-        plans: &[LimitedPlan<'_, '_>],
+        plans: Vec<LimitedPlan>,
     ) -> Result<Vec<Answer>, AllocError>
         requires { All (HasLoadersFor session.old)
-            plans.now }
+            plans.items }
         ensures { RunsPlans S.may_answer session.old
-            plans.now result session.new }
+            plans.items result session.new }
     {
         match answer_all_with(self.rt, session, plans, self.count) {
             Ok(answers) => Ok(answers),

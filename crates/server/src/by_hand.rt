@@ -4,17 +4,15 @@ ghost use Rattle.std.specs.Prelude.{◌≡◌, ◌≤◌, length, slice_get, IfO
 ghost use Rattle.rounds_by_hand.specs.Hands.{handed, IsOver, pending_in};
 ghost use Rattle.rounds_by_hand.specs.Pending.{RefusesAnswer, TakesAnswer};
 ghost use Rattle.server.specs.Clients.{IsSameClient};
-ghost use Rattle.server.specs.Hands.{IsFinished, IsStepOf};
+ghost use Rattle.server.specs.Hands.{IsFinished, MakesStep};
 
-use crate::bounded::BoundedPlan;
 use crate::client::ClientSession;
-use crate::planned::PlannedRequest;
-use crate::request_cache::RequestCache;
-use gq_resolve::RootState;
+use crate::planned::{PlannedRequest, ResponseForm};
+use crate::queries::Queries;
+use gq_resolve::{LimitedPlan, RootState};
 use load_memory::Item;
 use load_queue::{FetchFault, LocalSource};
 use load_rounds::Answer;
-use request_line::LineReader;
 use rounds_by_hand::{Advance, Hand, Pending, TakeFault};
 use std::alloc::{AllocError, Global};
 use std::marker::Model;
@@ -56,17 +54,19 @@ impl ClientAdvance {
 ///
 /// A contract sees the client, what is planned, and how far that is. What was done since it was begun is `IsUnderway` of
 /// `specs/Hands.antt`: each call keeps it, and in the end it says of the answer what [`ClientSession::answer`] says.
-#[derive(Drop)]
-pub struct ByHand<'p, S> {
+pub struct ByHand<S> {
     alloc: Global,
-    kept: RequestCache,
-    lines: LineReader,
+    queries: Queries,
     max_answer: Option<usize>,
-    planned: &'p PlannedRequest,
-    hand: Hand<'p, S, BoundedPlan, RootState<'p>>,
+    form: ResponseForm,
+    // Whether it is one request, which is refused: nothing is asked then.
+    is_refused: bool,
+    // Least number of loaders of a session.
+    loaders: usize,
+    hand: Hand<S, LimitedPlan, RootState>,
 }
 
-impl<'p, S> Model for ByHand<'p, S> {
+impl<S> Model for ByHand<S> {
     ghost use Rattle.std.specs.Coded.{codes};
     ghost use Rattle.gq_parser.specs.contracts.tree.TypeRef as type_ref;
     ghost use Rattle.gq_parser.specs.contracts.tree.Literal as literal;
@@ -76,17 +76,31 @@ impl<'p, S> Model for ByHand<'p, S> {
     ghost use Rattle.gq_parser.specs.contracts.tree.SelectionSet as set;
     ghost use Rattle.gq_schema.specs.contracts.input.Input as input;
     ghost use Rattle.server.specs.Clients.{client_of};
-    ghost use Rattle.server.specs.Hands.{ByHandOf, HoldsByHand, by_hand_of};
+    ghost use Rattle.server.specs.Hands.{ByHandOf, HoldsByHand, by_hand_of, planned_of};
 
     ghost Value = { ByHandOf S };
 
     ghost coded = { Prim.hlevel (codes, type_ref.the_row.coded, literal.the_row.coded, argument.the_row.coded, field.the_row.coded, inline.the_row.coded, set.the_row.coded, input.the_row.coded, S.code) };
 
-    ghost view = { λ b. by_hand_of
-        (client_of b.kept.server b.max_answer b.hand.session) b.planned.now b.hand.far };
+    ghost view = { λ b. by_hand_of (client_of b.queries b.max_answer b.hand.session)
+        (planned_of b.form b.loaders b.hand.plans) b.hand.far };
 
-    ghost invariant = { λ b. HoldsByHand
-        (client_of b.kept.server b.max_answer b.hand.session) b.planned.now b.hand };
+    ghost invariant = { λ b. HoldsByHand (client_of b.queries b.max_answer b.hand.session)
+        (planned_of b.form b.loaders b.hand.plans) b.is_refused b.hand };
+}
+
+impl<S: Drop> Drop for ByHand<S> {
+    fn drop(self) {
+        let ByHand {
+            alloc: _,
+            queries: _queries,
+            max_answer: _,
+            form: _form,
+            is_refused: _,
+            loaders: _,
+            hand: _hand,
+        } = self;
+    }
 }
 
 impl<S> ClientSession<S> {
@@ -104,26 +118,32 @@ impl<S> ClientSession<S> {
     /// `answer` if the answer is one that the order's source may give. `same` and `client`: the server and the
     /// limit stay. `plan`, `plan_all` and `plan_text` plan what is asked, within the client's limit (`planned`, by
     /// `PlansAsked`). Given up at any time: `stopped` of `ByHand::into_client`
-    pub fn by_hand<'p>(self, planned: &'p PlannedRequest) -> ByHand<'p, S>
-        requires { planned.now.loaders
+    pub fn by_hand(self, planned: PlannedRequest) -> ByHand<S>
+        requires { planned.loaders
             ≤ length self.session.loaders }
         ensures { result ≡ by_hand_of
-            self planned.now handed }
+            self planned handed }
     {
         let ClientSession {
             alloc,
-            kept,
-            lines,
+            queries,
             session,
             max_answer,
         } = self;
+        let is_refused = planned.is_refused();
+        let PlannedRequest {
+            form,
+            plans,
+            loaders,
+        } = planned;
         ByHand {
             alloc,
-            kept,
-            lines,
+            queries,
             max_answer,
-            planned,
-            hand: Hand::new(session, &planned.plans),
+            form,
+            is_refused,
+            loaders,
+            hand: Hand::new(session, plans),
         }
     }
 }
@@ -131,25 +151,23 @@ impl<S> ClientSession<S> {
 // Returns what is made of what the hand did.
 fn step_of(
     alloc: Global,
-    planned: &PlannedRequest,
+    form: &ResponseForm,
     advance: Advance,
 ) -> Result<ClientAdvance, AllocError>
     ensures made { IfOk result
-        (IsStepOf planned.now advance) }
+        (MakesStep form.now advance) }
     // Only a response takes memory.
     ensures finished { OnErr result (IsFinished advance) }
 {
     match advance {
-        Advance::Finished(answers) => Ok(ClientAdvance::Answered(planned.response(
-            alloc, answers,
-        )?)),
+        Advance::Finished(answers) => Ok(ClientAdvance::Answered(form.response(alloc, answers)?)),
         Advance::Round => Ok(ClientAdvance::Round),
         Advance::Waiting => Ok(ClientAdvance::Waiting),
         Advance::Over => Ok(ClientAdvance::Over),
     }
 }
 
-impl<'p, S> ByHand<'p, S> {
+impl<S> ByHand<S> {
     /// The orders of the round that is out, each with its reply once it is answered. There are none where no round is out.
     pub fn orders(&self) -> &[Pending]
         ensures { result.now ≡ pending_in self.now.far }
@@ -158,8 +176,8 @@ impl<'p, S> ByHand<'p, S> {
     }
 }
 
-impl<'p, S: LocalSource> ByHand<'p, S> {
-    ghost use Rattle.server.specs.Hands.{AsksAndSteps, Ends, GivesUp, GoesOn, GoesOnIfMay, Responds, Steps};
+impl<S: LocalSource> ByHand<S> {
+    ghost use Rattle.server.specs.Hands.{AsksAndSteps, AsksAndStores, Ends, GivesUp, GoesOn, GoesOnIfMay, OnStep, Responds, Steps, StoresReplies};
 
     /// Stores the round that is out, if each of its orders is answered, and goes on over what is known then: returns the answer, or makes
     /// the next round. The first call begins. A request that is refused is answered by each call, and no round is made.
@@ -175,6 +193,9 @@ impl<'p, S: LocalSource> ByHand<'p, S> {
     pub fn advance(&mut self) -> Result<ClientAdvance, AllocError>
         ensures stepped { IfOk result
             (Steps self.old self.new) }
+        // What was given as the reply to an order is what is stored.
+        ensures stored { IfOk result (λ step. OnStep step
+            (StoresReplies self.old self.new.client)) }
         ensures ended { OnErr result
             (Ends self.old self.new) }
         ensures underway { GoesOn S.may_tell
@@ -186,13 +207,13 @@ impl<'p, S: LocalSource> ByHand<'p, S> {
         ensures planned { self.new.planned
             ≡ self.old.planned }
     {
-        if self.planned.is_refused() {
+        if self.is_refused {
             return Ok(ClientAdvance::Answered(
-                self.planned.response(self.alloc, Vec::new(self.alloc))?,
+                self.form.response(self.alloc, Vec::new(self.alloc))?,
             ));
         }
         let advance = self.hand.advance()?;
-        Ok(step_of(self.alloc, self.planned, advance)?)
+        Ok(step_of(self.alloc, &self.form, advance)?)
     }
 
     /// Does what [`advance`](ByHand::advance) does, but asks the sources of the session for the orders that nobody has answered. So it
@@ -208,6 +229,8 @@ impl<'p, S: LocalSource> ByHand<'p, S> {
     pub fn ask_and_advance(&mut self) -> Result<ClientAdvance, AllocError>
         ensures stepped { IfOk result
             (AsksAndSteps self.old self.new) }
+        ensures stored { OnOk result
+            (AsksAndStores S.may_tell self.old self.new.client) }
         ensures ended { OnErr result
             (Ends self.old self.new) }
         ensures underway { GoesOn S.may_tell
@@ -219,13 +242,13 @@ impl<'p, S: LocalSource> ByHand<'p, S> {
         ensures planned { self.new.planned
             ≡ self.old.planned }
     {
-        if self.planned.is_refused() {
+        if self.is_refused {
             return Ok(ClientAdvance::Answered(
-                self.planned.response(self.alloc, Vec::new(self.alloc))?,
+                self.form.response(self.alloc, Vec::new(self.alloc))?,
             ));
         }
         let advance = self.hand.ask_and_advance()?;
-        Ok(step_of(self.alloc, self.planned, advance)?)
+        Ok(step_of(self.alloc, &self.form, advance)?)
     }
 
     /// Answers the order of this number in the round that is out, with items that came from elsewhere, or with a fault of the whole batch.
@@ -263,22 +286,22 @@ impl<'p, S: LocalSource> ByHand<'p, S> {
     /// Gives the client back, whatever is done. The finished rounds stay in its session; a round that is out is lost, and its batches stay
     /// in the logs as not stored.
     pub fn into_client(self) -> ClientSession<S>
-        ensures client { result ≡ self.entry.client }
+        ensures client { result ≡ self.client }
         ensures stopped { GivesUp S.may_tell
-            self.entry result }
+            self result }
     {
         let ByHand {
             alloc,
-            kept,
-            lines,
+            queries,
             max_answer,
+            form: _form,
+            is_refused: _,
+            loaders: _,
             hand,
-            ..
         } = self;
         ClientSession {
             alloc,
-            kept,
-            lines,
+            queries,
             session: hand.into_session(),
             max_answer,
         }

@@ -16,23 +16,20 @@ ghost use Rattle.server.specs.Runners.{RunsPlan, RunsPlans, RunsEach, RunsAll};
 use crate::answering::{LimitedRequest, answer_request};
 use crate::arrays::answer_requests;
 use crate::batch_runner::{BatchRunner, Workers};
-use crate::counting::line_read;
-use crate::planned::{PlannedRequest, plan_none, plan_one, plan_several};
-use crate::request_cache::RequestCache;
+use crate::planned::PlannedRequest;
+use crate::queries::Queries;
 use gq_resolve::LimitedPlan;
 use load_queue::{LocalSource, Source};
 use load_rounds::{Answer, Session};
 use plan_requests::{Request, Server, not_a_request};
-use request_line::{Line, LineReader};
+use request_line::Line;
 use std::alloc::{AllocError, Global};
 use std::marker::Model;
 use std::sync::Wait;
 use std::thread::Threads;
 
-/// Holds what a server keeps for one client: a loader for each `loader` line, one memory of what they returned, and documents of the
-/// client's queries, so that a request that comes again is neither parsed nor checked again (at most 1,024 texts of 262,144 bytes together).
-/// The code keeps plans of requests too, prepared, by their queries, operations' names and variables: at most 2,048, of 262,144 bytes of
-/// these together, of queries of up to 32,768 bytes and of variables that are short. No clause says which, and no answer depends on it.
+/// Holds what a server keeps for one client: a loader for each `loader` line, one memory of what they returned, and its [`Queries`], so
+/// that a request that comes again is neither parsed nor checked nor prepared again.
 ///
 /// A request is answered over what the session knows, as with a DataLoader: what an earlier request of the client loaded isn't asked again.
 /// [`restart`](ClientSession::restart) makes it forget.
@@ -41,8 +38,7 @@ use std::thread::Threads;
 #[derive(Drop)]
 pub struct ClientSession<S> {
     pub(crate) alloc: Global,
-    pub(crate) kept: RequestCache,
-    pub(crate) lines: LineReader,
+    pub(crate) queries: Queries,
     pub(crate) session: Session<S>,
     pub(crate) max_answer: Option<usize>,
 }
@@ -57,9 +53,9 @@ impl<S> Model for ClientSession<S> {
 
     ghost coded = { Prim.hlevel (codes, type_ref.the_row.coded, literal.the_row.coded, S.code) };
 
-    ghost view = { λ c. client_of c.kept.server c.max_answer c.session };
+    ghost view = { λ c. client_of c.queries c.max_answer c.session };
 
-    ghost invariant = { λ c. HasLoaders c.kept.server c.session };
+    ghost invariant = { λ c. HasLoaders c.queries c.session };
 }
 
 impl<S> ClientSession<S> {
@@ -71,8 +67,7 @@ impl<S> ClientSession<S> {
     {
         ClientSession {
             alloc,
-            kept: RequestCache::new(alloc, server),
-            lines: LineReader::new(),
+            queries: Queries::new(alloc, server),
             session,
             max_answer: None,
         }
@@ -96,7 +91,7 @@ impl<S> ClientSession<S> {
         ensures loaders { HasLoaders
             self.now.server self.now.session }
     {
-        self.kept.server()
+        self.queries.server()
     }
 
     /// The session: what is known, and each batch that was asked, with its round.
@@ -122,10 +117,7 @@ impl<S> ClientSession<S> {
         ensures counts { IfOk result (CountsText self.old.server self.old.session text.now) }
         ensures same { self.new ≡ self.old }
     {
-        match self.lines.read(self.alloc, text) {
-            Ok(line) => line_read(self.alloc, &self.kept, &self.session, &line),
-            Err(_) => Err(AllocError),
-        }
+        self.queries.loads_read(self.alloc, &self.session, text)
     }
 
     /// Starts again: nothing is known of any key, the logs are empty, and no round was made. What is kept of requests stays. When out of
@@ -154,8 +146,7 @@ impl<S> ClientSession<S> {
         ensures fits { IfOk result (λ planned. planned.loaders ≤ length self.new.session.loaders) }
         ensures same { self.new ≡ self.old }
     {
-        let array = plan_one(self.alloc, &mut self.kept, request)?;
-        Ok(PlannedRequest::of(self.kept.server(), array, false, self.max_answer)?)
+        self.queries.plan(self.alloc, request, self.max_answer)
     }
 
     /// Returns what the requests of an array ask, of which `None` is a value that is no request. Each is planned or refused, as
@@ -172,8 +163,7 @@ impl<S> ClientSession<S> {
         ensures fits { IfOk result (λ planned. planned.loaders ≤ length self.new.session.loaders) }
         ensures same { self.new ≡ self.old }
     {
-        let array = plan_several(self.alloc, &mut self.kept, requests)?;
-        Ok(PlannedRequest::of(self.kept.server(), array, true, self.max_answer)?)
+        self.queries.plan_all(self.alloc, requests, self.max_answer)
     }
 
     /// Returns what a request that is JSON text asks, or an array of 1 to 16, as [`answer_text`](ClientSession::answer_text) takes it. What
@@ -188,21 +178,7 @@ impl<S> ClientSession<S> {
         ensures fits { IfOk result (λ planned. planned.loaders ≤ length self.new.session.loaders) }
         ensures same { self.new ≡ self.old }
     {
-        match self.lines.read(self.alloc, text) {
-            Ok(Line::One(request)) => {
-                let array = plan_one(self.alloc, &mut self.kept, &request)?;
-                Ok(PlannedRequest::of(self.kept.server(), array, false, self.max_answer)?)
-            }
-            Ok(Line::Several(values)) => {
-                let array = plan_several(self.alloc, &mut self.kept, &values)?;
-                Ok(PlannedRequest::of(self.kept.server(), array, true, self.max_answer)?)
-            }
-            Ok(Line::NoRequest) => {
-                let array = plan_none(self.alloc)?;
-                Ok(PlannedRequest::of(self.kept.server(), array, false, self.max_answer)?)
-            }
-            Err(_) => Err(AllocError),
-        }
+        self.queries.plan_text(self.alloc, text, self.max_answer)
     }
 
     /// Tells whether this client's session has the loaders of what was planned. It has those of what it planned itself, and of what was
@@ -226,8 +202,8 @@ pub(crate) enum RequestInput<'i> {
 impl<S: LocalSource> ClientSession<S> {
     // The response to what is asked, by whoever runs the batches.
     fn respond_by<
-        F: Fn(&mut Session<S>, &LimitedPlan<'_, '_>) -> Result<Answer, AllocError>,
-        G: Fn(&mut Session<S>, &[LimitedPlan<'_, '_>]) -> Result<Vec<Answer>, AllocError>,
+        F: Fn(&mut Session<S>, &LimitedPlan) -> Result<Answer, AllocError>,
+        G: Fn(&mut Session<S>, Vec<LimitedPlan>) -> Result<Vec<Answer>, AllocError>,
     >(&mut self, runner: &BatchRunner<F, G>, asked: RequestInput<'_>) -> Result<Answer, AllocError>
         requires one { RunsEach S.may_tell
             (F.pre runner.now.one) (F.post runner.now.one) }
@@ -240,11 +216,11 @@ impl<S: LocalSource> ClientSession<S> {
     {
         let ClientSession {
             alloc,
-            kept,
-            lines,
+            queries,
             session,
             max_answer,
         } = self;
+        let Queries { lines, kept } = queries;
         let (alloc, most) = (*alloc, *max_answer);
         match asked {
             RequestInput::One(request) => {
@@ -287,19 +263,16 @@ impl<S: LocalSource> ClientSession<S> {
         ensures same { IsSameClient self.old self.new }
     {
         let runner = BatchRunner {
-            one: |session: &mut Session<S>, limited: &LimitedPlan<'_, '_>| -> Result<
-                Answer,
-                AllocError,
-            >
+            one: |session: &mut Session<S>, limited: &LimitedPlan| -> Result<Answer, AllocError>
                 requires { HasLoadersFor session.old limited.now }
                 ensures { RunsPlan S.may_tell session.old limited.now result session.new }
             { session.answer(limited) },
-            all: |session: &mut Session<S>, plans: &[LimitedPlan<'_, '_>]| -> Result<
+            all: |session: &mut Session<S>, plans: Vec<LimitedPlan>| -> Result<
                 Vec<Answer>,
                 AllocError,
             >
-                requires { All (HasLoadersFor session.old) plans.now }
-                ensures { RunsPlans S.may_tell session.old plans.now result session.new }
+                requires { All (HasLoadersFor session.old) plans.items }
+                ensures { RunsPlans S.may_tell session.old plans.items result session.new }
             { session.answer_all(plans) },
         };
         self.respond_by(&runner, asked)
@@ -395,21 +368,18 @@ impl<S: Source> ClientSession<S> {
         ensures same { IsSameClient self.old self.new }
     {
         let runner = BatchRunner {
-            one: |session: &mut Session<S>, limited: &LimitedPlan<'_, '_>| -> Result<
-                Answer,
-                AllocError,
-            >
+            one: |session: &mut Session<S>, limited: &LimitedPlan| -> Result<Answer, AllocError>
                 requires sync { IsSync R.row × IsSync S.row }
                 requires loaders { HasLoadersFor session.old limited.now }
                 ensures { RunsPlan S.may_answer session.old limited.now result session.new }
             { workers.answer(session, limited) },
-            all: |session: &mut Session<S>, plans: &[LimitedPlan<'_, '_>]| -> Result<
+            all: |session: &mut Session<S>, plans: Vec<LimitedPlan>| -> Result<
                 Vec<Answer>,
                 AllocError,
             >
                 requires sync { IsSync R.row × IsSync S.row }
-                requires loaders { All (HasLoadersFor session.old) plans.now }
-                ensures { RunsPlans S.may_answer session.old plans.now result session.new }
+                requires loaders { All (HasLoadersFor session.old) plans.items }
+                ensures { RunsPlans S.may_answer session.old plans.items result session.new }
             { workers.answer_all(session, plans) },
         };
         self.respond_by(&runner, asked)

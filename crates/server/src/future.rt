@@ -17,9 +17,14 @@ use std::alloc::AllocError;
 /// A future of an answer, which owns its client meanwhile. Its output is the client and the answer, or that memory ran out. Each poll
 /// makes one round at most, over the sources of the session, and asks to be polled again; the first one begins. A request that is refused
 /// is answered by the first poll.
-#[derive(Drop)]
-pub struct ClientAnswering<'p, S> {
-    by_hand: Option<ByHand<'p, S>>,
+pub struct ClientAnswering<S> {
+    by_hand: Option<ByHand<S>>,
+}
+
+impl<S: Drop> Drop for ClientAnswering<S> {
+    fn drop(self) {
+        let ClientAnswering { by_hand: _by_hand } = self;
+    }
 }
 
 impl<S> ClientSession<S> {
@@ -38,11 +43,11 @@ impl<S> ClientSession<S> {
     ///
     /// `value` of the future's `poll`, by `Gives`: the client is handed back with that answer, or with what stays
     /// where memory ran out
-    pub fn into_answering<'p>(self, planned: &'p PlannedRequest) -> ClientAnswering<'p, S>
-        requires { planned.now.loaders
+    pub fn into_answering(self, planned: PlannedRequest) -> ClientAnswering<S>
+        requires { planned.loaders
             ≤ length self.session.loaders }
         ensures begun { result.by_hand
-            ≡ Some (by_hand_of self planned.now handed) }
+            ≡ Some (by_hand_of self planned handed) }
         ensures can { CanPoll result.by_hand }
     {
         ClientAnswering {
@@ -51,7 +56,7 @@ impl<S> ClientSession<S> {
     }
 }
 
-impl<'p, S: LocalSource> ClientAnswering<'p, S> {
+impl<S: LocalSource> ClientAnswering<S> {
     ghost use Rattle.server.specs.Hands.{GivesUp};
 
     // Takes the client out, which is handed in until then.
@@ -69,7 +74,7 @@ impl<'p, S: LocalSource> ClientAnswering<'p, S> {
     }
 }
 
-impl<'p, S: LocalSource + Drop> Future for ClientAnswering<'p, S> {
+impl<S: LocalSource + Drop> Future for ClientAnswering<S> {
     ghost use Rattle.server.specs.Hands.{CanPoll, Gives};
 
     type Output = (ClientSession<S>, Result<Answer, AllocError>);

@@ -7,10 +7,9 @@ ghost use Rattle.rounds_by_hand.specs.Pending.{RefusesAnswer, TakesAnswer};
 ghost use Rattle.server.specs.Clients.{IsSameClient};
 
 use crate::client::ClientSession;
-use crate::request_cache::RequestCache;
+use crate::queries::Queries;
 use load_memory::{Item, Key};
 use load_queue::{FetchFault, LocalSource};
-use request_line::LineReader;
 use rounds_by_hand::{LoadAdvance, LoadHand, Pending, TakeFault};
 use std::alloc::{AllocError, Global};
 use std::marker::Model;
@@ -24,11 +23,9 @@ use std::marker::Model;
 ///
 /// A contract sees the client, the loader and its keys, and how far the load is. What was done since it was begun is `IsLoadUnderway` of
 /// `rounds_by_hand`: each call keeps it, and in the end it says of the outcomes what [`ClientSession::load_many`] says.
-#[derive(Drop)]
 pub struct LoadByHand<S> {
     alloc: Global,
-    kept: RequestCache,
-    lines: LineReader,
+    queries: Queries,
     max_answer: Option<usize>,
     hand: LoadHand<S>,
 }
@@ -45,9 +42,20 @@ impl<S> Model for LoadByHand<S> {
     ghost coded = { Prim.hlevel (codes, type_ref.the_row.coded, literal.the_row.coded, S.code) };
 
     ghost view = { λ b. load_by_hand_of
-        (client_of b.kept.server b.max_answer b.hand.session) b.hand.loader b.hand.keys b.hand.far };
+        (client_of b.queries b.max_answer b.hand.session) b.hand.loader b.hand.keys b.hand.far };
 
-    ghost invariant = { λ b. HasLoaders b.kept.server b.hand.session };
+    ghost invariant = { λ b. HasLoaders b.queries b.hand.session };
+}
+
+impl<S: Drop> Drop for LoadByHand<S> {
+    fn drop(self) {
+        let LoadByHand {
+            alloc: _,
+            queries: _queries,
+            max_answer: _,
+            hand: _hand,
+        } = self;
+    }
 }
 
 impl<S> ClientSession<S> {
@@ -63,15 +71,13 @@ impl<S> ClientSession<S> {
     {
         let ClientSession {
             alloc,
-            kept,
-            lines,
+            queries,
             session,
             max_answer,
         } = self;
         LoadByHand {
             alloc,
-            kept,
-            lines,
+            queries,
             max_answer,
             hand: LoadHand::new(session, loader, keys),
         }
@@ -89,8 +95,8 @@ impl<S> LoadByHand<S> {
 }
 
 impl<S: LocalSource> LoadByHand<S> {
-    ghost use Rattle.rounds_by_hand.specs.LoadHands.{AdvancesLoad, AsksAndAdvancesLoad, IsSameLoad, LoadGoesOn, LoadGoesOnIfMay};
-    ghost use Rattle.server.specs.LoadsByHand.{ClientLoads, ClientStopsLoad, load_in};
+    ghost use Rattle.rounds_by_hand.specs.LoadHands.{AdvancesLoad, AsksAndAdvancesLoad, IsSameLoad, LoadGoesOn, LoadGoesOnIfMay, OnLoadStep};
+    ghost use Rattle.server.specs.LoadsByHand.{ClientAsksAndStores, ClientLoads, ClientStopsLoad, ClientStores, load_in};
 
     /// Stores the round that is out, if each of its orders is answered, and returns the outcomes. The first call begins: it forgets failed
     /// batches, and returns the outcomes if all keys are known; else the round that asks for the others is out.
@@ -105,6 +111,9 @@ impl<S: LocalSource> LoadByHand<S> {
             (load_in self.old) (load_in self.new) }
         ensures loaded { IfOk result
             (ClientLoads S.may_tell self.old self.new) }
+        // What was given as the reply to an order is what is stored.
+        ensures stored { IfOk result (λ did. OnLoadStep did
+            (ClientStores self.old self.new.client)) }
         ensures asked { IsSameLoad
             (load_in self.old) (load_in self.new) }
         ensures same { IsSameClient
@@ -126,6 +135,8 @@ impl<S: LocalSource> LoadByHand<S> {
             (load_in self.old) (load_in self.new) }
         ensures loaded { IfOk result
             (ClientLoads S.may_tell self.old self.new) }
+        ensures stored { OnOk result
+            (ClientAsksAndStores S.may_tell self.old self.new.client) }
         ensures asked { IsSameLoad
             (load_in self.old) (load_in self.new) }
         ensures same { IsSameClient
@@ -170,15 +181,13 @@ impl<S: LocalSource> LoadByHand<S> {
     {
         let LoadByHand {
             alloc,
-            kept,
-            lines,
+            queries,
             max_answer,
             hand,
         } = self;
         ClientSession {
             alloc,
-            kept,
-            lines,
+            queries,
             session: hand.into_session(),
             max_answer,
         }

@@ -1,39 +1,42 @@
 //! What is kept of a client's requests: their plans, by texts that determine the requests, and documents of their queries.
 
-ghost use Rattle.std.specs.Prelude.{◌≡◌, ℕ, List, Some, IfOk, IfSome, IsTrue, OnOk, OnErr, bytes_eq, if◌then◌else◌, string_bytes};
-ghost use Rattle.std.specs.HashMap.{get_by_text};
+ghost use Rattle.std.specs.Prelude.{◌≡◌, IfOk, IfSome, IsTrue, option_map, string_bytes};
+ghost use Rattle.std.specs.Arc.{arc_value};
+ghost use Rattle.text_cache.specs.TextCaches.{AreBounded};
 ghost use Rattle.plan_requests.specs.Planning.{IsRefusal, PlansRequest, PlansArray};
 ghost use Rattle.request_line.specs.Keys.{IsKey};
-ghost use Rattle.request_line.specs.Requests.{RequestOf};
 ghost use Rattle.request_line.specs.Seen.{request_of, requests_of};
-ghost use Rattle.kept_plans.specs.Kept.{within};
-ghost use Rattle.plan_requests.specs.Servers.{ServerOf};
-ghost use Rattle.server.specs.Kept.{AnswersAgain, AreKept, IsPlanAt, RunsKept};
-ghost use Rattle.server.specs.Plans.{HasLoadersFor};
-ghost use Rattle.server.specs.Clients.{client_of, HasLoaders};
-ghost use Rattle.server.specs.Runners.{RunsEach, RunsPlan};
+ghost use Rattle.server.specs.Kept.{IsFoundFor, IsPlanAt, PreparesRequest, PreparesValue, plan_limits};
 
-use gq_resolve::LimitedPlan;
-use kept_plans::KeptPlan;
-use load_queue::LocalSource;
-use load_rounds::{Answer, Session};
-use plan_requests::{ArrayPlan, DocumentCache, Request, RequestPlan, Server};
+use gq_check::Plan;
+use gq_resolve::PreparedPlan;
+use plan_requests::{ArrayPlan, DocumentCache, Request, RequestPlan, Server, not_a_request};
 use std::alloc::{AllocError, Global};
-use std::collections::HashMap;
 use std::marker::Model;
+use std::sync::Arc;
+use text_cache::{CacheLimits, TextCache};
 
-/// At most how many plans are kept at a time.
-const MOST_PLANS: usize = 2_048;
-
-/// At most how many bytes the keys have together whose plans are kept at a time.
-const MOST_BYTES: usize = 262_144;
+/// At most how many plans are kept at a time, and how many bytes their keys have together.
+const MOST_PLANS: CacheLimits = CacheLimits {
+    texts: 2_048,
+    bytes: 262_144,
+};
 
 /// Number of bytes of the longest query whose plan is kept.
 const LONGEST: usize = 32_768;
 
+/// What a request asks.
+#[derive(Drop)]
+pub(crate) enum PreparedRequest {
+    /// Nothing: it is refused, by the text of this response.
+    Refused(String),
+    /// Its plan is executed. It is shared with whoever answers the same request, and stays as long as one of them does.
+    Planned(Arc<PreparedPlan>),
+}
+
 /// What becomes of the plan of a request.
 #[derive(Clone, Copy)]
-pub(crate) enum PlanUse {
+enum PlanUse {
     /// It is used once.
     Once,
     /// It is kept.
@@ -44,33 +47,48 @@ pub(crate) enum PlanUse {
 /// differ in these share one, and of requests whose plans aren't kept.
 ///
 /// The plans are at most 2,048, and their keys have at most 262,144 bytes together: where one more doesn't fit, all are let go. That
-/// of a query of more than 32,768 bytes isn't kept, nor that of a request without a key.
+/// of a query of more than 32,768 bytes isn't kept, nor that of a request without a key. A plan that is let go while it is executed lives
+/// on until that is done.
 ///
-/// A contract sees the server, and the key of the last request.
-#[derive(Drop)]
+/// A contract sees the server, the key of the last request, and the keys whose plans are kept.
 pub(crate) struct RequestCache {
     documents: DocumentCache,
-    plans: HashMap<String, KeptPlan>,
-    // Number of bytes of the keys of all plans.
-    bytes: usize,
+    plans: TextCache<Arc<PreparedPlan>>,
     key: String,
 }
 
 impl Model for RequestCache {
     ghost use Rattle.std.specs.Coded.{codes};
-    ghost use Rattle.std.specs.HashMap.{get_by_text};
     ghost use Rattle.std.specs.Prelude.{string_bytes};
     ghost use Rattle.gq_parser.specs.contracts.tree.TypeRef as type_ref;
     ghost use Rattle.gq_parser.specs.contracts.tree.Literal as literal;
-    ghost use Rattle.server.specs.Kept.{RequestCacheOf, AreKept};
+    ghost use Rattle.gq_parser.specs.contracts.tree.Argument as argument;
+    ghost use Rattle.gq_parser.specs.contracts.tree.SelectionSet as set;
+    ghost use Rattle.gq_schema.specs.contracts.input.Input as input;
+    ghost use Rattle.text_cache.specs.TextCaches.{texts_of};
+    ghost use Rattle.server.specs.Kept.{RequestCacheOf, KeepsPlans};
 
     ghost Value = { RequestCacheOf };
 
-    ghost coded = { Prim.hlevel (codes, type_ref.the_row.coded, literal.the_row.coded) };
+    ghost coded = { Prim.hlevel (codes, type_ref.the_row.coded, literal.the_row.coded, argument.the_row.coded, set.the_row.coded, input.the_row.coded) };
 
-    ghost view = { λ c. record { server = c.documents.server; key = string_bytes c.key } };
+    ghost view = { λ c. record {
+      server = c.documents.server;
+      key = string_bytes c.key;
+      texts = texts_of c.plans;
+    } };
 
-    ghost invariant = { λ c. AreKept c.documents.server (get_by_text c.plans) };
+    ghost invariant = { λ c. KeepsPlans c.documents.server c.plans };
+}
+
+impl Drop for RequestCache {
+    fn drop(self) {
+        let RequestCache {
+            documents: _documents,
+            plans: _plans,
+            key: _key,
+        } = self;
+    }
 }
 
 // Tells whether the document of a request's query may be of use again. Where the plan is kept, that is to requests with another operation's
@@ -82,6 +100,20 @@ fn keeps_document(request: &Request<'_>, plan_use: PlanUse) -> bool {
     }
 }
 
+// The plan, prepared ahead unless it is used once.
+fn shared_plan(
+    alloc: Global,
+    plan: Plan,
+    plan_use: PlanUse,
+) -> Result<Arc<PreparedPlan>, AllocError>
+    ensures { IfOk result (λ shared. arc_value shared ≡ plan) }
+{
+    match plan_use {
+        PlanUse::Once => Ok(Arc::new(alloc, PreparedPlan::for_one_use(plan))?),
+        PlanUse::Kept => Ok(Arc::new(alloc, PreparedPlan::new(alloc, plan)?)?),
+    }
+}
+
 impl RequestCache {
     /// Nothing yet, over this server.
     pub(crate) fn new(alloc: Global, server: Server) -> RequestCache
@@ -89,8 +121,7 @@ impl RequestCache {
     {
         RequestCache {
             documents: DocumentCache::new(alloc, server),
-            plans: HashMap::new(alloc),
-            bytes: 0,
+            plans: TextCache::new(alloc, MOST_PLANS),
             key: String::new(alloc),
         }
     }
@@ -98,12 +129,13 @@ impl RequestCache {
     /// The server.
     pub(crate) fn server(&self) -> &Server
         ensures server { result.now ≡ self.now.server }
+        ensures bounded { AreBounded plan_limits self.now.texts }
     {
         self.documents.server()
     }
 
-    /// Keeps the document of a request's query ([`DocumentCache::keep`]), if it may be of use again.
-    pub(crate) fn keep(
+    // Keeps the document of a request's query ([`DocumentCache::keep`]), if it may be of use again.
+    fn keep(
         &mut self,
         alloc: Global,
         request: &Request<'_>,
@@ -118,13 +150,6 @@ impl RequestCache {
             return Ok(None);
         }
         self.documents.keep(alloc, request)
-    }
-
-    /// Keeps the documents of an array's requests: [`DocumentCache::cache_each`].
-    pub(crate) fn cache_each(&mut self, alloc: Global, values: &[Option<Request<'_>>])
-        ensures { self.new.server ≡ self.old.server }
-    {
-        self.documents.cache_each(alloc, values)
     }
 
     /// Returns what a request asks: [`DocumentCache::plan`].
@@ -149,12 +174,8 @@ impl RequestCache {
         self.documents.plan_each(alloc, values)
     }
 
-    /// Notes the key of a request, if it has one and its query isn't too long for its plan to be kept.
-    pub(crate) fn note_key(
-        &mut self,
-        alloc: Global,
-        request: &Request<'_>,
-    ) -> Result<bool, AllocError>
+    // Notes the key of a request, if it has one and its query isn't too long for its plan to be kept.
+    fn note_key(&mut self, alloc: Global, request: &Request<'_>) -> Result<bool, AllocError>
         ensures server { self.new.server ≡ self.old.server }
         ensures key { IfOk result (λ noted. IsTrue noted
             → IsKey self.new.key (request_of request.now)) }
@@ -165,131 +186,101 @@ impl RequestCache {
         request.write_key(alloc, &mut self.key)
     }
 
-    /// The answer to the request whose key was noted, in the session, within a limit, if its plan is kept.
-    pub(crate) fn answer_again<
-        S: LocalSource,
-        F: Fn(&mut Session<S>, &LimitedPlan<'_, '_>) -> Result<Answer, AllocError>,
-    >(
-        &mut self,
-        run: &F,
-        session: &mut Session<S>,
-        most: Option<usize>,
-    ) -> Option<Result<Answer, AllocError>>
-        requires runs { RunsEach S.may_tell
-            (F.pre run.now) (F.post run.now) }
-        requires loaders { HasLoaders self.old.server session.old }
-        ensures again { (request : RequestOf) → IsKey self.old.key request → AnswersAgain S.may_tell
-            (client_of self.old.server most session.old) request result session.new }
-        ensures same { self.new ≡ self.old }
+    // The plan of the request whose key was noted, if it is kept.
+    fn find(&self) -> Result<Option<Arc<PreparedPlan>>, AllocError>
+        ensures { IfOk result (IsFoundFor self.now) }
     {
-        run_kept(&mut self.plans, run, session, &self.key, most)
+        match self.plans.get(&self.key) {
+            Some(plan) => Ok(Some(Arc::try_clone(plan)?)),
+            None => Ok(None),
+        }
     }
 
-    /// The answer of the plan of the request whose key was noted, in the session, within a limit. The plan is kept, unless memory runs out.
-    pub(crate) fn answer_and_keep<
-        S: LocalSource,
-        F: Fn(&mut Session<S>, &LimitedPlan<'_, '_>) -> Result<Answer, AllocError>,
-    >(
+    // Keeps the plan of the request whose key was noted, unless memory runs out.
+    fn keep_plan(&mut self, alloc: Global, plan: &Arc<PreparedPlan>)
+        requires { IsPlanAt self.old.server self.old.key (arc_value plan.now) }
+        ensures { self.new.server ≡ self.old.server }
+    {
+        if let Ok(plan) = Arc::try_clone(plan) {
+            let _ = self.plans.insert(alloc, &self.key, plan);
+        }
+    }
+
+    // Returns what a request asks, whose plan isn't kept yet.
+    fn prepare_anew(
         &mut self,
         alloc: Global,
-        run: &F,
-        session: &mut Session<S>,
-        plan: KeptPlan,
-        most: Option<usize>,
-    ) -> Result<Answer, AllocError>
-        requires runs { RunsEach S.may_tell
-            (F.pre run.now) (F.post run.now) }
-        requires loaders { HasLoadersFor session.old (within plan most) }
-        requires planned { IsPlanAt self.old.server self.old.key plan }
-        ensures ran { RunsPlan S.may_tell session.old (within plan most) result session.new }
+        request: &Request<'_>,
+        plan_use: PlanUse,
+    ) -> Result<PreparedRequest, AllocError>
+        ensures prepared { IfOk result
+            (PreparesRequest self.old.server (request_of request.now)) }
+        ensures server { self.new.server ≡ self.old.server }
+        ensures key { self.new.key ≡ self.old.key }
+    {
+        if let Some(text) = self.keep(alloc, request, plan_use)? {
+            return Ok(PreparedRequest::Refused(text));
+        }
+        match self.plan(alloc, request)? {
+            RequestPlan::Refused(text) => Ok(PreparedRequest::Refused(text)),
+            RequestPlan::Planned(plan) => {
+                let plan = shared_plan(alloc, plan, plan_use)?;
+                Ok(PreparedRequest::Planned(plan))
+            }
+        }
+    }
+
+    // Returns what the request asks whose key was noted, and whose plan isn't kept yet. It is kept from then on.
+    fn prepare_first(
+        &mut self,
+        alloc: Global,
+        request: &Request<'_>,
+    ) -> Result<PreparedRequest, AllocError>
+        requires { IsKey self.old.key (request_of request.now) }
+        ensures prepared { IfOk result
+            (PreparesRequest self.old.server (request_of request.now)) }
         ensures server { self.new.server ≡ self.old.server }
     {
-        let mut plan = plan;
-        let answer = run_plan(&mut plan, run, session, most);
-        make_room(&mut self.plans, &mut self.bytes, self.key.len());
-        let _ = put(alloc, &mut self.plans, &self.key, plan);
-        answer
+        let prepared = self.prepare_anew(alloc, request, PlanUse::Kept)?;
+        if let PreparedRequest::Planned(plan) = &prepared {
+            self.keep_plan(alloc, plan);
+        }
+        Ok(prepared)
     }
-}
 
-// Lets all plans go, where one more with a key of `more` bytes doesn't fit. Counts its bytes.
-fn make_room(plans: &mut HashMap<String, KeptPlan>, bytes: &mut usize, more: usize)
-    ensures { (s : ServerOf) → AreKept s (get_by_text plans.old)
-        → AreKept s (get_by_text plans.new) }
-{
-    if plans.len() >= MOST_PLANS || bytes.saturating_add(more) > MOST_BYTES {
-        plans.clear();
-        *bytes = 0;
+    /// Returns what a request asks: the plan that is kept under its key, if there is one, or else what is planned of it now, which is kept
+    /// if the request has a key.
+    pub(crate) fn prepare(
+        &mut self,
+        alloc: Global,
+        request: &Request<'_>,
+    ) -> Result<PreparedRequest, AllocError>
+        ensures prepared { IfOk result
+            (PreparesRequest self.old.server (request_of request.now)) }
+        ensures server { self.new.server ≡ self.old.server }
+    {
+        if !self.note_key(alloc, request)? {
+            return self.prepare_anew(alloc, request, PlanUse::Once);
+        }
+        match self.find()? {
+            Some(plan) => Ok(PreparedRequest::Planned(plan)),
+            None => self.prepare_first(alloc, request),
+        }
     }
-    *bytes = bytes.saturating_add(more);
-}
 
-// Adds a plan by its key.
-fn add(plans: &mut HashMap<String, KeptPlan>, key: String, kept: KeptPlan) -> Result<(), AllocError>
-    ensures ok { (q : List ℕ) → OnOk result (get_by_text plans.new q
-        ≡ (if bytes_eq q (string_bytes key) then Some kept else get_by_text plans.old q)) }
-    ensures err { (q : List ℕ)
-        → OnErr result (get_by_text plans.new q ≡ get_by_text plans.old q) }
-{
-    plans.insert(key, kept)?;
-    Ok(())
-}
-
-// Keeps the plan of the request that has a key.
-fn put(
-    alloc: Global,
-    plans: &mut HashMap<String, KeptPlan>,
-    key: &str,
-    plan: KeptPlan,
-) -> Result<(), AllocError>
-    ensures { (s : ServerOf) → AreKept s (get_by_text plans.old)
-        → IsPlanAt s key.now plan → AreKept s (get_by_text plans.new) }
-{
-    let key = String::from_str(alloc, key)?;
-    add(plans, key, plan)
-}
-
-// Runs a kept plan in the session, within a limit.
-fn run_plan<
-    S: LocalSource,
-    F: Fn(&mut Session<S>, &LimitedPlan<'_, '_>) -> Result<Answer, AllocError>,
->(
-    plan: &mut KeptPlan,
-    run: &F,
-    session: &mut Session<S>,
-    most: Option<usize>,
-) -> Result<Answer, AllocError>
-    requires runs { RunsEach S.may_tell
-        (F.pre run.now) (F.post run.now) }
-    requires loaders { HasLoadersFor session.old (within plan.old most) }
-    ensures ran { RunsPlan S.may_tell session.old (within plan.old most) result session.new }
-    ensures same { plan.new ≡ plan.old }
-{
-    plan.with(most, session, run)
-}
-
-// Runs the plan that is kept under a key in the session, within a limit, if there is one.
-fn run_kept<
-    S: LocalSource,
-    F: Fn(&mut Session<S>, &LimitedPlan<'_, '_>) -> Result<Answer, AllocError>,
->(
-    plans: &mut HashMap<String, KeptPlan>,
-    run: &F,
-    session: &mut Session<S>,
-    key: &str,
-    most: Option<usize>,
-) -> Option<Result<Answer, AllocError>>
-    requires runs { RunsEach S.may_tell
-        (F.pre run.now) (F.post run.now) }
-    requires loaders { IfSome (get_by_text plans.old key.now)
-        (λ plan. HasLoadersFor session.old (within plan most)) }
-    ensures ran { RunsKept S.may_tell (get_by_text plans.old key.now)
-        most session.old result session.new }
-    ensures same { (q : List ℕ) → get_by_text plans.new q
-        ≡ get_by_text plans.old q }
-{
-    match plans.get_mut(key) {
-        Some(plan) => Some(run_plan(plan, run, session, most)),
-        None => None,
+    /// Returns what a value of an array asks, of which `None` is a value that is no request.
+    pub(crate) fn prepare_value(
+        &mut self,
+        alloc: Global,
+        value: &Option<Request<'_>>,
+    ) -> Result<PreparedRequest, AllocError>
+        ensures prepared { IfOk result
+            (PreparesValue self.old.server (option_map request_of value.now)) }
+        ensures server { self.new.server ≡ self.old.server }
+    {
+        match value {
+            Some(request) => self.prepare(alloc, request),
+            None => Ok(PreparedRequest::Refused(not_a_request(alloc)?)),
+        }
     }
 }

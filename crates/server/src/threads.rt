@@ -1,7 +1,10 @@
 //! Types that may go to other threads, and those that threads may share. The check proves it of these types at the calls here, of which
 //! none is made at run time. So a type that ceases to be so is refused here, and not first in the crate of someone who starts threads.
 
+use crate::by_hand::ByHand;
 use crate::client::ClientSession;
+use crate::planned::PlannedRequest;
+use crate::queries::Queries;
 use gq_check::{CheckedDocument, Plan, PreparedDocument};
 use plan_requests::{ArrayPlan, DocumentCache, RequestPlan, Server};
 use std::marker::{Send, Sync};
@@ -52,4 +55,16 @@ fn document_cache_goes(kept_documents: &DocumentCache) {
 
 fn client_goes<S: Send>(client: &ClientSession<S>) {
     goes(client)
+}
+
+fn queries_go(queries: &Queries) {
+    goes(queries)
+}
+
+fn planned_goes(planned: &PlannedRequest) {
+    goes(planned)
+}
+
+fn by_hand_goes<S: Send>(by_hand: &ByHand<S>) {
+    goes(by_hand)
 }

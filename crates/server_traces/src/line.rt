@@ -88,11 +88,20 @@ fn put_trace<S, T: Write>(
 }
 
 /// A client whose lines are traced, and the device of their trace.
-#[derive(Drop)]
 pub struct TracedClient<S, T> {
     alloc: Global,
     client: ClientSession<S>,
     trace: CountedDevice<T>,
+}
+
+impl<S: Drop, T: Drop> Drop for TracedClient<S, T> {
+    fn drop(self) {
+        let TracedClient {
+            alloc: _,
+            client: _client,
+            trace: _trace,
+        } = self;
+    }
 }
 
 impl<S, T> TracedClient<S, T> {
@@ -117,7 +126,11 @@ impl<S, T> TracedClient<S, T> {
         ensures client { result.0 ≡ self.client }
         ensures trace { result.1 ≡ self.trace }
     {
-        let TracedClient { client, trace, .. } = self;
+        let TracedClient {
+            alloc: _,
+            client,
+            trace,
+        } = self;
         (client, trace)
     }
 }

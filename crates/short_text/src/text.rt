@@ -28,7 +28,6 @@ enum TextBytes {
 ///
 /// A short text has as much room as an enum over a `String` takes anyway. The bytes aren't checked when the
 /// text is read, since an invariant says that they are UTF-8.
-#[derive(Drop)]
 pub struct Text {
     held: TextBytes,
 }
@@ -41,6 +40,12 @@ impl Model for Text {
     ghost use Rattle.short_text.specs.Bytes.{bytes_of};
 
     ghost view = { λ t. bytes_of t.held };
+}
+
+impl Drop for Text {
+    fn drop(self) {
+        let Text { held: _held } = self;
+    }
 }
 
 impl Text {

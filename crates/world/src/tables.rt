@@ -21,16 +21,23 @@ use std::marker::Model;
 use std::sync::Arc;
 
 /// An index of the column at a place, counted from 0.
-#[derive(Drop)]
 pub struct IndexedColumn {
     column: usize,
     index: Arc<ColumnIndex>,
 }
 
+impl Drop for IndexedColumn {
+    fn drop(self) {
+        let IndexedColumn {
+            column: _,
+            index: _index,
+        } = self;
+    }
+}
+
 /// A table, and the indices that were made of its columns.
 ///
 /// A contract sees it as its sheet.
-#[derive(Drop)]
 pub struct IndexedTable {
     table: Arc<Table>,
     indices: Vec<IndexedColumn>,
@@ -47,6 +54,15 @@ impl Model for IndexedTable {
     ghost view = { λ t. arc_value t.table };
 
     ghost invariant = { λ t. All (IsKept (arc_value t.table)) t.indices.items };
+}
+
+impl Drop for IndexedTable {
+    fn drop(self) {
+        let IndexedTable {
+            table: _table,
+            indices: _indices,
+        } = self;
+    }
 }
 
 fn mode_of(by: &By) -> KeyMode

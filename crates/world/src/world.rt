@@ -19,7 +19,6 @@ use std::marker::Model;
 ///
 /// A contract sees it as these four: the definitions of the schema, the bindings, the limit, and the
 /// sources in the order of their loaders.
-#[derive(Drop)]
 pub struct World {
     server: Server,
     limit: Option<u32>,
@@ -41,6 +40,16 @@ impl Model for World {
     ghost view = { λ w. record { definitions = w.server.definitions; bindings = w.server.bindings; limit = w.limit; sources = map source_of w.sources.items } };
 
     ghost invariant = { λ w. HasSources (record { definitions = w.server.definitions; bindings = w.server.bindings; limit = w.limit; sources = map source_of w.sources.items }) };
+}
+
+impl Drop for World {
+    fn drop(self) {
+        let World {
+            server: _server,
+            limit: _limit,
+            sources: _sources,
+        } = self;
+    }
 }
 
 // A limit that may be set, if there is one.

@@ -21,7 +21,10 @@ resume-requires g c =
     let p : Program = g.P.Execute.program c.args.plan.now in
     let size = between-loaders g.S.Source.may_answer p (state_of c.args.session.now) (state_of c.loop-progress.session) c.loop-progress.run.rounds c.loop-progress.invariant.between in
     let same : c.loop-progress.run.plan ≡ c.args.plan.now = ap (λ (r : RunOf _). r.plan) c.loop-progress.invariant.run in
-    λ κs. ((refl, tt), (record { ready = ap (λ (r : RunOf _). r.stage) c.loop-progress.invariant.run; within = rw c.loop-progress.invariant.run (omega (arith, c.requires.loaders, size)) }, rw same c.loop-progress.invariant.fits))
+    record {
+      can = record { ready = ap (λ (r : RunOf _). r.stage) c.loop-progress.invariant.run; within = rw c.loop-progress.invariant.run (omega (arith, c.requires.loaders, size)) };
+      fits = rw same c.loop-progress.invariant.fits;
+    }
 
 pub returns-in_err-answer-clause-stopped : goal.returns-in_err-answer-clause-stopped
 returns-in_err-answer-clause-stopped g c =
@@ -37,13 +40,20 @@ returns-in-Finished-clause-answer g c =
     let done = c.in_ok-answer.ensures.run.answer (state_of c.args.session.now) between in
     rw (c.in-Finished.is, same) at done
 
-pub make_round-requires : goal.make_round-requires
-make_round-requires g c =
+pub make_round-requires-clause-out : goal.make_round-requires-clause-out
+make_round-requires-clause-out g c = λ κs l.
+    let p : Program = g.P.Execute.program c.loop-progress.run.plan in
+    let next = rw c.in-Round.is at c.in_ok-answer.ensures.next in
+    let same : c.resume.new.self.plan ≡ c.loop-progress.run.plan = ap (λ (r : RunOf _). r.plan) next.1 in
+    record { out = ap (λ (r : RunOf _). r.stage) next.1; latest = rw same (round-asked p (state_of c.loop-progress.session) (state_of c.resume.new.session) c.in-Round.orders.items next.0) }
+
+pub make_round-requires-clause-orders : goal.make_round-requires-clause-orders
+make_round-requires-clause-orders g c = λ κs l.
     let p : Program = g.P.Execute.program c.loop-progress.run.plan in
     let next = rw c.in-Round.is at c.in_ok-answer.ensures.next in
     let same : c.resume.new.self.plan ≡ c.loop-progress.run.plan = ap (λ (r : RunOf _). r.plan) next.1 in
     let orders = round-orders p (state_of c.loop-progress.session) (state_of c.resume.new.session) c.in-Round.orders.items next.0 in
-    λ κs. (record { shared = c.type_bounds.sync-S.shared }, (record { shared = c.type_bounds.sync-R.shared }, ((refl, tt), (c.requires.count, (record { out = ap (λ (r : RunOf _). r.stage) next.1; latest = rw same (round-asked p (state_of c.loop-progress.session) (state_of c.resume.new.session) c.in-Round.orders.items next.0) }, rw same (sym orders))))))
+    rw same (sym orders)
 
 pub returns-in_err-make_round-in-Round-clause-stopped : goal.returns-in_err-make_round-in-Round-clause-stopped
 returns-in_err-make_round-in-Round-clause-stopped g c =

@@ -1,4 +1,4 @@
-use Rattle.std.proofs.Common.{map, refl, subst}
+use Rattle.std.proofs.Common.{map, subst}
 use Rattle.std.proofs.lemmas.Result.{on_err_weaker}
 use Rattle.load_memory.specs.Shelves.{shown}
 use Rattle.execution.specs.Program.{Program}
@@ -32,7 +32,7 @@ take-requires g c =
     let s = state_of c.args.session.now in
     let answered = rw c.loaders.ensures at c.in_ok-receipts.ensures.answered in
     let round = received may s.loaders c.in_ok-shelf.shelf c.args.orders.items c.in_ok-receipts.receipts.items answered in
-    λ κs. ((refl, tt), (c.requires.out, record { on = rw c.as_slice.ensures.value c.in_ok-receipts.ensures.shelved; round = rw (c.as_slice.ensures.value, ← c.requires.orders) round }))
+    record { out = c.requires.out; round = record { on = rw c.as_slice.ensures.value c.in_ok-receipts.ensures.shelved; round = rw (c.as_slice.ensures.value, ← c.requires.orders) round } }
 
 pub returns-clause-made : goal.returns-clause-made
 returns-clause-made g c =

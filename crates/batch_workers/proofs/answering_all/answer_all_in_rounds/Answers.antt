@@ -1,4 +1,4 @@
-use Rattle.std.proofs.Common.{◌≡◌, ◌≤◌, ◌+◌, ◌∙◌, map, length, ap, subst, sym, arith, refl}
+use Rattle.std.proofs.Common.{◌≡◌, ◌≤◌, ◌+◌, ◌∙◌, map, length, ap, subst, sym, arith}
 use Rattle.std.specs.Prelude.{All}
 use Rattle.execution.specs.Program.{Program}
 use Rattle.load_rounds.specs.Sessions.{state_of}
@@ -15,7 +15,7 @@ use Rattle.batch_workers.proofs.answering_all.answer_all_in_rounds.Goals as goal
 pub returns-in_err-run-clause-stopped : goal.returns-in_err-run-clause-stopped
 returns-in_err-run-clause-stopped g c =
     let may = g.S.Source.may_answer in
-    let p : Program = together (requests g.P.Execute.program g.P.Execute.text_of c.args.plans.now) in
+    let p : Program = together (requests g.P.Execute.program g.P.Execute.text_of c.args.plans.items) in
     let old = state_of c.args.session.now in
     let new = state_of c.begin_all.new.self in
     on-err c.from_residual.result (run-stops may p old new 0 Ready (in-between may p old new 0 (in-none may old new p c.begin_all.ensures.forgot)))
@@ -33,8 +33,11 @@ next_round-requires g c =
     let p : Program = together (requests g.P.Execute.program g.P.Execute.text_of run.plans) in
     let ready : IsRun may p old cur run.executions.rounds Ready = subst (λ (stage : Stage). IsRun may p old cur run.executions.rounds stage) was.stage was.begun.is in
     let size : length old.loaders ≡ length cur.loaders = sym (between-loaders may p old cur run.executions.rounds ready) in
-    let enough = subst (λ n. All (λ plan. g.P.Execute.loaders plan ≤ n) c.args.plans.now) size c.requires.loaders in
-    λ κs. ((refl, tt), (record { ready = was.stage; within = subst (λ ps. All (λ plan. g.P.Execute.loaders plan ≤ length cur.loaders) ps) (sym was.plans) enough }, was.fits))
+    let enough = subst (λ n. All (λ plan. g.P.Execute.loaders plan ≤ n) c.args.plans.items) size c.requires.loaders in
+    record {
+      can = record { ready = was.stage; within = subst (λ ps. All (λ plan. g.P.Execute.loaders plan ≤ length cur.loaders) ps) (sym was.plans) enough };
+      fits = was.fits;
+    }
 
 pub returns-in_err-answers-clause-stopped : goal.returns-in_err-answers-clause-stopped
 returns-in_err-answers-clause-stopped g c =
@@ -54,13 +57,23 @@ returns-in-Finished-clause-answers g c =
     let done = rw c.in-Finished.is at c.in_ok-answers.ensures.run.answers in
     subst (λ ps. SharedHeadline g.S.Source.may_answer old new (requests g.P.Execute.program g.P.Execute.text_of ps) (map report_of c.in-Finished.answers.items)) c.loop-run.invariant.plans (done old c.loop-run.invariant.begun)
 
-pub make_round-requires : goal.make_round-requires
-make_round-requires g c =
-    let later = c.next_round.new.self in
+pub make_round-requires-clause-out : goal.make_round-requires-clause-out
+make_round-requires-clause-out g c = λ κs l.
+    let next = rw c.in-Round.is at c.in_ok-answers.ensures.next in
+    let p : Program = together (requests g.P.Execute.program g.P.Execute.text_of c.loop-run.run.plans) in
+    record { out = next.2; latest = rw c.in_ok-answers.ensures.left.plans (round-asked p (state_of c.loop-run.session) (state_of c.next_round.new.session) c.in-Round.orders.items next.0) }
+
+pub make_round-requires-clause-orders : goal.make_round-requires-clause-orders
+make_round-requires-clause-orders g c = λ κs l.
     let next = rw c.in-Round.is at c.in_ok-answers.ensures.next in
     let p : Program = together (requests g.P.Execute.program g.P.Execute.text_of c.loop-run.run.plans) in
     let orders = round-orders p (state_of c.loop-run.session) (state_of c.next_round.new.session) c.in-Round.orders.items next.0 in
-    λ κs. (record { shared = c.type_bounds.sync-S.shared }, (record { shared = c.type_bounds.sync-R.shared }, ((refl, tt), (c.requires.count, (record { out = next.2; latest = rw c.in_ok-answers.ensures.left.plans (round-asked p (state_of c.loop-run.session) (state_of c.next_round.new.session) c.in-Round.orders.items next.0) }, (rw c.in_ok-answers.ensures.left.plans (sym orders), c.in_ok-answers.ensures.left.fitting next.2))))))
+    rw c.in_ok-answers.ensures.left.plans (sym orders)
+
+pub make_round-requires-clause-fits : goal.make_round-requires-clause-fits
+make_round-requires-clause-fits g c = λ κs l.
+    let next = rw c.in-Round.is at c.in_ok-answers.ensures.next in
+    c.in_ok-answers.ensures.left.fitting next.2
 
 pub returns-in_err-make_round-in-Round-clause-stopped : goal.returns-in_err-make_round-in-Round-clause-stopped
 returns-in_err-make_round-in-Round-clause-stopped g c =

@@ -6,7 +6,7 @@ use Rattle.batch_workers.proofs.answering_all.answer_all_in_rounds.Given as goal
 
 abbrev pub invariant-loop-run : goal.invariant-loop-run
 invariant-loop-run g l = record {
-  plans : l.run.plans ≡ l.plans;
+  plans : l.run.plans ≡ l.fn.plans.items;
   stage : l.run.stage ≡ Ready;
   begun : IsRunAll g.P.Execute.program g.P.Execute.text_of g.S.Source.may_answer (state_of l.fn.session) (state_of l.session) l.run;
   fits : FitsRun g.P.Execute.program g.P.Execute.text_of g.P.Execute.loaders g.P.Execute.fits l.run (memory_of l.session);

@@ -1,4 +1,3 @@
-use Rattle.std.proofs.Common.{refl}
 use Rattle.std.proofs.lemmas.Result.{on_err_weaker}
 use Rattle.execution.specs.Program.{Program}
 use Rattle.load_rounds.specs.Sessions.{StateOf, state_of}
@@ -34,7 +33,7 @@ take-requires g c =
     let s = state_of c.args.session.now in
     let answered = rw c.loaders.ensures at c.in_ok-receipts.ensures.answered in
     let round = received may s.loaders c.in_ok-shelf.shelf c.args.orders.items c.in_ok-receipts.receipts.items answered in
-    λ κs. ((refl, tt), (c.requires.out, record { on = rw c.as_slice.ensures.value c.in_ok-receipts.ensures.shelved; round = rw (c.as_slice.ensures.value, ← c.requires.orders) round }))
+    record { out = c.requires.out; round = record { on = rw c.as_slice.ensures.value c.in_ok-receipts.ensures.shelved; round = rw (c.as_slice.ensures.value, ← c.requires.orders) round } }
 
 pub returns-clause-made : goal.returns-clause-made
 returns-clause-made g c = on-ok c.take.result (λ took. record { ready = took.ready; stored = c.take.ensures.run; fitting = took.fitting c.requires.fits }) c.take.ensures.taken

@@ -1,4 +1,4 @@
-use Rattle.std.proofs.Common.{◌≡◌, ap, sym, subst, map, List, arith, refl}
+use Rattle.std.proofs.Common.{◌≡◌, ap, sym, subst, map, List, arith}
 use Rattle.load_memory.specs.Replies.{reply_of}
 use Rattle.load_queue.specs.Orders.{OrderOf}
 use Rattle.execution.specs.Program.{Program}
@@ -13,7 +13,7 @@ pub next_round-requires : goal.next_round-requires
 next_round-requires g c =
     let p : Program = g.P.Execute.program c.args.plan.now in
     let size = between-loaders any_tell p (state_of c.args.session.now) (state_of c.loop-answer.session) c.loop-answer.run.rounds c.loop-answer.invariant.between in
-    λ κs. ((refl, tt), record { ready = ap (λ (r : RunOf _). r.stage) c.loop-answer.invariant.run; within = rw c.loop-answer.invariant.run (omega (arith, c.requires, size)) })
+    record { ready = ap (λ (r : RunOf _). r.stage) c.loop-answer.invariant.run; within = rw c.loop-answer.invariant.run (omega (arith, c.requires, size)) }
 
 pub returns-in-Finished : goal.returns-in-Finished
 returns-in-Finished g c =
@@ -38,4 +38,4 @@ take_owned-requires g c =
     let orders = round-orders p (state_of c.loop-answer.session) (state_of c.next_round.new.session) c.in-Round.orders.items next.0 in
     let given = subst (λ ls. AreReceived (may_at any_tell ls) c.in-Round.orders.items (map reply_of c.in_ok-replies-in-Round.replies.items)) c.loaders-in-Round.ensures c.in_ok-replies-in-Round.ensures in
     let received = subst (λ (os : List OrderOf). AreReceived (may_at any_tell c.next_round.new.session.loaders) os (map reply_of c.in_ok-replies-in-Round.replies.items)) (sym orders) given in
-    λ κs. ((refl, tt), (record { out = ap (λ (r : RunOf _). r.stage) next.1; latest = rw same asked }, rw same received))
+    record { out = record { out = ap (λ (r : RunOf _). r.stage) next.1; latest = rw same asked }; round = rw same received }

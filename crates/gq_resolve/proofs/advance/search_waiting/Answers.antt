@@ -18,9 +18,6 @@ loop-position-preserved-in_ok-read c = resumed-one c.in-Some.position (borrowed_
 pub loop-position-preserved-in_ok-read-2 : goal.loop-position-preserved-in_ok-read-2
 loop-position-preserved-in_ok-read-2 c = resumed-one c.in-Some.position (borrowed_of c.as_key_ref.result) (own-next _ c.in-Some.position c.next.new.self c.in-Some.ensures.steps) c.as_key_ref.ensures c.in_ok-read.ensures c.loop-position.invariant
 
-pub loop-position-preserved-in_ok-read-3 : goal.loop-position-preserved-in_ok-read-3
-loop-position-preserved-in_ok-read-3 c = resumed-one c.in-Some.position (borrowed_of c.as_key_ref.result) (own-next _ c.in-Some.position c.next.new.self c.in-Some.ensures.steps) c.as_key_ref.ensures c.in_ok-read.ensures c.loop-position.invariant
-
 pub returns : goal.returns
 returns c = λ may.
     all-resumed c.args.rooted refl c.waiting_only.ensures.blocked c.waiting_only.ensures.plain (own-none _ c.next.new.self c.in-None.ensures.steps) c.loop-position.invariant may

@@ -1,6 +1,5 @@
 use Rattle.std.proofs.Common.{◌≡◌, ◌<◌, ℕ, List, [], ◌∷◌, ◌++◌, map, length, ap, arith, Result, Ok, Err}
 use Rattle.std.proofs.lemmas.List.{length_push}
-use Rattle.std.proofs.lemmas.List.Elements.{All-head}
 use Rattle.std.specs.Prelude.{All, OnOk}
 use Rattle.load_memory.specs.Replies.{ReplyOf, reply_of}
 use Rattle.load_memory.proofs.ReplyPairs.{All-of_map}

@@ -2,8 +2,9 @@ use Rattle.std.proofs.Common.{◌≡◌, ◌<◌, ◌+◌, suc, length, is_none,
 use Rattle.load_memory.specs.Pairs.{look}
 use Rattle.execution.specs.Front.{front, wanting, modes_wanted}
 use Rattle.load_rounds.specs.Together.{plans_in, fronts}
-use Rattle.load_rounds.proofs.GoingOn.{none-go-on, all-go-on, go-on-length, next-fits, next-enough, one-goes-on, one-front, wanting-modes, unreported-more}
+use Rattle.load_rounds.proofs.GoingOn.{none-go-on, all-go-on, go-on-length, next-fits, next-enough, first-plans, one-goes-on, one-front, wanting-modes, unreported-more}
 use Rattle.load_rounds.proofs.Lacking.{wanting-append}
+use Rattle.load_rounds.proofs.Taking.{plans-set}
 use Rattle.load_rounds.proofs.together.go_on_all.Goals as goal
 
 pub loop-at-init : goal.loop-at-init
@@ -23,16 +24,13 @@ go_on-requires g c =
     let size : length cur ≡ length xs = go-on-length g.P.Execute.program g.P.Execute.text_of g.P.Execute.loaders g.P.Execute.fits i c.args.rounds m xs cur was.gone in
     let lt : i < length cur = omega (arith, c.loop-at-test.true, c.len-at-end.ensures, c.args.parts.now.ok.0, size) in
     let d = c.index_mut.result.now in
-    λ κs. (
-      (refl, tt),
-      (
-        record {
-          enough = next-enough g.P.Execute.program g.P.Execute.text_of g.P.Execute.loaders g.P.Execute.fits i c.args.rounds (length m.modes) m xs cur d lt c.index_mut.ensures.value was.gone c.requires.enough;
-          lined_up = ap modes_wanted was.wanted ∙ wanting-modes c.args.wants.now (fronts g.P.Execute.program m (take i (plans_in xs))) ∙ c.requires.lined_up;
-        },
-        next-fits g.P.Execute.program g.P.Execute.text_of g.P.Execute.loaders g.P.Execute.fits i c.args.rounds m xs cur d lt c.index_mut.ensures.value was.gone c.requires.fits,
-      ),
-    )
+    record {
+      can = record {
+        enough = next-enough g.P.Execute.program g.P.Execute.text_of g.P.Execute.loaders g.P.Execute.fits i c.args.rounds (length m.modes) m xs cur d lt c.index_mut.ensures.value was.gone c.requires.enough;
+        lined_up = ap modes_wanted was.wanted ∙ wanting-modes c.args.wants.now (fronts g.P.Execute.program m (take i (plans_in xs))) ∙ c.requires.lined_up;
+      };
+      fits = next-fits g.P.Execute.program g.P.Execute.text_of g.P.Execute.loaders g.P.Execute.fits i c.args.rounds m xs cur d lt c.index_mut.ensures.value was.gone c.requires.fits;
+    }
 
 pub loop-at-preserved : goal.loop-at-preserved
 loop-at-preserved g c =
@@ -63,3 +61,18 @@ returns-clause-went g c =
     let was = c.loop-at.invariant in
     let size : length cur ≡ length xs = go-on-length g.P.Execute.program g.P.Execute.text_of g.P.Execute.loaders g.P.Execute.fits i c.args.rounds m xs cur was.gone in
     all-go-on g.P.Execute.program g.P.Execute.text_of g.P.Execute.loaders g.P.Execute.fits i c.args.rounds m xs cur (omega (arith, c.loop-at-test.false, c.len-at-end.ensures, c.args.parts.now.ok.0, size)) was.gone
+
+pub returns-clause-kept : goal.returns-clause-kept
+returns-clause-kept g c = first-plans g.P.Execute.program g.P.Execute.text_of g.P.Execute.loaders g.P.Execute.fits c.loop-at.at c.args.rounds c.args.memory.now c.args.parts.now.items c.loop-at.parts.items c.loop-at.invariant.gone
+
+pub returns-in_err-is_next_missing-clause-kept : goal.returns-in_err-is_next_missing-clause-kept
+returns-in_err-is_next_missing-clause-kept g c =
+    let i = c.loop-at.at in
+    let m = c.args.memory.now in
+    let xs = c.args.parts.now.items in
+    let cur = c.loop-at.parts.items in
+    let was = c.loop-at.invariant in
+    let size : length cur ≡ length xs = go-on-length g.P.Execute.program g.P.Execute.text_of g.P.Execute.loaders g.P.Execute.fits i c.args.rounds m xs cur was.gone in
+    let lt : i < length cur = omega (arith, c.loop-at-test.true, c.len-at-end.ensures, c.args.parts.now.ok.0, size) in
+    plans-set i cur c.index_mut.result.now c.go_on.new.self lt c.index_mut.ensures.value c.go_on.ensures.kept
+    ∙ first-plans g.P.Execute.program g.P.Execute.text_of g.P.Execute.loaders g.P.Execute.fits i c.args.rounds m xs cur was.gone

@@ -1,3 +1,4 @@
+use Rattle.std.specs.Arc.{arc_value}
 use Rattle.std.proofs.Common.{◌≡◌, ◌∙◌, sym, ap, subst, refl, ◌≤◌, ◌+◌, ◌++◌, [], List, length, drop, drop_of_length-le, false, arith}
 use Rattle.std.proofs.lemmas.Bool.{both_ways}
 use Rattle.std.proofs.lemmas.List.{map-append}
@@ -41,16 +42,16 @@ gather-returns-in_ok-inside-in-Inline-clause-reached t c = λ spread ms knows is
 pub gather_field-returns-in-Some-get_mut-clause-rows : goal.gather_field-returns-in-Some-get_mut-clause-rows
 gather_field-returns-in-Some-get_mut-clause-rows t c = λ spread knows.
     let numbers = c.args.walk.now.numbers.now in
-    let s = set_of c.in-Some.set in
-    let added = c.in_ok-reached-in-Some.ensures.rows spread knows in
-    let reached = c.in_ok-reached-in-Some.ensures.reached spread knows in
+    let s = set_of (arc_value c.in-Some.set) in
+    let added = rw c.deref.ensures at (c.in_ok-reached-in-Some.ensures.rows spread knows) in
+    let reached = rw c.deref.ensures at (c.in_ok-reached-in-Some.ensures.reached spread knows) in
     rw c.in-Some.is (field-added numbers spread c.args.number (c.args.number + 1) c.len-place.result (tree.below s) (belows (written_in s)) c.args.rows.now.items c.push.new.self.items c.gather_set.new.rows.items
     c.new.result c.in_ok-reached-in-Some.field-0.reached.members refl (c.len-place.ensures ∙ c.args.rows.now.ok.0) c.in_ok-push.ensures.items added reached.members)
 
 pub gather_field-returns-in-None-get_mut-clause-rows : goal.gather_field-returns-in-None-get_mut-clause-rows
 gather_field-returns-in-None-get_mut-clause-rows t c = λ spread knows.
-    let added = c.in_ok-reached-in-Some.ensures.rows spread knows in
-    let place = field-place c.args.walk.now.numbers.now spread (c.args.number + 1) c.len-place.result (belows (written_in (set_of c.in-Some.set))) c.args.rows.now.items c.push.new.self.items c.gather_set.new.rows.items
+    let added = rw c.deref.ensures at (c.in_ok-reached-in-Some.ensures.rows spread knows) in
+    let place = field-place c.args.walk.now.numbers.now spread (c.args.number + 1) c.len-place.result (belows (written_in (set_of (arc_value c.in-Some.set)))) c.args.rows.now.items c.push.new.self.items c.gather_set.new.rows.items
     c.new.result (c.len-place.ensures ∙ c.args.rows.now.ok.0) c.in_ok-push.ensures.items added in
     let all = c.gather_set.new.rows.ok.0 in
     absurd (both_ways false refl (c.in-None-get_mut.ensures.variant.1 (omega (arith, place, all))))

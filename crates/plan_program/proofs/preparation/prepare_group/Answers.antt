@@ -1,4 +1,4 @@
-use Rattle.std.proofs.Common.{rules, ◌≡◌, ◌∙◌, Bool, false, Some, None, ap, sym}
+use Rattle.std.proofs.Common.{rules, ◌≡◌, ◌∙◌, ℕ, List, Bool, false, Some, None, ap, sym}
 use Rattle.std.specs.Prelude.{codes, bytes_eq}
 use Rattle.std.specs.Borrow.{Bor}
 use Rattle.std.specs.List.{slice_get}
@@ -22,12 +22,13 @@ returns-in_default-definition_of c =
     let plan : PlanOf = plan_of c.args.plan.now in
     let x : Bor Field = c.in-Some.first.now in
     let f : FieldOf = field_seen x.now in
-    let null_at : Place → PreparedOf = λ p. record { position = position_of c.args.group.key.now p false; asked = known Null } in
-    let starts : slice_get c.args.group.fields 0 ≡ Some x = search rules in
+    let null_at : Place → PreparedOf = λ p. record { position = position_of c.args.group.now.key.now p false; asked = known Null } in
+    let starts : slice_get c.args.group.now.fields 0 ≡ Some x = search rules in
     let own : bytes_eq f.name (codes "__typename") ≡ false = search rules in
     let none : field_in plan.definitions (name_in c.args.ty.now) f.name ≡ None = search rules in
-    let here = undefined plan (name_in c.args.ty.now) c.args.group x starts own none in
-    c.null_at-in_default-definition_of.ensures ∙ (ap (λ (p : Place). null_at p) c.place_of-place.ensures ∙ sym here)
+    let here = undefined plan (name_in c.args.ty.now) c.args.group.now x starts own none in
+    let keyed : List ℕ → Place → PreparedOf = λ k p. record { position = position_of k p false; asked = known Null } in
+    c.null_at-in_default-definition_of.ensures ∙ (ap (λ (k : List ℕ). keyed k c.place_of-place.result) c.in_ok-key.ensures.ok ∙ (ap (λ (p : Place). null_at p) c.place_of-place.ensures ∙ sym here))
 
 pub returns : goal.returns
 returns c =
@@ -35,13 +36,15 @@ returns c =
     let x : Bor Field = c.in-Some.first.now in
     let f : FieldOf = field_seen x.now in
     let d : Defined = field_of c.in-Some-definition_of.definition.now in
-    let made : Place → Bool → ValueFrom → PreparedOf = λ p n v. record { position = position_of c.args.group.key.now p n; asked = v } in
-    let starts : slice_get c.args.group.fields 0 ≡ Some x = search rules in
+    let keyed : List ℕ → Place → Bool → ValueFrom → PreparedOf = λ k p n v. record { position = position_of k p n; asked = v } in
+    let made : Place → Bool → ValueFrom → PreparedOf = λ p n v. record { position = position_of c.args.group.now.key.now p n; asked = v } in
+    let starts : slice_get c.args.group.now.fields 0 ≡ Some x = search rules in
     let own : bytes_eq f.name (codes "__typename") ≡ false = search rules in
     let some : field_in plan.definitions (name_in c.args.ty.now) f.name ≡ Some d = search rules in
-    let here = defined plan (name_in c.args.ty.now) c.args.group x d starts own some in
-    let asked : value_from_seen c.in_ok-asked.asked ≡ defined_by plan (name_in c.args.ty.now) f (fields_seen c.args.group.fields) d = search rules in
+    let here = defined plan (name_in c.args.ty.now) c.args.group.now x d starts own some in
+    let asked : value_from_seen c.in_ok-asked.asked ≡ defined_by plan (name_in c.args.ty.now) f (fields_seen c.args.group.now.fields) d = search rules in
     let non_null : c.is_non_null.result ≡ is_non_null d.of_type = search rules in
-    ap (λ (p : Place). made p c.is_non_null.result (value_from_seen c.in_ok-asked.asked)) c.place_of-place.ensures
+    ap (λ (k : List ℕ). keyed k c.place_of-place.result c.is_non_null.result (value_from_seen c.in_ok-asked.asked)) c.in_ok-key.ensures.ok
+    ∙ (ap (λ (p : Place). made p c.is_non_null.result (value_from_seen c.in_ok-asked.asked)) c.place_of-place.ensures
     ∙ (ap (λ (n : Bool). made f.place n (value_from_seen c.in_ok-asked.asked)) non_null
-    ∙ (ap (made f.place (is_non_null d.of_type)) asked ∙ sym here))
+    ∙ (ap (made f.place (is_non_null d.of_type)) asked ∙ sym here)))

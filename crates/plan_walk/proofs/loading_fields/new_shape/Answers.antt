@@ -4,7 +4,6 @@ use Rattle.gq_check.specs.Plans.{PlanOf, plan_of}
 use Rattle.plan_program.specs.FieldValues.{ChildrenOf}
 use Rattle.plan_program.specs.ObjectTypes.{name_in}
 use Rattle.plan_program.specs.Prepared.{children_seen}
-use Rattle.plan_program.specs.declared.prepared.Children.{Children}
 use Rattle.plan_walk.specs.Groups.{children_at, type_prepared, IsOnly, AreMade}
 use Rattle.plan_walk.specs.declared.loading_fields.LoadingField.{LoadingField}
 use Rattle.plan_walk.specs.declared.loading_fields.Member.{Member}
@@ -18,9 +17,8 @@ returns c =
     let mid : List LoadingField = c.meet.new.groups.items in
     let ms : List Member = (arc_value c.in_ok-members.members).items in
     let ty : List ℕ = name_in c.args.ty.now in
-    let only : c.is_found-only.result ≡ true → IsOnly plan.definitions (children_at old c.args.group) ty = λ e. c.requires.only (sym c.is_found-only.ensures ∙ e) in
-    let children : children_seen c.deref-2.result.now ≡ children_at old c.args.group =
-    ap (λ (b : Children). children_seen b) c.deref-2.ensures ∙ c.in_ok-children.ensures ∙ ap (λ (gs : List LoadingField). children_at gs c.args.group) c.deref.ensures.value in
+    let only : c.is_found-only.result ≡ true → IsOnly plan.definitions (children_at old c.args.group) ty = λ e. subst (λ (b : ChildrenOf). IsOnly plan.definitions b ty) c.requires.children (c.requires.below.only (sym c.is_found-only.ensures ∙ e)) in
+    let children : children_seen c.args.children.now ≡ children_at old c.args.group = c.requires.children in
     let made : AreMade old mid (type_prepared plan (children_at old c.args.group) ty) ms =
     subst (λ (b : ChildrenOf). AreMade old mid (type_prepared plan b ty) ms) children c.in_ok-members.ensures in
     let same : arc_value c.in_ok-try_clone.field-0 ≡ arc_value c.in_ok-members.members = grind arith in

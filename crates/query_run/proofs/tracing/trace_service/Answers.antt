@@ -9,4 +9,4 @@ returns-in-Err g c = inr (refl, record { unasked = Keeps-refl _; kept = Keeps-re
 pub returns : goal.returns
 returns g c =
     let served = c.trace_lines-stop.ensures (service_of c.args.service.now) (rw c.new-traced.ensures.client c.in-Ok.ensures) in
-    inl (c.in-Ok.client, c.trace_lines-stop.new.traced.client, rw c.into_parts-trace.ensures.trace (rw c.new-traced.ensures.client at (rw c.new-traced.ensures.trace at served)))
+    inl (c.in-Ok.client, c.trace_lines-stop.new.traced.client, rw c.into_parts-client.ensures.trace (rw c.new-traced.ensures.client at (rw c.new-traced.ensures.trace at served)))

@@ -1,9 +1,9 @@
-use Rattle.std.proofs.Common.{map}
-use Rattle.std.proofs.lemmas.Result.{IfOk-weaker, on_err_weaker}
+use Rattle.std.proofs.Common.{map, ap}
+use Rattle.std.proofs.lemmas.Result.{IfOk-weaker, on_ok_weaker, on_err_weaker}
 use Rattle.load_memory.specs.Keys.{key_of}
 use Rattle.load_memory.specs.Replies.{reply_of}
 use Rattle.load_rounds.specs.Histories.{any_tell}
-use Rattle.load_rounds.specs.Sessions.{state_of}
+use Rattle.load_rounds.specs.Sessions.{StateOf, state_of}
 use Rattle.load_rounds.proofs.States.{on-err}
 use Rattle.load_rounds.proofs.Stepping.{record-same}
 use Rattle.rounds_by_hand.proofs.LoadFar.{load-orders-have, load-told, loading-stops}
@@ -42,6 +42,16 @@ returns-clause-stopped g c =
     let own = rw (← c.loaders.ensures) at h.1 in
     let fit = rw c.loaders.ensures at (c.in_ok-replies.ensures.told own) in
     stops (state_of begun) h.0 (load-told g.S.LocalSource.may_tell s c.args.loader (map key_of c.args.keys.now) c.args.pending.items (map reply_of c.in_ok-replies.replies.items) c.requires.out.orders fit)) c.end_load.ensures.stopped
+
+pub returns-clause-stored : goal.returns-clause-stored
+returns-clause-stored g c =
+    on_ok_weaker c.end_load.result
+    (λ stored. record {
+      replies = map reply_of c.in_ok-replies.replies.items;
+      replied = rw c.loaders.ensures at c.in_ok-replies.ensures.as_given;
+      stored = ap (λ (s : StateOf g.row.S.Denot). s.memory) stored;
+    })
+    c.end_load.ensures.stored
 
 pub returns-in_err-replies-clause-recorded : goal.returns-in_err-replies-clause-recorded
 returns-in_err-replies-clause-recorded g c = record-same c.args.session.now.loaders

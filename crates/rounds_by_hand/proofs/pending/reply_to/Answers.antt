@@ -26,3 +26,9 @@ pub returns-in-In-clause-told : goal.returns-in-In-clause-told
 returns-in-In-clause-told g c = λ has.
     let own = rw c.in-In.is at has in
     rw c.in-In.is (given-is c.args.loaders.now (may_at g.S.LocalSource.may_tell c.args.loaders.now) c.in-In.reply own)
+
+pub returns-in-Out-clause-as_given : goal.returns-in-Out-clause-as_given
+returns-in-Out-clause-as_given g c =
+    let ls = c.args.loaders.now in
+    let ran = IfOk-weaker c.run.result _ _ (λ r is. ran-is ls g.S.LocalSource.may_tell c.in-Out.order (reply_of r) is) c.run.ensures in
+    rw c.in-Out.is ran

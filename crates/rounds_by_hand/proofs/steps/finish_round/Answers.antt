@@ -1,11 +1,12 @@
 use Rattle.std.proofs.Common.{◌≡◌, ◌≤◌, ap, subst, sym, refl, length}
 use Rattle.std.specs.Prelude.{All}
-use Rattle.std.proofs.lemmas.Result.{IfOk-weaker, on_err_weaker}
+use Rattle.std.proofs.lemmas.Result.{IfOk-weaker, on_ok_weaker, on_err_weaker}
 use Rattle.load_rounds.specs.Sessions.{state_of}
 use Rattle.load_rounds.specs.SharedRuns.{RunAllOf, IsRunAll}
 use Rattle.load_rounds.proofs.States.{on-err}
 use Rattle.rounds_by_hand.specs.Hands.{HasGone, out, far_of}
 use Rattle.rounds_by_hand.proofs.Far.{stops, steps-weaker, stops-weaker}
+use Rattle.rounds_by_hand.proofs.Storing.{stored-then}
 use Rattle.rounds_by_hand.proofs.steps.finish_round.Goals as goal
 
 pub returns-in_err-run-clause-stopped : goal.returns-in_err-run-clause-stopped
@@ -14,14 +15,14 @@ returns-in_err-run-clause-stopped g c =
     (subst (λ s. IsRunAll g.P.Execute.program g.P.Execute.text_of g.S.LocalSource.may_tell (state_of begun) s c.args.run) (sym c.in_err-run.ensures.lost) h.1))
 
 pub go_on-requires : goal.go_on-requires
-go_on-requires g c κs =
+go_on-requires g c =
     let loaders = g.P.Execute.loaders in
     let run = c.in_ok-run.run' in
     let ready = c.in_ok-run.ensures.ready in
     let plans : run.plans ≡ c.args.run.plans = ap (λ (r : RunAllOf g.row.P.Denot g.row.E.Denot). r.plans) ready in
     let stage = ap (λ (r : RunAllOf g.row.P.Denot g.row.E.Denot). r.stage) ready in
     let enough = subst (λ n. All (λ plan. loaders plan ≤ n) run.plans) (sym c.store.ensures.loaders) (subst (All (λ plan. loaders plan ≤ length c.args.session.now.loaders)) (sym plans) c.requires.enough) in
-    ((refl, tt), (record { ready = stage; within = enough }, c.in_ok-run.ensures.fits c.requires.fits))
+    record { can = record { ready = stage; within = enough }; fits = c.in_ok-run.ensures.fits c.requires.fits }
 
 pub returns-clause-gone : goal.returns-clause-gone
 returns-clause-gone g c =
@@ -46,3 +47,7 @@ returns-clause-stopped g c =
     on_err_weaker c.go_on.result
     (λ tells. stops-weaker program text_of may (λ begun. HasGone program text_of may begun c.args.session.now c.args.run.plans (out c.args.run c.args.pending.items)) (λ begun. IsRunAll program text_of may (state_of begun) (state_of mid) run) c.go_on.new.session c.args.run.plans run.plans plans
     (λ begun h. c.in_ok-run.ensures.ran h.2 (state_of begun) h.1) tells) c.go_on.ensures.stopped
+
+pub returns-clause-stored : goal.returns-clause-stored
+returns-clause-stored g c =
+    on_ok_weaker c.go_on.result (stored-then g.S.LocalSource.may_tell c.args.session.now c.store.new.session c.go_on.new.session c.args.pending.items c.in_ok-run.ensures.stored) c.go_on.ensures.same

@@ -1,7 +1,7 @@
-use Rattle.std.proofs.Common.{refl}
+use Rattle.std.proofs.Common.{refl, ap}
 use Rattle.execution.specs.Rounds.{may_at}
 use Rattle.load_rounds.specs.ByHand.{front_in}
-use Rattle.load_rounds.specs.Sessions.{state_of}
+use Rattle.load_rounds.specs.Sessions.{StateOf, state_of}
 use Rattle.load_rounds.specs.SharedRounds.{joint}
 use Rattle.load_rounds.proofs.States.{on-err}
 use Rattle.rounds_by_hand.proofs.Far.{none-answered, stops, unasked-many, lost-many, out-with}
@@ -33,8 +33,8 @@ returns-in_err-all_out-in-Round-clause-loaders g c =
     let next = rw c.in-Round.is at c.in_ok-answers.ensures.next in
     lost-many s (state_of c.next_round.new.session) (front_in s (joint g.P.Execute.program g.P.Execute.text_of c.args.run.plans)) next.0.entered
 
-pub returns-clause-gone : goal.returns-clause-gone
-returns-clause-gone g c =
+pub returns-in_ok-all_out-in-Round-clause-gone : goal.returns-in_ok-all_out-in-Round-clause-gone
+returns-in_ok-all_out-in-Round-clause-gone g c =
     let s = state_of c.args.session.now in
     let next = rw c.in-Round.is at c.in_ok-answers.ensures.next in
     let later = c.next_round.new.self in
@@ -50,8 +50,20 @@ returns-clause-gone g c =
       tells = tt;
     }
 
-pub returns-clause-loaders : goal.returns-clause-loaders
-returns-clause-loaders g c =
+pub returns-in_ok-all_out-in-Round-clause-loaders : goal.returns-in_ok-all_out-in-Round-clause-loaders
+returns-in_ok-all_out-in-Round-clause-loaders g c =
     let s = state_of c.args.session.now in
     let next = rw c.in-Round.is at c.in_ok-answers.ensures.next in
     lost-many s (state_of c.next_round.new.session) (front_in s (joint g.P.Execute.program g.P.Execute.text_of c.args.run.plans)) next.0.entered
+
+-- ---- a step on makes nothing known
+
+pub returns-in-Finished-clause-same : goal.returns-in-Finished-clause-same
+returns-in-Finished-clause-same g c =
+    let next = rw c.in-Finished.is at c.in_ok-answers.ensures.next in
+    ap (λ (s : StateOf g.row.S.Denot). s.memory) next.0.same
+
+pub returns-in_ok-all_out-in-Round-clause-same : goal.returns-in_ok-all_out-in-Round-clause-same
+returns-in_ok-all_out-in-Round-clause-same g c =
+    let next = rw c.in-Round.is at c.in_ok-answers.ensures.next in
+    ap (λ (s : StateOf g.row.S.Denot). s.memory) next.0.entered

@@ -1,8 +1,8 @@
-use Rattle.std.proofs.Common.{map, refl}
+use Rattle.std.proofs.Common.{map, ap}
 use Rattle.load_memory.specs.Replies.{reply_of}
 use Rattle.execution.specs.Program.{Program}
 use Rattle.load_rounds.specs.Histories.{any_tell}
-use Rattle.load_rounds.specs.Sessions.{state_of}
+use Rattle.load_rounds.specs.Sessions.{StateOf, state_of}
 use Rattle.load_rounds.specs.SharedRounds.{joint}
 use Rattle.rounds_by_hand.proofs.Far.{orders-have, received-in}
 use Rattle.rounds_by_hand.proofs.steps.store.Goals as goal
@@ -13,11 +13,14 @@ replies_to-requires g c =
     rw c.loaders.ensures (orders-have (state_of c.args.session.now) p c.args.pending.items c.requires.orders)
 
 pub take_owned-requires : goal.take_owned-requires
-take_owned-requires g c κs =
+take_owned-requires g c =
     let s = state_of c.args.session.now in
     let p : Program = joint g.P.Execute.program g.P.Execute.text_of c.args.run.plans in
     let fit = rw c.loaders.ensures at (c.in_ok-replies.ensures.any c.requires.answers) in
-    ((refl, tt), (record { out = c.requires.stage; latest = c.requires.latest }, received-in any_tell s p c.args.pending.items (map reply_of c.in_ok-replies.replies.items) c.requires.orders fit))
+    record {
+      out = record { out = c.requires.stage; latest = c.requires.latest };
+      round = received-in any_tell s p c.args.pending.items (map reply_of c.in_ok-replies.replies.items) c.requires.orders fit;
+    }
 
 pub returns-clause-ran : goal.returns-clause-ran
 returns-clause-ran g c = λ told.
@@ -27,3 +30,10 @@ returns-clause-ran g c = λ told.
     let fit = rw c.loaders.ensures at (c.in_ok-replies.ensures.told own) in
     let went = c.take_owned.ensures.run (received-in g.S.LocalSource.may_tell s p c.args.pending.items (map reply_of c.in_ok-replies.replies.items) c.requires.orders fit) in
     went
+
+pub returns-clause-stored : goal.returns-clause-stored
+returns-clause-stored g c = record {
+  replies = map reply_of c.in_ok-replies.replies.items;
+  replied = rw c.loaders.ensures at c.in_ok-replies.ensures.as_given;
+  stored = ap (λ (s : StateOf g.row.S.Denot). s.memory) c.in_ok-take_owned.ensures.taken.stored;
+}

@@ -86,16 +86,16 @@ maybe_set-returns-in_default-clause-reads t c =
     let none = c.in_default.ensures in
     rw none.0 (no_set, λ stack. no_set_comes _ _ stack none.1)
 
-pub maybe_set-returns-in_err-selections-clause-reads : goal.maybe_set-returns-in_err-selections-clause-reads
-maybe_set-returns-in_err-selections-clause-reads t c =
+pub maybe_set-returns-in_err-set-clause-reads : goal.maybe_set-returns-in_err-set-clause-reads
+maybe_set-returns-in_err-set-clause-reads t c =
     let p = err_from_is_err_and c.from_residual.result c.from_residual.ensures.1 in
-    rw (p.1, p.2) (λ stack. fails_earlier _ _ _ (maybe_set_opens stack (omega arith) c.in-Some.ensures) (c.in_err-selections.ensures.reads stack))
+    rw (p.1, p.2) (λ stack. fails_earlier _ _ _ (maybe_set_opens stack (omega arith) c.in-Some.ensures) (c.in_err-set.ensures.reads stack))
 
 pub maybe_set-returns-clause-reads : goal.maybe_set-returns-clause-reads
 maybe_set-returns-clause-reads t c =
     let some : c.args.room ≡ suc (c.args.room - 1) = omega arith in
-    let inner = c.in_ok-selections.ensures.reads in
-    (rw c.in-Some.ensures (a_set inner.0), λ stack. maybe_set_opens stack some c.in-Some.ensures ∙ inner.1 stack ∙ room_back stack _ some)
+    let inner = c.in_ok-set.ensures.reads in
+    (rw (c.in-Some.ensures, c.in_ok-new.ensures.ok) (a_set inner.0), λ stack. maybe_set_opens stack some c.in-Some.ensures ∙ inner.1 stack ∙ room_back stack _ some)
 
 pub selection-returns-in_err-field-clause-reads : goal.selection-returns-in_err-field-clause-reads
 selection-returns-in_err-field-clause-reads t c =

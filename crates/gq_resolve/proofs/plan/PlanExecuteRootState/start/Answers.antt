@@ -1,4 +1,4 @@
 use Rattle.gq_resolve.proofs.plan.PlanExecuteRootState.start.Goals as goal
 
 pub returns : goal.returns
-returns c = λ m. (c.new.ensures.plan, c.new.ensures.fits m)
+returns c = c.new.ensures

@@ -12,7 +12,7 @@ use Rattle.gq_resolve.proofs.root_state.RootState.poll_text.Goals as goal
 
 pub returns-then-out-clause-ok : goal.returns-then-out-clause-ok
 returns-then-out-clause-ok c = λ fits.
-    let plan : PlanOf = plan_of c.args.self.now.plan.now in
+    let plan : PlanOf = plan_of c.args.plan.now in
     let m : MemoryOf = c.args.memory.now in
     let far = rw c.in-Some.is at (c.in_ok-walked.ensures.ok fits) in
     let answer : AnsweredOf = completed (tree (plan_program plan) (lookup m)) in
@@ -21,7 +21,7 @@ returns-then-out-clause-ok c = λ fits.
 
 pub returns-clause-ok : goal.returns-clause-ok
 returns-clause-ok c = λ fits.
-    let plan : PlanOf = plan_of c.args.self.now.plan.now in
+    let plan : PlanOf = plan_of c.args.plan.now in
     let m : MemoryOf = c.args.memory.now in
     let far = rw c.in-Some.is at (c.in_ok-walked.ensures.ok fits) in
     let answer : AnsweredOf = completed (tree (plan_program plan) (lookup m)) in

@@ -11,7 +11,7 @@ use Rattle.gq_resolve.proofs.root_state.RootState.poll_text_within.Goals as goal
 
 pub returns-in_ok-text_or_refusal-in-Some-clause-ok : goal.returns-in_ok-text_or_refusal-in-Some-clause-ok
 returns-in_ok-text_or_refusal-in-Some-clause-ok c = λ fits.
-    let plan : PlanOf = plan_of c.args.self.now.plan.now in
+    let plan : PlanOf = plan_of c.args.plan.now in
     let m : MemoryOf = c.args.memory.now in
     let far = rw c.in-Some.is at (c.in_ok-walked.ensures.ok fits) in
     let answer : AnsweredOf = completed (tree (plan_program plan) (lookup m)) in

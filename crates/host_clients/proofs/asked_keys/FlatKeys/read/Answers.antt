@@ -4,7 +4,7 @@ use Rattle.std.proofs.lemmas.List.{map_push}
 use Rattle.load_memory.specs.Keys.{key_of}
 use Rattle.flat_orders.specs.Written.{keys_said}
 use Rattle.host_clients.specs.Laid.{laid_keys}
-use Rattle.host_clients.proofs.LaidKeys.{as-many-ends, few-next, keys-all, shape-fault, sum-next, texts-left}
+use Rattle.host_clients.proofs.LaidKeys.{as-many-ends, fit-next, keys-all, shape-fault, sum-next, texts-left}
 use Rattle.host_clients.proofs.ReadKeys.{so-next, so-all}
 use Rattle.host_clients.proofs.asked_keys.FlatKeys.read.Goals as goal
 
@@ -16,7 +16,7 @@ loop-count-preserved c =
       read = rw (pushed, map_push key_of c.loop-count.read.items key)
           (so-next c.args.self.now.shapes.now c.in_ok-texts.texts c.loop-count.count-index c.loop-count.at c.loop-count-test.true (map key_of c.loop-count.read.items) (key_of key) now.read c.in_ok-key.ensures.key);
       within = c.in_ok-key.ensures.within;
-      few = few-next c.args.self.now.shapes.now c.loop-count.count-index c.loop-count-test.true now.few c.in_ok-key.ensures.few;
+      fit = fit-next c.args.self.now.shapes.now c.loop-count.count-index c.loop-count-test.true c.args.width now.fit c.in_ok-key.ensures.fits;
       so_many = sum-next c.args.self.now.shapes.now c.loop-count.count-index c.loop-count-test.true c.loop-count.at now.so_many;
     }
 
@@ -31,17 +31,17 @@ returns-in_err-key-clause-first c =
     let now = c.loop-count.invariant in let k = laid_keys c.args.self.now in let texts = c.in_ok-texts.texts in
     let p = err_from_is_err_and c.from_residual-in_err-key.result c.from_residual-in_err-key.ensures.1 in
     rw (p.1, p.2)
-    (shape-fault k c.in_ok-texts.ensures.whole c.loop-count.count-index c.loop-count.at (length texts) now.few now.so_many (as-many-ends k.texts texts (length texts) c.in_ok-texts.ensures.ok refl) now.within
+    (shape-fault c.args.width k c.in_ok-texts.ensures.whole c.loop-count.count-index c.loop-count.at (length texts) now.fit now.so_many (as-many-ends k.texts texts (length texts) c.in_ok-texts.ensures.ok refl) now.within
     c.loop-count-test.true _ c.in_err-key.ensures.shape)
 
 pub returns-then-at-len-clause-first : goal.returns-then-at-len-clause-first
 returns-then-at-len-clause-first c =
     let now = c.loop-count.invariant in let k = laid_keys c.args.self.now in let texts = c.in_ok-texts.texts in
-    texts-left k c.in_ok-texts.ensures.whole c.loop-count.count-index c.loop-count.at c.len-len.result now.few now.so_many (as-many-ends k.texts texts c.len-len.result c.in_ok-texts.ensures.ok c.len-len.ensures)
+    texts-left c.args.width k c.in_ok-texts.ensures.whole c.loop-count.count-index c.loop-count.at c.len-len.result now.fit now.so_many (as-many-ends k.texts texts c.len-len.result c.in_ok-texts.ensures.ok c.len-len.ensures)
     c.loop-count-test.false c.if-at-len.true
 
 pub returns-clause-formed : goal.returns-clause-formed
 returns-clause-formed c =
     let now = c.loop-count.invariant in let k = laid_keys c.args.self.now in let texts = c.in_ok-texts.texts in
-    keys-all k c.in_ok-texts.ensures.whole c.loop-count.count-index c.loop-count.at c.len-len.result now.few now.so_many (as-many-ends k.texts texts c.len-len.result c.in_ok-texts.ensures.ok c.len-len.ensures)
+    keys-all c.args.width k c.in_ok-texts.ensures.whole c.loop-count.count-index c.loop-count.at c.len-len.result now.fit now.so_many (as-many-ends k.texts texts c.len-len.result c.in_ok-texts.ensures.ok c.len-len.ensures)
     c.loop-count-test.false (omega (arith, now.within, c.len-len.ensures)) c.if-at-len.false

@@ -8,6 +8,6 @@ abbrev pub invariant-loop-count : goal.invariant-loop-count
 invariant-loop-count l = record {
   read : SoFar l.self.shapes.now l.texts l.count-index l.at (map key_of l.read.items);
   within : l.at ≤ length l.texts;
-  few : All (λ n. n ≤ 2) (take l.count-index l.self.shapes.now);
+  fit : All (λ n. n ≡ l.width) (take l.count-index l.self.shapes.now);
   so_many : l.at ≡ sum (take l.count-index l.self.shapes.now);
 }

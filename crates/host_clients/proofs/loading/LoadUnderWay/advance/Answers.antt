@@ -1,7 +1,7 @@
 use Rattle.std.proofs.Common.{◌∙◌, ap, inl, map, refl}
 use Rattle.rounds_by_hand.specs.Pending.{order_in}
-use Rattle.host_clients.specs.AskedKeys.{keys_asked}
-use Rattle.host_clients.proofs.Loadings.{holds-load-after, loads-it, makes-load-round, outcomes-of, same-load, stops-load}
+use Rattle.host_clients.specs.Loads.{asked_by}
+use Rattle.host_clients.proofs.Loadings.{asked-same, holds-load-after, loads-it, makes-load-round, outcomes-of, same-load, stops-load}
 use Rattle.host_clients.proofs.loading.LoadUnderWay.advance.Goals as goal
 
 pub invariant_of-loaded : goal.invariant_of-loaded
@@ -9,13 +9,13 @@ invariant_of-loaded c =
     let said = c.in-Ok-Loaded in
     rw (c.in-Ok.ensures, c.deref.ensures.value)
     (outcomes-of c.self.inside.hand c.advance.new.self said.outcomes (rw said.field-0-is at said.ensures.loaded) c.advance.ensures.same c.into_client.result c.into_client.ensures.client
-    (keys_asked c.self.inside.asked) c.self.invariant.asked_is c.self.invariant.is_of)
+    (asked_by c.of-snapshot.result.value) (ap asked_by c.of-snapshot.ensures ∙ asked-same c.self.inside.hand c.advance.new.self c.advance.ensures.asked) c.self.invariant.is_of)
 
 pub invariant_of-loading : goal.invariant_of-loading
 invariant_of-loading c =
     let e = c.advance.ensures in
-    holds-load-after c.self.inside.hand c.advance.new.self e.asked e.underway e.same (keys_asked c.self.inside.asked) c.self.inside.orders c.in-Ok-orders_of.orders c.self.invariant
-    (c.in-Ok-orders_of.ensures ∙ ap (map order_in) c.orders-in-Ok-Round.ensures)
+    holds-load-after c.self.inside.hand c.advance.new.self e.asked e.underway e.same c.self.inside.server c.self.inside.orders c.in-Ok-orders_of.orders c.self.invariant
+    (c.in-Ok-orders_of.ensures ∙ ap (map order_in) c.orders.ensures)
 
 pub invariant_of-loading-in-Ok-Waiting : goal.invariant_of-loading-in-Ok-Waiting
 invariant_of-loading-in-Ok-Waiting c =
@@ -27,24 +27,24 @@ returns-in-Ok c =
     let said = c.in-Ok-Loaded in
     rw (← c.self.view_is, c.in-Ok.ensures, c.deref.ensures.value)
     (loads-it c.self.inside.hand c.advance.new.self said.outcomes (rw said.field-0-is at said.ensures.loaded) c.advance.ensures.same c.into_client.result c.into_client.ensures.client
-    (keys_asked c.self.inside.asked) c.self.invariant.asked_is (rw said.field-0-is at said.ensures.advanced))
+    (asked_by c.of-snapshot.result.value) (ap asked_by c.of-snapshot.ensures ∙ asked-same c.self.inside.hand c.advance.new.self c.advance.ensures.asked) (rw said.field-0-is at said.ensures.advanced) (rw said.field-0-is at said.ensures.stored))
 
-pub returns-in-Err-of : goal.returns-in-Err-of
-returns-in-Err-of c =
+pub returns-in-Ok-Loaded : goal.returns-in-Ok-Loaded
+returns-in-Ok-Loaded c =
     let e = c.advance.ensures in let back = c.into_client-in-Err-of in
     rw (← c.self.view_is) (stops-load c.self.inside.hand c.advance.new.self e.asked e.underway e.same back.result back.ensures.client back.ensures.stopped, inl refl)
 
 pub returns-in-Ok-orders_of : goal.returns-in-Ok-orders_of
 returns-in-Ok-orders_of c =
     let e = c.advance.ensures in let round = c.in-Ok-Round in
-    rw (← c.self.view_is) (makes-load-round c.self.inside.hand c.advance.new.self e.asked e.underway e.same (rw round.field-0-is at round.ensures.advanced))
+    rw (← c.self.view_is) (makes-load-round c.self.inside.hand c.advance.new.self e.asked e.underway e.same (rw round.field-0-is at round.ensures.advanced) (rw round.field-0-is at round.ensures.stored))
 
-pub returns-in-Err-orders_of : goal.returns-in-Err-orders_of
-returns-in-Err-orders_of c =
+pub returns-in-Ok-Round : goal.returns-in-Ok-Round
+returns-in-Ok-Round c =
     let e = c.advance.ensures in let back = c.into_client-in-Err-orders_of in
     rw (← c.self.view_is) (stops-load c.self.inside.hand c.advance.new.self e.asked e.underway e.same back.result back.ensures.client back.ensures.stopped, inl refl)
 
-pub returns-in-Err : goal.returns-in-Err
-returns-in-Err c =
+pub returns : goal.returns
+returns c =
     let e = c.advance.ensures in let back = c.into_client-in-Err in
     rw (← c.self.view_is) (stops-load c.self.inside.hand c.advance.new.self e.asked e.underway e.same back.result back.ensures.client back.ensures.stopped, inl refl)

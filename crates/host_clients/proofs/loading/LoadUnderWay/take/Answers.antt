@@ -1,6 +1,5 @@
 use Rattle.std.proofs.Common.{◌≡◌, Err}
 use Rattle.rounds_by_hand.specs.declared.fault.TakeFault.TheVariants.{NoMemory}
-use Rattle.host_clients.specs.AskedKeys.{keys_asked}
 use Rattle.rounds_by_hand.specs.LoadHands.{load_pending_in}
 use Rattle.host_clients.proofs.Loadings.{holds-load-taken, holds-load-over, load-stopped-at, takes-for-load}
 use Rattle.host_clients.proofs.Refusals.{waits-at}
@@ -9,13 +8,13 @@ use Rattle.host_clients.proofs.loading.LoadUnderWay.take.Goals as goal
 pub invariant_of-self : goal.invariant_of-self
 invariant_of-self c =
     let e = c.answer.ensures in
-    holds-load-taken c.self.inside.hand c.answer.new.self c.args.number c.args.answer c.in-Ok.ensures.taken c.in-Ok.ensures.underway e.client e.asked (keys_asked c.self.inside.asked)
+    holds-load-taken c.self.inside.hand c.answer.new.self c.args.number c.args.answer c.in-Ok.ensures.taken c.in-Ok.ensures.underway e.client e.asked c.self.inside.server
     c.self.inside.orders c.self.invariant
 
 pub invariant_of-self-in-Err-NoMemory : goal.invariant_of-self-in-Err-NoMemory
 invariant_of-self-in-Err-NoMemory c =
     let e = c.answer.ensures in let is : c.answer.result ≡ Err NoMemory = (let i = c.in-Err-NoMemory.is in let f = c.in-Err-NoMemory.field-0-is in cc) in
-    holds-load-over c.self.inside.hand c.answer.new.self (keys_asked c.self.inside.asked) c.self.inside.orders c.new.result c.in-Err-NoMemory.ensures.stopped e.client e.asked (e.refused.over is)
+    holds-load-over c.self.inside.hand c.answer.new.self c.self.inside.server c.self.inside.orders c.new.result c.in-Err-NoMemory.ensures.stopped e.client e.asked (e.refused.over is)
     c.new.ensures c.self.invariant
 
 pub returns-in-Ok-clause-taken : goal.returns-in-Ok-clause-taken

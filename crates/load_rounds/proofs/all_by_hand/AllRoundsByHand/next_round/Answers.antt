@@ -8,7 +8,7 @@ use Rattle.execution.specs.Front.{front}
 use Rattle.execution.specs.Rounds.{HasLoaders}
 use Rattle.load_rounds.specs.Sessions.{state_of, session_modes, memory_of}
 use Rattle.load_rounds.specs.SharedRounds.{requests, together, report_of, SharedHeadline, AreTexts}
-use Rattle.load_rounds.specs.Together.{reports_in, FindsAll}
+use Rattle.load_rounds.specs.Together.{plans_in, reports_in, FindsAll}
 use Rattle.load_rounds.specs.ByHand.{front_in, IsRound}
 use Rattle.load_rounds.specs.SharedRuns.{AreLast}
 use Rattle.load_rounds.proofs.GoingOn.{gone-fit, gone-plans, gone-within}
@@ -24,16 +24,16 @@ go_on-requires g c =
     let s = state_of c.args.session.now in
     let fit = rw (← c.self.view_is) at c.requires.fits in
     let enough = rw (← c.self.view_is) at c.requires.can.within in
-    λ κs. ((refl, tt), (subst (λ ps. All (λ plan. g.P.Execute.loaders plan ≤ length s.loaders) ps) (sym fit.plans) enough, fit.parts))
+    record { loaders = subst (λ ps. All (λ plan. g.P.Execute.loaders plan ≤ length s.loaders) ps) (sym fit.plans) enough; fits = fit.parts }
 
 pub returns-in_err-go_on-clause-run : goal.returns-in_err-go_on-clause-run
 returns-in_err-go_on-clause-run g c =
     let s = state_of c.args.session.now in
     let stage = rw (← c.self.view_is) at c.requires.can.ready in
-    rw c.go_on.ensures.stays.same (record {
+    rw (c.go_on.ensures.stays.same, c.go_on.ensures.kept) (record {
       since = λ begun ready.
           let was = rw stage at (rw (← c.self.view_is) at ready) in
-          run-failed g.P.Execute.program g.P.Execute.text_of g.P.Execute.loaders g.P.Execute.fits g.S.LocalSource.may_tell c.self.inside.plans.now begun s s c.self.inside.executions c.go_on.new.self was (inl refl);
+          run-failed g.P.Execute.program g.P.Execute.text_of g.P.Execute.loaders g.P.Execute.fits g.S.LocalSource.may_tell (plans_in c.self.inside.executions.parts) begun s s c.self.inside.executions c.go_on.new.self was (inl refl);
       answers = IfOk-from_err c.from_residual.result _ c.from_residual.ensures.0;
     })
 
@@ -41,10 +41,10 @@ pub returns-in_err-answers-in-None-clause-run : goal.returns-in_err-answers-in-N
 returns-in_err-answers-in-None-clause-run g c =
     let s = state_of c.args.session.now in
     let stage = rw (← c.self.view_is) at c.requires.can.ready in
-    rw c.go_on.ensures.stays.same (record {
+    rw (c.go_on.ensures.stays.same, c.take_answers.ensures.kept, c.go_on.ensures.kept) (record {
       since = λ begun ready.
           let was = rw stage at (rw (← c.self.view_is) at ready) in
-          run-failed g.P.Execute.program g.P.Execute.text_of g.P.Execute.loaders g.P.Execute.fits g.S.LocalSource.may_tell c.self.inside.plans.now begun s s c.self.inside.executions c.take_answers.new.self was (inl refl);
+          run-failed g.P.Execute.program g.P.Execute.text_of g.P.Execute.loaders g.P.Execute.fits g.S.LocalSource.may_tell (plans_in c.self.inside.executions.parts) begun s s c.self.inside.executions c.take_answers.new.self was (inl refl);
       answers = IfOk-from_err c.from_residual-in_err-answers-in-None.result _ c.from_residual-in_err-answers-in-None.ensures.0;
     })
 
@@ -52,7 +52,7 @@ pub returns-in_ok-answers-in-None-clause-next : goal.returns-in_ok-answers-in-No
 returns-in_ok-answers-in-None-clause-next g c =
     let m = memory_of c.args.session.now in
     let s = state_of c.args.session.now in
-    let plans = c.self.inside.plans.now in
+    let plans = plans_in c.self.inside.executions.parts in
     let t = c.self.inside.executions in
     let ys = c.go_on.new.self.parts in
     let fit = rw (← c.self.view_is) at c.requires.fits in
@@ -75,7 +75,7 @@ returns-in_ok-answers-in-None-clause-run g c =
     let session = c.args.session.now in
     let m = memory_of session in
     let s = state_of session in
-    let plans = c.self.inside.plans.now in
+    let plans = plans_in c.self.inside.executions.parts in
     let t = c.self.inside.executions in
     let ys = c.go_on.new.self.parts in
     let stage = rw (← c.self.view_is) at c.requires.can.ready in
@@ -88,10 +88,10 @@ returns-in_ok-answers-in-None-clause-run g c =
     let are = gone-plans g.P.Execute.program g.P.Execute.text_of g.P.Execute.loaders g.P.Execute.fits t.rounds m t.parts ys gone ∙ fit.plans in
     let enough = rw (← c.self.view_is) at c.requires.can.within in
     let same : c.take_answers.new.self.rounds ≡ c.self.inside.executions.rounds = omega (arith, c.in_ok-answers-in-None.ensures.counted, rw c.in-None.is at c.in_ok-go_on.ensures.counted.counted) in
-    rw c.go_on.ensures.stays.same (record {
+    rw (c.go_on.ensures.stays.same, c.take_answers.ensures.kept, c.go_on.ensures.kept) (record {
       since = λ begun ready.
           let was = rw stage at (rw (← c.self.view_is) at ready) in
-          run-finished g.P.Execute.program g.P.Execute.text_of g.P.Execute.loaders g.P.Execute.fits g.S.LocalSource.may_tell c.self.inside.plans.now begun s c.self.inside.executions c.take_answers.new.self was same none;
+          run-finished g.P.Execute.program g.P.Execute.text_of g.P.Execute.loaders g.P.Execute.fits g.S.LocalSource.may_tell (plans_in c.self.inside.executions.parts) begun s c.self.inside.executions c.take_answers.new.self was same none;
       answers = λ begun ready.
           let was = rw stage at (rw (← c.self.view_is) at ready) in
           let shared = ready-shared g.P.Execute.program g.P.Execute.text_of g.P.Execute.loaders g.P.Execute.fits g.S.LocalSource.may_tell plans begun s t was in
@@ -108,7 +108,7 @@ cut-requires g c =
 pub returns-in_err-orders-in-Some-clause-failed : goal.returns-in_err-orders-in-Some-clause-failed
 returns-in_err-orders-in-Some-clause-failed g c =
     let s = state_of c.args.session.now in
-    let p : Program = together (requests g.P.Execute.program g.P.Execute.text_of c.self.inside.plans.now) in
+    let p : Program = together (requests g.P.Execute.program g.P.Execute.text_of (plans_in c.self.inside.executions.parts)) in
     let fit = rw (← c.self.view_is) at c.requires.fits in
     let found : FindsAll p s (Some c.in-Some.wants) = subst (λ ps. FindsAll (together (requests g.P.Execute.program g.P.Execute.text_of ps)) s (Some c.in-Some.wants)) fit.plans (rw c.in-Some.is at c.in_ok-go_on.ensures.found) in
     let lost = rw c.go_on.ensures.stays.same at c.in_err-orders-in-Some.ensures.lost in
@@ -117,23 +117,23 @@ returns-in_err-orders-in-Some-clause-failed g c =
 pub returns-in_err-orders-in-Some-clause-run : goal.returns-in_err-orders-in-Some-clause-run
 returns-in_err-orders-in-Some-clause-run g c =
     let s = state_of c.args.session.now in
-    let p : Program = together (requests g.P.Execute.program g.P.Execute.text_of c.self.inside.plans.now) in
+    let p : Program = together (requests g.P.Execute.program g.P.Execute.text_of (plans_in c.self.inside.executions.parts)) in
     let stage = rw (← c.self.view_is) at c.requires.can.ready in
     let fit = rw (← c.self.view_is) at c.requires.fits in
     let found : FindsAll p s (Some c.in-Some.wants) = subst (λ ps. FindsAll (together (requests g.P.Execute.program g.P.Execute.text_of ps)) s (Some c.in-Some.wants)) fit.plans (rw c.in-Some.is at c.in_ok-go_on.ensures.found) in
     let lost = rw c.go_on.ensures.stays.same at c.in_err-orders-in-Some.ensures.lost in
-    record {
+    rw c.go_on.ensures.kept (record {
       since = λ begun ready.
           let was = rw stage at (rw (← c.self.view_is) at ready) in
-          run-failed g.P.Execute.program g.P.Execute.text_of g.P.Execute.loaders g.P.Execute.fits g.S.LocalSource.may_tell c.self.inside.plans.now begun s (state_of c.cut.new.self) c.self.inside.executions c.go_on.new.self was (inr (lost (front_in s p) found.2));
+          run-failed g.P.Execute.program g.P.Execute.text_of g.P.Execute.loaders g.P.Execute.fits g.S.LocalSource.may_tell (plans_in c.self.inside.executions.parts) begun s (state_of c.cut.new.self) c.self.inside.executions c.go_on.new.self was (inr (lost (front_in s p) found.2));
       answers = IfOk-from_err c.from_residual-in_err-orders-in-Some.result _ c.from_residual-in_err-orders-in-Some.ensures.0;
-    }
+    })
 
 pub returns-in_ok-orders-in-Some-clause-next : goal.returns-in_ok-orders-in-Some-clause-next
 returns-in_ok-orders-in-Some-clause-next g c =
     let m = memory_of c.args.session.now in
     let s = state_of c.args.session.now in
-    let plans = c.self.inside.plans.now in
+    let plans = plans_in c.self.inside.executions.parts in
     let t = c.self.inside.executions in
     let p : Program = together (requests g.P.Execute.program g.P.Execute.text_of plans) in
     let fit = rw (← c.self.view_is) at c.requires.fits in
@@ -159,7 +159,7 @@ pub returns-in_ok-orders-in-Some-clause-run : goal.returns-in_ok-orders-in-Some-
 returns-in_ok-orders-in-Some-clause-run g c =
     let m = memory_of c.args.session.now in
     let s = state_of c.args.session.now in
-    let plans = c.self.inside.plans.now in
+    let plans = plans_in c.self.inside.executions.parts in
     let t = c.self.inside.executions in
     let p : Program = together (requests g.P.Execute.program g.P.Execute.text_of plans) in
     let stage = rw (← c.self.view_is) at c.requires.can.ready in
@@ -173,12 +173,12 @@ returns-in_ok-orders-in-Some-clause-run g c =
     let entered = enters (front_in s p) found.2 in
     let numbered = rw c.go_on.ensures.stays.same at c.in_ok-orders-in-Some.ensures.numbered in
     let counted = round-counted s (state_of c.cut.new.self) p (length s.loaders) within (omega arith) found.0 entered in
-    record {
+    rw c.go_on.ensures.kept (record {
       since = λ begun ready.
           let was = rw stage at (rw (← c.self.view_is) at ready) in
           run-out g.P.Execute.program g.P.Execute.text_of g.P.Execute.loaders g.P.Execute.fits g.S.LocalSource.may_tell plans begun c.args.session.now (state_of c.cut.new.self) t c.go_on.new.self was (rw c.in-Some.is at c.in_ok-go_on.ensures.counted.counted) c.in_ok-go_on.ensures.went numbered found.0 entered counted;
       answers = tt;
-    }
+    })
 
 pub returns-in_ok-orders-in-Some-clause-left : goal.returns-in_ok-orders-in-Some-clause-left
 returns-in_ok-orders-in-Some-clause-left g c =
@@ -186,17 +186,17 @@ returns-in_ok-orders-in-Some-clause-left g c =
     let s = state_of session in
     let t = c.self.inside.executions in
     let ys = c.go_on.new.self.parts in
-    let p : Program = together (requests g.P.Execute.program g.P.Execute.text_of c.self.inside.plans.now) in
+    let p : Program = together (requests g.P.Execute.program g.P.Execute.text_of (plans_in c.self.inside.executions.parts)) in
     let fit = rw (← c.self.view_is) at c.requires.fits in
     let found : FindsAll p s (Some c.in-Some.wants) = subst (λ ps. FindsAll (together (requests g.P.Execute.program g.P.Execute.text_of ps)) s (Some c.in-Some.wants)) fit.plans (rw c.in-Some.is at c.in_ok-go_on.ensures.found) in
     let enters = rw c.go_on.ensures.stays.same at c.in_ok-orders-in-Some.ensures.entered in
     let asked = lost-grows session c.cut.new.self (front_in s p) (enters (front_in s p) found.2) in
     let gone = c.in_ok-go_on.ensures.went in
     record {
-      plans = rw (← c.self.view_is) refl;
+      plans = rw (← c.self.view_is) c.go_on.ensures.kept;
       bounded = c.go_on.ensures.counted.bounded;
       fitting = λ out later grown. record {
-        plans = gone-plans g.P.Execute.program g.P.Execute.text_of g.P.Execute.loaders g.P.Execute.fits t.rounds (memory_of session) t.parts ys gone ∙ fit.plans;
+        plans = refl;
         parts = gone-fit g.P.Execute.program g.P.Execute.text_of g.P.Execute.loaders g.P.Execute.fits t.rounds (memory_of session) later t.parts ys gone (grows-trans (memory_of session) (memory_of c.cut.new.self) later asked grown);
       };
     }

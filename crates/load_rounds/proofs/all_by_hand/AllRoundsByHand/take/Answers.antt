@@ -8,6 +8,7 @@ use Rattle.execution.specs.Rounds.{rule_of, may_at}
 use Rattle.load_rounds.specs.Sessions.{state_of, rules_of, memory_of}
 use Rattle.load_rounds.specs.ByHand.{front_in}
 use Rattle.load_rounds.specs.SharedRounds.{requests, together}
+use Rattle.load_rounds.specs.Together.{plans_in}
 use Rattle.load_rounds.proofs.Growing.{received-grows}
 use Rattle.load_rounds.proofs.Runs.{received-below, received-moved, asked-ran}
 use Rattle.load_rounds.proofs.SharedRunning.{run-taken, run-lost}
@@ -26,7 +27,7 @@ pub returns-in_err-receive-clause-run : goal.returns-in_err-receive-clause-run
 returns-in_err-receive-clause-run g c = λ begun out.
     let was = rw (← c.self.view_is) at out in
     let stage = rw (← c.self.view_is) at c.requires.out.out in
-    rw c.in_err-receive.ensures.kept (run-lost g.P.Execute.program g.P.Execute.text_of g.P.Execute.loaders g.P.Execute.fits g.S.LocalSource.may_tell c.self.inside.plans.now begun (state_of c.args.session.now) c.self.inside.executions (rw stage at was))
+    rw c.in_err-receive.ensures.kept (run-lost g.P.Execute.program g.P.Execute.text_of g.P.Execute.loaders g.P.Execute.fits g.S.LocalSource.may_tell (plans_in c.self.inside.executions.parts) begun (state_of c.args.session.now) c.self.inside.executions (rw stage at was))
 
 pub returns-clause-run : goal.returns-clause-run
 returns-clause-run g c = λ begun out.
@@ -34,7 +35,7 @@ returns-clause-run g c = λ begun out.
     let was = rw (← c.self.view_is) at out in
     let stage = rw (← c.self.view_is) at c.requires.out.out in
     let round = rw (← c.self.view_is) at c.requires.round.round in
-    rw c.in_ok-receive.ensures.received (run-taken g.P.Execute.program g.P.Execute.text_of g.P.Execute.loaders g.P.Execute.fits g.S.LocalSource.may_tell c.self.inside.plans.now begun s c.self.inside.executions (map shown c.args.receipts.now) c.receive.ensures.limited round (rw stage at was))
+    rw c.in_ok-receive.ensures.received (run-taken g.P.Execute.program g.P.Execute.text_of g.P.Execute.loaders g.P.Execute.fits g.S.LocalSource.may_tell (plans_in c.self.inside.executions.parts) begun s c.self.inside.executions (map shown c.args.receipts.now) c.receive.ensures.limited round (rw stage at was))
 
 pub returns-clause-taken : goal.returns-clause-taken
 returns-clause-taken g c = record {

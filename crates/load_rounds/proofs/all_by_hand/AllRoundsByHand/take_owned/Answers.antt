@@ -8,6 +8,7 @@ use Rattle.load_rounds.specs.Histories.{any_tell}
 use Rattle.load_rounds.specs.Sessions.{state_of, rules_of, memory_of}
 use Rattle.load_rounds.specs.ByHand.{front_in}
 use Rattle.load_rounds.specs.SharedRounds.{requests, together}
+use Rattle.load_rounds.specs.Together.{plans_in}
 use Rattle.load_rounds.proofs.Growing.{received-grows}
 use Rattle.load_rounds.proofs.Runs.{received-below}
 use Rattle.load_rounds.proofs.SharedRunning.{run-taken, run-lost}
@@ -26,7 +27,7 @@ pub returns-in_err-receive_owned-clause-run : goal.returns-in_err-receive_owned-
 returns-in_err-receive_owned-clause-run g c = λ round begun out.
     let was = rw (← c.self.view_is) at out in
     let stage = rw (← c.self.view_is) at c.requires.out.out in
-    rw c.in_err-receive_owned.ensures.kept (run-lost g.P.Execute.program g.P.Execute.text_of g.P.Execute.loaders g.P.Execute.fits g.S.LocalSource.may_tell c.self.inside.plans.now begun (state_of c.args.session.now) c.self.inside.executions (rw stage at was))
+    rw c.in_err-receive_owned.ensures.kept (run-lost g.P.Execute.program g.P.Execute.text_of g.P.Execute.loaders g.P.Execute.fits g.S.LocalSource.may_tell (plans_in c.self.inside.executions.parts) begun (state_of c.args.session.now) c.self.inside.executions (rw stage at was))
 
 pub returns-clause-run : goal.returns-clause-run
 returns-clause-run g c = λ round begun out.
@@ -34,7 +35,7 @@ returns-clause-run g c = λ round begun out.
     let was = rw (← c.self.view_is) at out in
     let stage = rw (← c.self.view_is) at c.requires.out.out in
     let own = rw (← c.self.view_is) at round in
-    rw c.in_ok-receive_owned.ensures.received (run-taken g.P.Execute.program g.P.Execute.text_of g.P.Execute.loaders g.P.Execute.fits g.S.LocalSource.may_tell c.self.inside.plans.now begun s c.self.inside.executions (map reply_of c.args.replies.items) c.receive_owned.ensures.limited own (rw stage at was))
+    rw c.in_ok-receive_owned.ensures.received (run-taken g.P.Execute.program g.P.Execute.text_of g.P.Execute.loaders g.P.Execute.fits g.S.LocalSource.may_tell (plans_in c.self.inside.executions.parts) begun s c.self.inside.executions (map reply_of c.args.replies.items) c.receive_owned.ensures.limited own (rw stage at was))
 
 pub returns-clause-taken : goal.returns-clause-taken
 returns-clause-taken g c = record {

@@ -11,7 +11,10 @@ begin-session-requires g c =
     let plan = c.self.inside.plan.now in
     let far = far_of c.self.inside.far in
     let can = rw (← c.self.view_is) at c.requires in
-    λ κs. ((refl, tt), rw c.replace.ensures.value (can-begin may (g.P.Execute.fits plan) (g.P.Execute.loaders plan) (g.P.Execute.program plan) far can, can-fits may (g.P.Execute.fits plan) (g.P.Execute.loaders plan) (g.P.Execute.program plan) far can))
+    rw c.replace.ensures.value (record {
+      can = can-begin may (g.P.Execute.fits plan) (g.P.Execute.loaders plan) (g.P.Execute.program plan) far can;
+      fits = can-fits may (g.P.Execute.fits plan) (g.P.Execute.loaders plan) (g.P.Execute.program plan) far can;
+    })
 
 pub turn-requires : goal.turn-requires
 turn-requires g c =
@@ -21,7 +24,7 @@ turn-requires g c =
     let can = rw (← c.self.view_is) at c.requires in
     let cur = state_of c.begin-session.result.session in
     let at : begun far ≡ Some cur = rw c.replace.ensures.value at c.begin-session.ensures.state in
-    λ κs. ((refl, tt), (can-ask may (g.P.Execute.fits plan) (g.P.Execute.loaders plan) (g.P.Execute.program plan) far cur at can, c.begin-session.ensures.fits))
+    record { loaders = can-ask may (g.P.Execute.fits plan) (g.P.Execute.loaders plan) (g.P.Execute.program plan) far cur at can; fits = c.begin-session.ensures.fits }
 
 pub returns-in-Ok-Ready-clause-value : goal.returns-in-Ok-Ready-clause-value
 returns-in-Ok-Ready-clause-value g c =

@@ -15,7 +15,7 @@ pub execute-requires : goal.execute-requires
 execute-requires g c =
     let enough = rw (← c.self.view_is) at c.requires.can.within in
     let fits = rw (← c.self.view_is) at c.requires.fits in
-    λ κs. ((refl, tt), (enough, fits))
+    record { loaders = enough; fits = fits }
 
 pub returns-in-Ready-clause-run : goal.returns-in-Ready-clause-run
 returns-in-Ready-clause-run g c =

@@ -16,7 +16,7 @@ loop-progress-init g c = record {
 pub turn-requires : goal.turn-requires
 turn-requires g c =
     let size = in-loaders g.S.LocalSource.may_tell (state_of c.args.self.now) (state_of c.loop-progress.self) (g.P.Execute.program c.args.plan.now) c.loop-progress.rounds c.loop-progress.invariant.rounds in
-    λ κs. ((refl, tt), (omega (arith, c.requires, size), c.loop-progress.invariant.fits))
+    record { loaders = omega (arith, c.requires, size); fits = c.loop-progress.invariant.fits }
 
 pub returns-in_err-text-clause-stopped : goal.returns-in_err-text-clause-stopped
 returns-in_err-text-clause-stopped g c =

@@ -18,7 +18,7 @@ pub returns-in_err-together-clause-stopped : goal.returns-in_err-together-clause
 returns-in_err-together-clause-stopped g c =
     let old = state_of c.args.self.now in
     let new = state_of c.forget.new.self in
-    let p : Program = together (requests g.P.Execute.program g.P.Execute.text_of c.args.plans.now) in
+    let p : Program = together (requests g.P.Execute.program g.P.Execute.text_of c.args.plans.items) in
     on-err c.from_residual.result (in-stops g.S.LocalSource.may_tell old new new p 0 (in-none g.S.LocalSource.may_tell old new p c.forget.ensures.after) (inl refl))
 
 pub loop-together-init : goal.loop-together-init
@@ -27,7 +27,7 @@ loop-together-init g c =
     let t = c.in_ok-together.together in
     record {
       plans = c.in_ok-together.ensures.same;
-      shared = rw c.in_ok-together.ensures.rounds (shared-none g.P.Execute.program g.P.Execute.text_of g.P.Execute.loaders g.P.Execute.fits g.S.LocalSource.may_tell c.args.plans.now old (state_of c.forget.new.self) t.parts c.forget.ensures.after c.in_ok-together.ensures.unreported);
+      shared = rw c.in_ok-together.ensures.rounds (shared-none g.P.Execute.program g.P.Execute.text_of g.P.Execute.loaders g.P.Execute.fits g.S.LocalSource.may_tell c.args.plans.items old (state_of c.forget.new.self) t.parts c.forget.ensures.after c.in_ok-together.ensures.unreported);
       fits = c.in_ok-together.ensures.fitting (memory_of c.forget.new.self);
     }
 
@@ -35,12 +35,12 @@ pub go_on-requires : goal.go_on-requires
 go_on-requires g c =
     let old = state_of c.args.self.now in
     let cur = state_of c.loop-together.self in
-    let plans = c.args.plans.now in
+    let plans = c.args.plans.items in
     let p : Program = together (requests g.P.Execute.program g.P.Execute.text_of plans) in
     let was = c.loop-together.invariant in
     let size : length old.loaders ≡ length cur.loaders = sym (in-loaders g.S.LocalSource.may_tell old cur p c.loop-together.together.rounds was.shared.is) in
     let enough = subst (λ n. All (λ plan. g.P.Execute.loaders plan ≤ n) plans) size c.requires in
-    λ κs. ((refl, tt), (subst (λ ps. All (λ plan. g.P.Execute.loaders plan ≤ length cur.loaders) ps) (sym was.plans) enough, was.fits))
+    record { loaders = subst (λ ps. All (λ plan. g.P.Execute.loaders plan ≤ length cur.loaders) ps) (sym was.plans) enough; fits = was.fits }
 
 pub ask-requires : goal.ask-requires
 ask-requires g c =
@@ -51,7 +51,7 @@ pub returns-in_err-ask-clause-stopped : goal.returns-in_err-ask-clause-stopped
 returns-in_err-ask-clause-stopped g c =
     let old = state_of c.args.self.now in
     let cur = state_of c.loop-together.self in
-    let p : Program = together (requests g.P.Execute.program g.P.Execute.text_of c.args.plans.now) in
+    let p : Program = together (requests g.P.Execute.program g.P.Execute.text_of c.args.plans.items) in
     let was = c.loop-together.invariant in
     let found : FindsAll p cur (Some c.in-Some.wants) = subst (λ ps. FindsAll (together (requests g.P.Execute.program g.P.Execute.text_of ps)) cur (Some c.in-Some.wants)) was.plans (rw c.in-Some.is at c.in_ok-wants.ensures.found) in
     let lost = rw c.go_on.ensures.stays.same at c.in_err-ask.ensures.lost in
@@ -64,7 +64,7 @@ loop-together-preserved g c =
     let cur = state_of s in
     let t = c.loop-together.together in
     let later = c.go_on.new.self in
-    let plans = c.args.plans.now in
+    let plans = c.args.plans.items in
     let p : Program = together (requests g.P.Execute.program g.P.Execute.text_of plans) in
     let loads = front (session_modes cur) p cur.memory in
     let was = c.loop-together.invariant in
@@ -87,7 +87,7 @@ returns-clause-answers g c =
     let cur = state_of s in
     let t = c.loop-together.together in
     let later = c.go_on.new.self in
-    let plans = c.args.plans.now in
+    let plans = c.args.plans.items in
     let was = c.loop-together.invariant in
     let found = found-none (together (requests g.P.Execute.program g.P.Execute.text_of (plans_in t.parts))) cur _ c.in_default.not-Some c.in_ok-wants.ensures.found in
     let none = subst (λ ps. front (session_modes cur) (together (requests g.P.Execute.program g.P.Execute.text_of ps)) cur.memory ≡ []) was.plans found in
@@ -106,12 +106,12 @@ pub returns-clause-stopped : goal.returns-clause-stopped
 returns-clause-stopped g c =
     let old = state_of c.args.self.now in
     let cur = state_of c.loop-together.self in
-    let p : Program = together (requests g.P.Execute.program g.P.Execute.text_of c.args.plans.now) in
+    let p : Program = together (requests g.P.Execute.program g.P.Execute.text_of c.args.plans.items) in
     rw c.go_on.ensures.stays.same (on-err c.take_answers.result (in-stops g.S.LocalSource.may_tell old cur cur p c.loop-together.together.rounds c.loop-together.invariant.shared.is (inl refl)))
 
 pub returns-in_err-wants-clause-stopped : goal.returns-in_err-wants-clause-stopped
 returns-in_err-wants-clause-stopped g c =
     let old = state_of c.args.self.now in
     let cur = state_of c.loop-together.self in
-    let p : Program = together (requests g.P.Execute.program g.P.Execute.text_of c.args.plans.now) in
+    let p : Program = together (requests g.P.Execute.program g.P.Execute.text_of c.args.plans.items) in
     rw c.go_on.ensures.stays.same (on-err c.from_residual-in_err-wants.result (in-stops g.S.LocalSource.may_tell old cur cur p c.loop-together.together.rounds c.loop-together.invariant.shared.is (inl refl)))

@@ -6,8 +6,8 @@ use Rattle.load_rounds.proofs.session.Session.answer_all.Given as goal
 
 abbrev pub invariant-loop-together : goal.invariant-loop-together
 invariant-loop-together g l = record {
-  plans : plans_in l.together.parts ≡ l.plans;
-  shared : InShared g.P.Execute.program g.P.Execute.text_of g.P.Execute.loaders g.P.Execute.fits g.S.LocalSource.may_tell l.plans (state_of l.fn.self) (state_of l.self) l.together.parts l.together.rounds;
+  plans : plans_in l.together.parts ≡ l.fn.plans.items;
+  shared : InShared g.P.Execute.program g.P.Execute.text_of g.P.Execute.loaders g.P.Execute.fits g.S.LocalSource.may_tell l.fn.plans.items (state_of l.fn.self) (state_of l.self) l.together.parts l.together.rounds;
   fits : FitParts g.P.Execute.program g.P.Execute.text_of g.P.Execute.loaders g.P.Execute.fits l.together.parts (memory_of l.self);
 }
 

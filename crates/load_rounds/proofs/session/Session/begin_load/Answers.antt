@@ -58,6 +58,18 @@ returns-in_ok-cut-in-Some-clause-begun g c =
     let cut : orders ≡ round_orders (rules_of old) (asked_for old loader keys) = subst (λ (b : StateOf g.row.S.Denot). orders ≡ round_orders (rules_of b) (front_at b loader keys)) forgot (c.in_ok-cut-in-Some.ensures.orders loads found.2) in
     (is, cut ∙ sym (loading-orders old new loader keys is))
 
+-- ---- failed batches were forgotten, and nothing else became known or unknown
+
+pub returns-in_ok-outcomes-in-None-clause-forgot : goal.returns-in_ok-outcomes-in-None-clause-forgot
+returns-in_ok-outcomes-in-None-clause-forgot g c = ap (λ (s : StateOf g.row.S.Denot). s.memory) c.forget.ensures.after
+
+pub returns-in_ok-cut-in-Some-clause-forgot : goal.returns-in_ok-cut-in-Some-clause-forgot
+returns-in_ok-cut-in-Some-clause-forgot g c =
+    let mid = state_of c.forget.new.self in
+    let found = rw c.in-Some.is at c.in_ok-wanted_keys.ensures in
+    let entered = c.in_ok-cut-in-Some.ensures.entered (front_at mid c.args.loader (map key_of c.args.keys.now)) found.2 in
+    ap (λ (s : StateOf g.row.S.Denot). s.memory) entered ∙ ap (λ (s : StateOf g.row.S.Denot). s.memory) c.forget.ensures.after
+
 -- ---- every order is on record
 
 pub returns-then-loader-loaders-clause-recorded : goal.returns-then-loader-loaders-clause-recorded

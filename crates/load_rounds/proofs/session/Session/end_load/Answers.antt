@@ -6,7 +6,7 @@ use Rattle.load_rounds.specs.Histories.{any_tell}
 use Rattle.load_rounds.specs.Sessions.{state_of}
 use Rattle.load_rounds.proofs.Loadings.{told-within, loading-lost, loading-once, loading-known, same-recorded, end-recorded}
 use Rattle.load_rounds.proofs.Runs.{if-ok}
-use Rattle.load_rounds.proofs.States.{on-err}
+use Rattle.load_rounds.proofs.States.{on-err, when-ok}
 use Rattle.load_rounds.proofs.session.Session.end_load.Goals as goal
 
 pub receive_owned-requires : goal.receive_owned-requires
@@ -35,6 +35,9 @@ returns-clause-loaded g c =
 pub returns-clause-stopped : goal.returns-clause-stopped
 returns-clause-stopped g c =
     on-err c.outcomes.result (λ begun is told. inl (loading-once begun (state_of c.args.self.now) c.args.loader (map key_of c.args.keys.now) is g.S.LocalSource.may_tell (map reply_of c.args.replies.items) told (state_of c.receive_owned.new.self) c.in_ok-receive_owned.ensures.received))
+
+pub returns-clause-stored : goal.returns-clause-stored
+returns-clause-stored g c = when-ok c.outcomes.result c.in_ok-receive_owned.ensures.received
 
 pub returns-clause-recorded : goal.returns-clause-recorded
 returns-clause-recorded g c = end-recorded (state_of c.args.self.now) (state_of c.receive_owned.new.self) (map reply_of c.args.replies.items) c.in_ok-receive_owned.ensures.received

@@ -1,4 +1,4 @@
-use Rattle.std.proofs.Common.{◌≡◌, map, length, ap, subst, ◌∙◌, sym, arith, refl}
+use Rattle.std.proofs.Common.{◌≡◌, map, length, ap, subst, ◌∙◌, sym, arith}
 use Rattle.std.proofs.lemmas.List.{length-map}
 use Rattle.load_memory.specs.Pairs.{MemoryOf}
 use Rattle.load_queue.specs.Wanted.{nothing_wanted}
@@ -15,16 +15,13 @@ execute-requires g c =
     let m : MemoryOf = c.memory-memory.result.now in
     let pairs : m.pairs ≡ s.pairs = rw c.begin_wants.ensures.same at c.memory-memory.ensures.pairs in
     let modes : m.modes ≡ session_modes (state_of s) = rw c.begin_wants.ensures.same at c.memory-memory.ensures.modes in
-    λ κs. (
-      (refl, tt),
-      (
-        record {
-          enough = omega (arith, c.requires.loaders, rules-size (state_of s), ap length modes);
-          lined_up = rw c.in_ok-wants.ensures.none (nothing-modes (session_modes (state_of s)) ∙ sym modes);
-        },
-        subst (λ (n : MemoryOf). g.P.Execute.fits c.args.plan.now c.args.progress.now n) (sym (memory-is s m pairs modes)) c.requires.fits,
-      ),
-    )
+    record {
+      can = record {
+        enough = omega (arith, c.requires.loaders, rules-size (state_of s), ap length modes);
+        lined_up = rw c.in_ok-wants.ensures.none (nothing-modes (session_modes (state_of s)) ∙ sym modes);
+      };
+      fits = subst (λ (n : MemoryOf). g.P.Execute.fits c.args.plan.now c.args.progress.now n) (sym (memory-is s m pairs modes)) c.requires.fits;
+    }
 
 pub returns-in-Ready-clause-found : goal.returns-in-Ready-clause-found
 returns-in-Ready-clause-found g c =

@@ -1,4 +1,4 @@
-use Rattle.std.proofs.Common.{◌≡◌, ◌≤◌, [], map, length, ap, subst, ◌∙◌, sym, refl}
+use Rattle.std.proofs.Common.{◌≡◌, ◌≤◌, [], map, length, ap, subst, ◌∙◌, sym}
 use Rattle.std.specs.Prelude.{All}
 use Rattle.load_memory.specs.Pairs.{MemoryOf, look}
 use Rattle.load_queue.specs.Wanted.{nothing_wanted}
@@ -22,16 +22,11 @@ go_on_all-requires g c =
     let size : length s.loaders ≡ length m.modes = sym (rules-size s) ∙ sym (ap length modes) in
     let enough = rw (← c.self.view_is) at c.requires.loaders in
     let fit = rw (← c.self.view_is) at c.requires.fits in
-    λ κs. (
-      (refl, tt),
-      (
-        subst (λ n. All (λ plan. g.P.Execute.loaders plan ≤ n) (plans_in xs)) size enough,
-        (
-          rw c.in_ok-wants.ensures.none (nothing-modes (session_modes s) ∙ sym modes),
-          subst (λ (n : MemoryOf). FitParts g.P.Execute.program g.P.Execute.text_of g.P.Execute.loaders g.P.Execute.fits xs n) (sym is) fit,
-        ),
-      ),
-    )
+    record {
+      enough = subst (λ n. All (λ plan. g.P.Execute.loaders plan ≤ n) (plans_in xs)) size enough;
+      lined_up = rw c.in_ok-wants.ensures.none (nothing-modes (session_modes s) ∙ sym modes);
+      fits = subst (λ (n : MemoryOf). FitParts g.P.Execute.program g.P.Execute.text_of g.P.Execute.loaders g.P.Execute.fits xs n) (sym is) fit;
+    }
 
 pub returns-else-is_missing-clause-found : goal.returns-else-is_missing-clause-found
 returns-else-is_missing-clause-found g c =

@@ -16,6 +16,8 @@ use Rattle.execution.specs.Loads.{Reader}
 use Rattle.execution.specs.Program.{Fault, Program, Is, Under, ListOf, ObjectOf}
 use Rattle.gq_check.specs.Plans.{PlanOf, plan_of}
 use Rattle.plan_program.specs.PlanPrograms.{TypeOf, object_type, type_fault, type_of_row, places, read_key, read_if, typed_object, object_program}
+use Rattle.plan_program.specs.FieldValues.{ChildrenOf}
+use Rattle.plan_program.specs.declared.prepared.Children.{Children}
 use Rattle.plan_walk.specs.Groups.{children_at, then_at, steps_in, Covers, AreOnly, IsShaped}
 use Rattle.plan_walk.specs.Puts.{Ends, Waits, View, OnwardOf, puts}
 use Rattle.plan_walk.specs.Positions.{is_non_null, onward_of, later_of}
@@ -26,8 +28,7 @@ use Rattle.plan_walk.specs.declared.positions.Onward.{Onward}
 use Rattle.plan_walk.specs.Following.{followed_puts}
 use Rattle.plan_walk.specs.declared.loading_fields.LoadingField.{LoadingField}
 use Rattle.plan_walk.specs.declared.loading_fields.Member.{Member}
-use Rattle.plan_walk.specs.declared.loading_fields.RowUse.TheVariants.{Joined}
-use Rattle.plan_walk.proofs.Touring.{Laws, goes-put, goes-as, walks-as, goes-probed, goes-entered, goes-ended, goes-made, goes-only-none, goes-only, goes-let_go, fields_put, fields-more, known-at, items-more, items-whole, joined_by, after-first, after-all, after-joined, after-followed, after-missing, after-row, after-head, map-map}
+use Rattle.plan_walk.proofs.Touring.{Laws, goes-put, goes-as, walks-as, goes-probed, goes-entered, goes-ended, goes-made, goes-only-none, goes-only, goes-let_go, fields_put, fields-more, known-at, items-more, items-whole, joined_by, after-one, after-taken, after-followed, after-missing, after-row, after-head, map-map}
 use Rattle.plan_walk.proofs.walk.Walk.+walk.Given.{Over}
 use Rattle.plan_walk.proofs.walk.Walk.+walk.Goals as goal
 
@@ -39,7 +40,7 @@ laws g = record { more = g.met.S.Sink.more; rises = g.met.S.Sink.rises; stays = 
 pub object-loop-member-preserved : goal.object-loop-member-preserved
 object-loop-member-preserved g t c =
     let i = c.loop-member.member-index in
-    goes-as (goes-entered (laws g) (known-at _ _ c.args.members.now i c.member-item.result c.loop-member.invariant.grows.longer (omega (arith, c.loop-member-test.true)) c.member-item.is) c.loop-member.invariant refl c.in_ok-field.ensures c.in_ok-ask.ensures)
+    goes-as (goes-entered (laws g) (known-at _ _ c.args.members.now i c.member-item.result c.loop-member.invariant.grows.longer (omega (arith, c.loop-member-test.true)) c.member-item.is) c.loop-member.invariant refl (rw c.as_position.ensures at c.in_ok-field.ensures) c.in_ok-ask.ensures)
     (λ k v cov. fields-more (plan_of c.args.self.now.plan.now).definitions c.args.levels c.args.row.now (lookup c.args.self.now.memory.now) c.args.members.now i c.member-item.result v (omega (arith, c.loop-member-test.true)) c.member-item.is)
 
 pub object-returns : goal.object-returns
@@ -167,25 +168,16 @@ rows-returns-in-Some g t c =
 
 pub rows-returns-in-First : goal.rows-returns-in-First
 rows-returns-in-First g t c =
-    let does = sym c.then_of.ensures ∙ c.in-First.is in
+    let taken = sym c.in-First.is ∙ c.taken_of.ensures in
     on_ok_weaker c.first-in-First.result
-    (λ p. walks-as (is_non_null c.args.to.nullability) _ _ _ p (λ lt v cov. ap (λ (f : List RowOf → Program). f c.args.rows.now) (sym (after-first _ _ v (onward_of c.args.to.onward) cov lt _ c.in_default.is c.deref.ensures.value does))))
+    (λ p. walks-as (is_non_null c.args.to.nullability) _ _ _ p (λ lt v cov. ap (λ (f : List RowOf → Program). f c.args.rows.now) (sym (after-one _ _ v (onward_of c.args.to.onward) cov lt _ c.in_default.is c.deref.ensures.value taken))))
     c.first-in-First.ensures
 
 pub rows-returns-in-All : goal.rows-returns-in-All
 rows-returns-in-All g t c =
-    let does = sym c.then_of.ensures ∙ c.in-All.is in
+    let taken = sym c.in-All.is ∙ c.taken_of.ensures in
     on_ok_weaker c.all.result
-    (λ p. walks-as (is_non_null c.args.to.nullability) _ _ _ p (λ lt v cov. sym (after-all _ _ v (onward_of c.args.to.onward) cov lt _ c.args.rows.now c.in_default.is c.deref.ensures.value does))) c.all.ensures
-
-pub rows-returns-in-Joined : goal.rows-returns-in-Joined
-rows-returns-in-Joined g t c =
-    let does = sym c.then_of.ensures ∙ c.in-Joined.is in
-    let all : length c.in-Joined.steps.now ≡ length (map step_of c.in-Joined.steps.now) = sym (length-map c.in-Joined.steps.now step_of) in
-    on_ok_weaker c.all-in-Joined.result
-    (λ p. walks-as (is_non_null c.args.to.nullability) _ _ _ p (λ lt v cov.
-    sym (after-joined _ _ v (onward_of c.args.to.onward) cov lt _ c.args.rows.now (length c.in-Joined.steps.now) (Joined c.in-Joined.steps) c.in_default.is c.deref.ensures.value does all (λ below. refl))))
-    c.all-in-Joined.ensures
+    (λ p. walks-as (is_non_null c.args.to.nullability) _ _ _ p (λ lt v cov. sym (after-taken _ _ v (onward_of c.args.to.onward) cov lt _ c.args.rows.now c.in-All.left c.in_default.is c.deref.ensures.value taken))) c.all.ensures
 
 pub first-returns-in-len1-up : goal.first-returns-in-len1-up
 first-returns-in-len1-up g t c =
@@ -225,17 +217,21 @@ only_object-returns g t c = λ only.
 
 pub row_object-returns-in-Object : goal.row_object-returns-in-Object
 row_object-returns-in-Object g t c =
-    let seen : object_type c.in-Object.ty.now ≡ type_of_row (tree_of c.schema.result.now) c.type_name_of-name.result.now c.args.row.now = rw c.in-Object.is at c.in_ok-ty.ensures in
+    let named : c.as_str-name.result.now ≡ (children_at c.deref-2.result.now c.args.to.onward.group).type_name =
+    c.as_str-name.ensures ∙ ap (λ (b : Children). b.type_name) c.deref-3.ensures ∙ ap (λ (b : ChildrenOf). b.type_name) c.in_ok-children.ensures in
+    let seen : object_type c.in-Object.ty.now ≡ type_of_row (tree_of c.schema.result.now) c.as_str-name.result.now c.args.row.now = rw c.in-Object.is at c.in_ok-ty.ensures in
     on_ok_weaker c.typed_object.result
-    (λ p. walks-as (is_non_null c.args.to.nullability) _ _ _ p (λ lt v cov. row-as _ c.args.at.now.groups.items _ v (onward_of c.args.to.onward) cov lt c.args.row.now _ _ _ c.deref-2.ensures.value (ap tree_of c.schema.ensures) c.type_name_of-name.ensures seen))
+    (λ p. walks-as (is_non_null c.args.to.nullability) _ _ _ p (λ lt v cov. row-as _ c.args.at.now.groups.items _ v (onward_of c.args.to.onward) cov lt c.args.row.now _ _ _ c.deref-2.ensures.value (ap tree_of c.schema.ensures) named seen))
     c.typed_object.ensures
 
-pub row_object-returns-in-Fault : goal.row_object-returns-in-Fault
-row_object-returns-in-Fault g t c =
-    let seen : type_fault (string_bytes c.in-Fault.text) ≡ type_of_row (tree_of c.schema.result.now) c.type_name_of-name.result.now c.args.row.now = rw c.in-Fault.is at c.in_ok-ty.ensures in
+pub row_object-returns : goal.row_object-returns
+row_object-returns g t c =
+    let named : c.as_str-name.result.now ≡ (children_at c.deref-2.result.now c.args.to.onward.group).type_name =
+    c.as_str-name.ensures ∙ ap (λ (b : Children). b.type_name) c.deref-3.ensures ∙ ap (λ (b : ChildrenOf). b.type_name) c.in_ok-children.ensures in
+    let seen : type_fault (string_bytes c.in-Fault.text) ≡ type_of_row (tree_of c.schema.result.now) c.as_str-name.result.now c.args.row.now = rw c.in-Fault.is at c.in_ok-ty.ensures in
     on_ok_weaker c.leaf_value.result
     (λ q. walks-as (is_non_null c.args.to.nullability) _ (λ v. Is (Fault (string_bytes c.in-Fault.text))) _ (goes-put refl (λ k v _. q v))
-    (λ lt v cov. row-as _ c.args.at.now.groups.items _ v (onward_of c.args.to.onward) cov lt c.args.row.now _ _ _ c.deref-2.ensures.value (ap tree_of c.schema.ensures) c.type_name_of-name.ensures seen))
+    (λ lt v cov. row-as _ c.args.at.now.groups.items _ v (onward_of c.args.to.onward) cov lt c.args.row.now _ _ _ c.deref-2.ensures.value (ap tree_of c.schema.ensures) named seen))
     c.leaf_value.ensures
 
 pub typed_object-returns : goal.typed_object-returns

@@ -6,11 +6,11 @@ use Rattle.rounds_by_hand.proofs.hand.Hand.ask_and_advance.Goals as goal
 use Rattle.rounds_by_hand.proofs.hand.Hand.ask_and_advance.Goals.{in-Over, in-Handed+in_ok-begin-in-Handed, in-Out+in_ok-far-in-Out}
 
 pub finish_round-requires : goal.finish_round-requires
-finish_round-requires g c κs =
+finish_round-requires g c =
     let far = sym c.replace.ensures.value ∙ c.in-Out.is in
     let enough = rw (← c.self.view_is) at c.requires.enough in
     let round = rw far at (rw (← c.self.view_is) at c.requires.round) in
-    ((refl, tt), (subst (All (λ plan. g.P.Execute.loaders plan ≤ length c.self.inside.session.loaders)) (sym round.0) enough, (round.1, round.2)))
+    record { enough = subst (All (λ plan. g.P.Execute.loaders plan ≤ length c.self.inside.session.loaders)) (sym round.0) enough; out = round.1; fits = round.2 }
 
 pub returns-clause-underway : goal.returns-clause-underway
 returns-clause-underway g c = λ begun h.
@@ -18,7 +18,9 @@ returns-clause-underway g c = λ begun h.
     let value = sym c.replace.ensures.value in
     elim c.match-replace.branch [
       | in-Over w ↦ rw (w.far-is, w.self-inside-is) (rw (value ∙ w.in-Over.is) at own)
-      | in-Handed+in_ok-begin-in-Handed w ↦ rw (w.far-is, w.self-inside-is) (w.in_ok-begin-in-Handed.ensures.gone.went begun (rw (value ∙ w.in-Handed.is) at own))
+      | in-Handed+in_ok-begin-in-Handed w ↦
+          let handed = rw (value ∙ w.in-Handed.is) at c.self.invariant in
+          rw (w.far-is, w.self-inside-is, ← handed) (w.in_ok-begin-in-Handed.ensures.gone.went begun (rw (value ∙ w.in-Handed.is) at own))
       | in-Out+in_ok-far-in-Out w ↦
           let gone = rw (value ∙ w.in-Out.is) at own in
           let next = w.in_ok-far-in-Out.ensures.gone.went begun (refl, gone.1, gone.2) in
@@ -31,12 +33,13 @@ returns-clause-answers g c =
     let text_of = g.P.Execute.text_of in
     let may = g.S.LocalSource.may_tell in
     let s = c.self.inside.session in
-    let plans = c.self.inside.plans.now in
+    let plans = c.self.inside.plans.value.items in
     let value = sym c.replace.ensures.value in
     elim c.match-replace.branch [
       | in-Over w ↦ rw w.far-is tt
       | in-Handed+in_ok-begin-in-Handed w ↦
-          let tells = tells-weaker program text_of may (λ begun. IsUnderway program text_of may begun c.args.self.now) (λ begun. s ≡ begun) w.begin.new.session plans plans w.in_ok-begin-in-Handed.advance refl
+          let handed = rw (value ∙ w.in-Handed.is) at c.self.invariant in
+          let tells = tells-weaker program text_of may (λ begun. IsUnderway program text_of may begun c.args.self.now) (λ begun. s ≡ begun) w.begin.new.session plans w.in-Handed.plans.items w.in_ok-begin-in-Handed.advance handed
           (λ begun h. rw (value ∙ w.in-Handed.is) at (rw (← c.self.view_is) at h)) w.in_ok-begin-in-Handed.ensures.gone.tells in
           rw (w.far-is, w.self-inside-is) tells
       | in-Out+in_ok-far-in-Out w ↦
@@ -46,4 +49,13 @@ returns-clause-answers g c =
           let tells = tells-weaker program text_of may (λ begun. IsUnderway program text_of may begun c.args.self.now) (λ begun. HasGone program text_of may begun s run.plans (out run pending)) w.finish_round.new.session plans run.plans w.in_ok-far-in-Out.advance round.0
           (λ begun h. let gone = rw (value ∙ w.in-Out.is) at (rw (← c.self.view_is) at h) in (refl, gone.1, gone.2)) w.in_ok-far-in-Out.ensures.gone.tells in
           rw (w.far-is, w.self-inside-is) tells
+    ]
+
+pub returns-clause-stored : goal.returns-clause-stored
+returns-clause-stored g c =
+    let value = sym c.replace.ensures.value in
+    elim c.match-replace.branch [
+      | in-Over w ↦ rw (← c.self.view_is, w.self-inside-is) (rw (value ∙ w.in-Over.is) refl)
+      | in-Handed+in_ok-begin-in-Handed w ↦ rw (← c.self.view_is, w.self-inside-is) (rw (value ∙ w.in-Handed.is) w.in_ok-begin-in-Handed.ensures.forgot)
+      | in-Out+in_ok-far-in-Out w ↦ rw (← c.self.view_is, w.self-inside-is) (rw (value ∙ w.in-Out.is) w.in_ok-far-in-Out.ensures.stored)
     ]

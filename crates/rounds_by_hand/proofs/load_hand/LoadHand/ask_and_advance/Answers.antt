@@ -1,4 +1,4 @@
-use Rattle.std.proofs.Common.{◌≡◌, ◌∙◌, map, ap, sym, subst}
+use Rattle.std.proofs.Common.{◌≡◌, ◌∙◌, map, refl, ap, sym, subst}
 use Rattle.load_memory.specs.Keys.{key_of}
 use Rattle.load_memory.specs.Outcomes.{outcome_of}
 use Rattle.load_rounds.specs.Calls.{asked_for, IsStopped}
@@ -42,6 +42,9 @@ returns-in_ok-far-in-Handed-clause-loaded g c =
     rw (← c.self.view_is) (begun-loads g.S.LocalSource.may_tell (load_hand_of c.self.inside.session loader keys (load_far_of c.self.inside.far)) (load_hand_of c.begin_keys.new.session loader keys (load_far_of c.in_ok-far-in-Handed.far)) c.in_ok-far-in-Handed.advance
     (ap load_far_of (sym c.replace.ensures.value ∙ c.in-Handed.is)) tells)
 
+pub returns-in_ok-far-in-Handed-clause-stored : goal.returns-in_ok-far-in-Handed-clause-stored
+returns-in_ok-far-in-Handed-clause-stored g c = rw (← c.self.view_is) (rw (sym c.replace.ensures.value ∙ c.in-Handed.is) c.in_ok-far-in-Handed.ensures.forgot)
+
 -- ---- its round is out
 
 pub returns-in_err-outcomes-in-Out-clause-underway : goal.returns-in_err-outcomes-in-Out-clause-underway
@@ -65,7 +68,13 @@ returns-in_ok-outcomes-in-Out-clause-loaded g c =
     let loaded = rw c.deref-in-Out.ensures.value at c.in_ok-outcomes-in-Out.ensures.loaded in
     rw (← c.self.view_is) (λ begun h. loaded begun (rw (sym c.replace.ensures.value ∙ c.in-Out.is) at h))
 
+pub returns-in_ok-outcomes-in-Out-clause-stored : goal.returns-in_ok-outcomes-in-Out-clause-stored
+returns-in_ok-outcomes-in-Out-clause-stored g c = rw (← c.self.view_is) (rw (sym c.replace.ensures.value ∙ c.in-Out.is) c.in_ok-outcomes-in-Out.ensures.stored)
+
 -- ---- it is over
+
+pub returns-in-Over-clause-stored : goal.returns-in-Over-clause-stored
+returns-in-Over-clause-stored g c = rw (← c.self.view_is) (rw (sym c.replace.ensures.value ∙ c.in-Over.is) refl)
 
 pub returns-in-Over-clause-recorded : goal.returns-in-Over-clause-recorded
 returns-in-Over-clause-recorded g c = rw (← c.self.view_is) (record-same c.self.inside.session.loaders)

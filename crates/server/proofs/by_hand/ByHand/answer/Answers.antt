@@ -1,17 +1,28 @@
-use Rattle.std.specs.Prelude.{slice_get}
+use Rattle.std.proofs.Common.{List, refl, subst, sym}
+use Rattle.std.specs.Prelude.{IfSome, OnErr, OnOk, slice_get}
 use Rattle.std.proofs.lemmas.Result.{on_err_weaker}
+use Rattle.gq_resolve.specs.PreparedPlans.{LimitedPlanOf}
 use Rattle.rounds_by_hand.specs.Hands.{pending_in}
-use Rattle.server.proofs.Handing.{goes, goes-if-may}
+use Rattle.server.specs.Hands.{GoesOn, GoesOnIfMay, planned_of}
+use Rattle.server.proofs.Handing.{goes, goes-if-may, held}
 use Rattle.server.proofs.by_hand.ByHand.answer.Goals as goal
 
 pub returns-clause-underway : goal.returns-clause-underway
 returns-clause-underway g c =
     let hand = c.self.inside.hand in
-    rw (← c.self.view_is) (goes-if-may c.self.inside.kept.server c.self.inside.max_answer c.self.inside.planned.now g.S.LocalSource.may_tell c.answer.result (slice_get (pending_in hand.far) c.args.number)
-    c.args.answer hand c.answer.new.self c.self.invariant.plans c.answer.ensures.kept.plans c.answer.ensures.underway)
+    let form = c.self.inside.form in
+    let planned = planned_of form c.self.inside.loaders hand.plans in
+    let went = goes-if-may c.self.inside.queries c.self.inside.max_answer planned g.S.LocalSource.may_tell c.answer.result (slice_get (pending_in hand.far) c.args.number) c.args.answer hand c.answer.new.self refl c.answer.ensures.kept.plans c.answer.ensures.underway in
+    rw (← c.self.view_is)
+    (subst (λ (ps : List LimitedPlanOf). OnOk c.answer.result (IfSome (slice_get (pending_in hand.far) c.args.number) (GoesOnIfMay g.S.LocalSource.may_tell c.args.answer (held c.self.inside.queries c.self.inside.max_answer planned hand) (held c.self.inside.queries c.self.inside.max_answer (planned_of form c.self.inside.loaders ps) c.answer.new.self))))
+    (sym c.answer.ensures.kept.plans) went)
 
 pub returns-clause-stopped : goal.returns-clause-stopped
 returns-clause-stopped g c =
     let hand = c.self.inside.hand in
+    let form = c.self.inside.form in
+    let planned = planned_of form c.self.inside.loaders hand.plans in
+    let went = on_err_weaker c.answer.result (λ went. goes c.self.inside.queries c.self.inside.max_answer planned g.S.LocalSource.may_tell hand c.answer.new.self refl c.answer.ensures.kept.plans went) c.answer.ensures.stopped in
     rw (← c.self.view_is)
-    (on_err_weaker c.answer.result (λ went. goes c.self.inside.kept.server c.self.inside.max_answer c.self.inside.planned.now g.S.LocalSource.may_tell hand c.answer.new.self c.self.invariant.plans c.answer.ensures.kept.plans went) c.answer.ensures.stopped)
+    (subst (λ (ps : List LimitedPlanOf). OnErr c.answer.result (GoesOn g.S.LocalSource.may_tell (held c.self.inside.queries c.self.inside.max_answer planned hand) (held c.self.inside.queries c.self.inside.max_answer (planned_of form c.self.inside.loaders ps) c.answer.new.self)))
+    (sym c.answer.ensures.kept.plans) went)

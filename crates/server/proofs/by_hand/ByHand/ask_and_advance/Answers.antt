@@ -1,34 +1,54 @@
-use Rattle.std.proofs.Common.{◌∙◌, List, map, sym, subst}
+use Rattle.std.proofs.Common.{◌∙◌, List, map, refl, sym, subst}
 use Rattle.load_rounds.specs.SharedRounds.{report_of}
 use Rattle.load_rounds.specs.declared.answer.Answer.{Answer}
-use Rattle.server.specs.Planned.{IsResponse}
-use Rattle.server.proofs.Handing.{goes, responds, refusal-responds, finished-asks}
-use Rattle.server.proofs.Outcomes.{anyway}
+use Rattle.server.specs.Hands.{GoesOn, Responds, planned_of, refusals_in}
+use Rattle.server.specs.Planned.{IsResponseOf}
+use Rattle.server.proofs.Handing.{goes, held, holds-on, refusal-responds, responds, told}
 use Rattle.server.proofs.by_hand.ByHand.ask_and_advance.Goals as goal
 
-pub returns-then-is_refused-clause-answered : goal.returns-then-is_refused-clause-answered
-returns-then-is_refused-clause-answered g c =
-    let refused = sym c.is_refused.ensures ∙ c.if-is_refused.true in
+pub returns-then-self-clause-answered : goal.returns-then-self-clause-answered
+returns-then-self-clause-answered g c =
+    let hand = c.self.inside.hand in
+    let form = c.self.inside.form in
+    let planned = planned_of form c.self.inside.loaders hand.plans in
+    let refused = sym c.self.invariant.refuses_is ∙ c.if-self.true in
     let answer = c.in_ok-response.field-0 in
-    let response = subst (λ (answers : List Answer). IsResponse c.self.inside.planned.now (map report_of answers) (report_of answer)) c.new.ensures.items c.in_ok-response.ensures in
-    rw (← c.self.view_is) (refusal-responds c.self.inside.kept.server c.self.inside.max_answer c.self.inside.planned.now g.S.LocalSource.may_tell c.self.inside.hand refused (c.self.invariant.refused refused) answer response)
+    let response = subst (λ (answers : List Answer). IsResponseOf form.is_array (refusals_in form) (map report_of answers) (report_of answer)) c.new.ensures.items c.in_ok-response.ensures in
+    rw (← c.self.view_is) (refusal-responds c.self.inside.queries c.self.inside.max_answer planned g.S.LocalSource.may_tell hand refused (c.self.invariant.refused refused) answer response)
+
+pub invariant_of-self : goal.invariant_of-self
+invariant_of-self g c = holds-on c.self.inside.queries c.self.inside.max_answer c.self.inside.form c.self.inside.loaders c.self.inside.is_refused c.self.inside.hand c.ask_and_advance.new.self c.self.invariant c.if-self.false c.ask_and_advance.ensures.kept
 
 pub returns-in_err-advance-clause-underway : goal.returns-in_err-advance-clause-underway
-returns-in_err-advance-clause-underway g c = rw (← c.self.view_is) (goes c.self.inside.kept.server c.self.inside.max_answer c.self.inside.planned.now g.S.LocalSource.may_tell c.self.inside.hand c.ask_and_advance.new.self c.self.invariant.plans c.ask_and_advance.ensures.kept.plans c.ask_and_advance.ensures.underway)
-
-pub returns-in_err-step_of-clause-ended : goal.returns-in_err-step_of-clause-ended
-returns-in_err-step_of-clause-ended g c =
-    anyway c.from_residual-in_err-step_of.result
-    (rw (← c.self.view_is) (finished-asks c.self.inside.kept.server c.self.inside.max_answer c.self.inside.planned.now c.self.inside.hand c.ask_and_advance.new.self c.in_ok-advance.advance c.in_err-step_of.ensures.finished c.in_ok-advance.ensures.advanced))
+returns-in_err-advance-clause-underway g c =
+    let hand = c.self.inside.hand in
+    let planned = planned_of c.self.inside.form c.self.inside.loaders hand.plans in
+    let e = c.ask_and_advance.ensures in
+    rw (← c.self.view_is) (told c.self.inside.queries c.self.inside.max_answer c.self.inside.form c.self.inside.loaders hand c.ask_and_advance.new.self (GoesOn g.S.LocalSource.may_tell (held c.self.inside.queries c.self.inside.max_answer planned hand)) e.kept.plans
+    (goes c.self.inside.queries c.self.inside.max_answer planned g.S.LocalSource.may_tell hand c.ask_and_advance.new.self refl e.kept.plans e.underway))
 
 pub returns-in_err-step_of-clause-underway : goal.returns-in_err-step_of-clause-underway
-returns-in_err-step_of-clause-underway g c = rw (← c.self.view_is) (goes c.self.inside.kept.server c.self.inside.max_answer c.self.inside.planned.now g.S.LocalSource.may_tell c.self.inside.hand c.ask_and_advance.new.self c.self.invariant.plans c.ask_and_advance.ensures.kept.plans c.ask_and_advance.ensures.underway)
+returns-in_err-step_of-clause-underway g c =
+    let hand = c.self.inside.hand in
+    let planned = planned_of c.self.inside.form c.self.inside.loaders hand.plans in
+    let e = c.ask_and_advance.ensures in
+    rw (← c.self.view_is) (told c.self.inside.queries c.self.inside.max_answer c.self.inside.form c.self.inside.loaders hand c.ask_and_advance.new.self (GoesOn g.S.LocalSource.may_tell (held c.self.inside.queries c.self.inside.max_answer planned hand)) e.kept.plans
+    (goes c.self.inside.queries c.self.inside.max_answer planned g.S.LocalSource.may_tell hand c.ask_and_advance.new.self refl e.kept.plans e.underway))
 
 pub returns-clause-underway : goal.returns-clause-underway
-returns-clause-underway g c = rw (← c.self.view_is) (goes c.self.inside.kept.server c.self.inside.max_answer c.self.inside.planned.now g.S.LocalSource.may_tell c.self.inside.hand c.ask_and_advance.new.self c.self.invariant.plans c.ask_and_advance.ensures.kept.plans c.ask_and_advance.ensures.underway)
+returns-clause-underway g c =
+    let hand = c.self.inside.hand in
+    let planned = planned_of c.self.inside.form c.self.inside.loaders hand.plans in
+    let e = c.ask_and_advance.ensures in
+    rw (← c.self.view_is) (told c.self.inside.queries c.self.inside.max_answer c.self.inside.form c.self.inside.loaders hand c.ask_and_advance.new.self (GoesOn g.S.LocalSource.may_tell (held c.self.inside.queries c.self.inside.max_answer planned hand)) e.kept.plans
+    (goes c.self.inside.queries c.self.inside.max_answer planned g.S.LocalSource.may_tell hand c.ask_and_advance.new.self refl e.kept.plans e.underway))
 
 pub returns-clause-answered : goal.returns-clause-answered
 returns-clause-answered g c =
-    let open' = sym c.is_refused.ensures ∙ c.if-is_refused.false in
-    rw (← c.self.view_is) (responds c.self.inside.kept.server c.self.inside.max_answer c.self.inside.planned.now g.S.LocalSource.may_tell c.self.inside.hand c.ask_and_advance.new.self c.self.invariant.plans c.ask_and_advance.ensures.kept.plans open' c.in_ok-advance.advance c.in_ok-step_of.field-0
-    c.in_ok-step_of.ensures.made c.in_ok-advance.ensures.answers)
+    let hand = c.self.inside.hand in
+    let planned = planned_of c.self.inside.form c.self.inside.loaders hand.plans in
+    let e = c.ask_and_advance.ensures in
+    let open' = sym c.self.invariant.refuses_is ∙ c.if-self.false in
+    let step = c.in_ok-step_of.field-0 in
+    rw (← c.self.view_is) (told c.self.inside.queries c.self.inside.max_answer c.self.inside.form c.self.inside.loaders hand c.ask_and_advance.new.self (λ b. Responds g.S.LocalSource.may_tell (held c.self.inside.queries c.self.inside.max_answer planned hand) b step) e.kept.plans
+    (responds c.self.inside.queries c.self.inside.max_answer planned g.S.LocalSource.may_tell hand c.ask_and_advance.new.self refl e.kept.plans open' c.in_ok-advance.advance step c.in_ok-step_of.ensures.made c.in_ok-advance.ensures.answers))

@@ -10,4 +10,4 @@ invariant_of-self g c =
     let keys = key_of c.args.key ∷ [] in
     let e = c.load.ensures in
     let many = called-many g.S.LocalSource.may_tell c.self.inside.session c.load.new.self (λ outcome. Loading c.args.loader keys (outcome_of outcome ∷ [])) (StoppedLoading c.args.loader keys) c.load.result e.refused e.no_memory e.loaded in
-    subst (λ n. length c.self.inside.kept.server.bindings.loaders ≤ n) (sym many) c.self.invariant
+    subst (λ n. length c.self.inside.queries.bindings.loaders ≤ n) (sym many) c.self.invariant

@@ -10,7 +10,7 @@ invariant_of-self g c =
     let keys = map key_of c.args.keys.now in
     let e = c.load_many.ensures in
     let many = called-many g.S.LocalSource.may_tell c.self.inside.session c.load_many.new.self (λ outcomes. Loading c.args.loader keys (map outcome_of outcomes.items)) (StoppedLoading c.args.loader keys) c.load_many.result e.refused e.no_memory e.loaded in
-    subst (λ n. length c.self.inside.kept.server.bindings.loaders ≤ n) (sym many) c.self.invariant
+    subst (λ n. length c.self.inside.queries.bindings.loaders ≤ n) (sym many) c.self.invariant
 
 pub returns-clause-no_memory : goal.returns-clause-no_memory
 returns-clause-no_memory g c = rw (← c.self.view_is) c.load_many.ensures.no_memory

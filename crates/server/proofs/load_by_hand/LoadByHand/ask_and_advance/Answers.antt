@@ -6,7 +6,7 @@ use Rattle.server.proofs.LoadsByHand.{still-enough, client-loads}
 use Rattle.server.proofs.load_by_hand.LoadByHand.ask_and_advance.Goals as goal
 
 pub invariant_of-self : goal.invariant_of-self
-invariant_of-self g c = still-enough (length c.self.inside.kept.server.bindings.loaders) c.self.inside.hand.session.loaders c.ask_and_advance.new.self.session.loaders c.ask_and_advance.ensures.recorded c.self.invariant
+invariant_of-self g c = still-enough (length c.self.inside.queries.bindings.loaders) c.self.inside.hand.session.loaders c.ask_and_advance.new.self.session.loaders c.ask_and_advance.ensures.recorded c.self.invariant
 
 pub returns-clause-advanced : goal.returns-clause-advanced
 returns-clause-advanced g c = rw (← c.self.view_is) c.ask_and_advance.ensures.advanced
@@ -16,13 +16,16 @@ returns-clause-underway g c = rw (← c.self.view_is) c.ask_and_advance.ensures.
 
 pub returns-clause-loaded : goal.returns-clause-loaded
 returns-clause-loaded g c =
-    let server = c.self.inside.kept.server in
+    let server = c.self.inside.queries in
     let most = c.self.inside.max_answer in
     let old = c.self.inside.hand in
     let new = c.ask_and_advance.new.self in
     rw (← c.self.view_is)
     (IfOk-weaker c.ask_and_advance.result _ _
     (λ did loads. client-loads g.S.LocalSource.may_tell (load_by_hand_of (client_of server most old.session) old.loader old.keys old.far) (load_by_hand_of (client_of server most new.session) new.loader new.keys new.far) did loads) c.ask_and_advance.ensures.loaded)
+
+pub returns-clause-stored : goal.returns-clause-stored
+returns-clause-stored g c = rw (← c.self.view_is) c.ask_and_advance.ensures.stored
 
 pub returns-clause-asked : goal.returns-clause-asked
 returns-clause-asked g c = rw (← c.self.view_is) c.ask_and_advance.ensures.same

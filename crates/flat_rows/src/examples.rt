@@ -1,0 +1,31 @@
+//! Examples of what the definitions give on a few rows, worked by hand.
+ghost use Rattle.std.specs.Prelude.{◌≡◌, [], ◌∷◌, Some, None, codes};
+ghost use Rattle.load_memory.specs.Keys.{all, pair, text};
+ghost use Rattle.load_memory.specs.Outcomes.{rows};
+ghost use Rattle.flat_rows.specs.Keyed.{first_unasked, keyed_items};
+ghost use Rattle.flat_rows.specs.Examples.{ada, bob, by_both, by_id, by_name_folded, by_none, eve, nobody, none, three_ids, twice};
+
+/// A key gets the rows that have it, in the order given, and no rows where none has it. Keys that are the same get the same rows. Of
+/// columns of one name the first counts, an empty field is the empty text, and a loader by no column has one key.
+pub fn sorted_by_hand()
+    ensures ids { keyed_items by_id three_ids (bob ∷ eve ∷ [])
+        ≡ rows (bob ∷ eve ∷ []) ∷ none ∷ rows (bob ∷ eve ∷ []) ∷ [] }
+    ensures apart { keyed_items by_id (text (codes "1") ∷ text (codes "2") ∷ []) (bob ∷ ada ∷ eve ∷ [])
+        ≡ rows (ada ∷ []) ∷ rows (bob ∷ eve ∷ []) ∷ [] }
+    ensures folded { keyed_items by_name_folded (text (codes "aDA") ∷ []) (ada ∷ [])
+        ≡ rows (ada ∷ []) ∷ [] }
+    ensures pairs { keyed_items by_both (pair (codes "Eve") (codes "2") ∷ pair (codes "2") (codes "Eve") ∷ []) (eve ∷ [])
+        ≡ rows (eve ∷ []) ∷ none ∷ [] }
+    ensures all { keyed_items by_none (all ∷ []) (bob ∷ ada ∷ [])
+        ≡ rows (bob ∷ ada ∷ []) ∷ [] }
+    ensures empty { keyed_items by_id (text [] ∷ []) (nobody ∷ []) ≡ rows (nobody ∷ []) ∷ [] }
+    ensures first { keyed_items by_id (text (codes "1") ∷ text (codes "2") ∷ []) (twice ∷ [])
+        ≡ rows (twice ∷ []) ∷ none ∷ [] }
+{}
+
+/// The first row whose key wasn't asked for is told by its place, and where each row's was, there is none.
+pub fn refused_by_hand()
+    ensures second { first_unasked by_id (text (codes "2") ∷ [])
+        (bob ∷ ada ∷ eve ∷ []) ≡ Some 1 }
+    ensures case { first_unasked by_id (text (codes "2") ∷ []) (bob ∷ eve ∷ []) ≡ None }
+{}

@@ -1,0 +1,99 @@
+-- Lemmas on what is prepared of a plan, and an execution of it, may go to other threads, and they may share what is prepared. In steps: the
+-- prover searches through a set of selections at each demand, since it holds fields that hold sets. `prepared_send`, `prepared_sync` and
+-- `state_send` are for what owns them. Assumes nothing.
+use denote.Param.Send.{IsSend, IsSync, sendable}
+use denote.Param.SendFields.{declared_send, declared_sync}
+use Rattle.std.proofs.Crossing as heap
+use Rattle.short_text.proofs.text.Text.TheSendSync as text
+use Rattle.load_memory.proofs.key.Key.TheSendSync as key
+use Rattle.load_memory.proofs.row.Row.TheSendSync as row
+use Rattle.gq_parser.proofs.tree.Selection.TheLaws.TheKnot as selection
+use Rattle.gq_parser.proofs.tree.TypeRef.TheLaws.TheKnot as type_ref
+use Rattle.gq_parser.proofs.tree.Value.TheLaws.TheKnot as value
+use Rattle.gq_parser.specs.contracts.tree.SelectionSet as set
+use Rattle.plan_program.proofs.prepared.KeyFrom.TheSendSync as key_from
+use Rattle.plan_program.proofs.prepared.LeafValue.TheSendSync as leaf
+use Rattle.plan_program.specs.contracts.prepared.Children as children
+use Rattle.plan_walk.proofs.loading_fields.RowUse.TheSendSync as then
+use Rattle.plan_walk.proofs.waiting.Waiting.TheSendSync as waiting
+use Rattle.plan_walk.specs.contracts.leaf_type.LeafType as leaf_type
+use Rattle.plan_walk.specs.contracts.loading_fields.FieldResolver as asks
+use Rattle.plan_walk.specs.contracts.loading_fields.Member as member
+use Rattle.plan_walk.specs.contracts.loading_fields.TypePositions as shape
+use Rattle.plan_walk.specs.contracts.loading_fields.LoadingField as group
+use Rattle.gq_resolve.specs.contracts.advance.RootObject as rooted
+use Rattle.gq_resolve.specs.contracts.advance.Suspension as stopped
+use Rattle.gq_resolve.specs.contracts.limited_plan.LimitedPlan as limited
+use Rattle.gq_resolve.specs.contracts.prepared_plan.PreparedPlan as prepared
+use Rattle.gq_resolve.specs.contracts.prepared_plan.PreparedPlan.TheInside as inside
+use Rattle.gq_resolve.specs.contracts.root_state.RootState as state
+use Rattle.gq_resolve.proofs.PlanCrossing.{plan_send, plan_sync}
+
+set_send : IsSend set.the_row
+set_send = search (heap.crosses, sendable, text.the_send, text.the_sync, value.send-Literal, value.sync-Literal, value.send-Argument, value.sync-Argument, selection.both_send-SelectionSet) depth 40 fits 10000
+
+set_sync : IsSync set.the_row
+set_sync = search (heap.crosses, sendable, text.the_send, text.the_sync, value.send-Literal, value.sync-Literal, value.send-Argument, value.sync-Argument, selection.both_sync-SelectionSet) depth 40 fits 10000
+
+children_send : IsSend children.the_row
+children_send = declared_send children.the_type (search (sendable, text.the_send) depth 20, (search sendable depth 20, (search sendable depth 20, (search (heap.crosses, sendable, set_send, set_sync) depth 40 fits 10000, tt))))
+
+children_sync : IsSync children.the_row
+children_sync = declared_sync children.the_type (search (sendable, text.the_sync) depth 20, (search sendable depth 20, (search sendable depth 20, (search (heap.crosses, sendable, set_send, set_sync) depth 40 fits 10000, tt))))
+
+leaf_type_send : IsSend leaf_type.the_row
+leaf_type_send = search (heap.crosses, sendable, type_ref.send-TypeRef) depth 20
+
+leaf_type_sync : IsSync leaf_type.the_row
+leaf_type_sync = search (heap.crosses, sendable, type_ref.sync-TypeRef) depth 20
+
+asks_send : IsSend asks.the_row
+asks_send = search (heap.crosses, sendable, leaf_type_send, text.the_send, leaf.the_field_send, key_from.the_field_send, key.the_send) depth 20
+
+asks_sync : IsSync asks.the_row
+asks_sync = search (heap.crosses, sendable, leaf_type_sync, text.the_sync, leaf.the_field_sync, key_from.the_field_sync, key.the_sync) depth 20
+
+member_send : IsSend member.the_row
+member_send = declared_send member.the_type (search (sendable, text.the_send) depth 20, (asks_send, tt))
+
+member_sync : IsSync member.the_row
+member_sync = declared_sync member.the_type (search (sendable, text.the_sync) depth 20, (asks_sync, tt))
+
+shape_send : IsSend shape.the_row
+shape_send = search (heap.crosses, sendable, text.the_send, member_send, member_sync) depth 20
+
+shape_sync : IsSync shape.the_row
+shape_sync = search (heap.crosses, sendable, text.the_sync, member_send, member_sync) depth 20
+
+group_send : IsSend group.the_row
+group_send = search (heap.crosses, sendable, then.the_field_send, children_send, children_sync, shape_send) depth 20
+
+group_sync : IsSync group.the_row
+group_sync = search (heap.crosses, sendable, then.the_field_sync, children_send, children_sync, shape_sync) depth 20
+
+rooted_send : IsSend rooted.the_row
+rooted_send = search (heap.crosses, sendable, row.the_send, member_send, member_sync, group_send) depth 20
+
+rooted_sync : IsSync rooted.the_row
+rooted_sync = search (heap.crosses, sendable, row.the_sync, member_send, member_sync, group_sync) depth 20
+
+inside_send : IsSend inside.the_row
+inside_send = declared_send inside.the_type (plan_send, (search (heap.crosses, sendable, rooted_send) depth 20, tt))
+
+inside_sync : IsSync inside.the_row
+inside_sync = declared_sync inside.the_type (plan_sync, (search (heap.crosses, sendable, rooted_sync) depth 20, tt))
+
+pub prepared_send : IsSend prepared.the_row
+prepared_send = let i = inside_send in record { owned = λ d vs x. (i.owned x.0 vs, tt); leaving = λ k d w. tt }
+
+pub prepared_sync : IsSync prepared.the_row
+prepared_sync = let i = inside_sync in record { shared = λ d b o κ x. (i.shared x.0 b o κ, tt) }
+
+stopped_send : IsSend stopped.the_row
+stopped_send = declared_send stopped.the_type (rooted_send, (search (sendable, waiting.the_send) depth 20, tt))
+
+pub state_send : IsSend state.the_row
+state_send = search (sendable, stopped_send) depth 20
+
+pub limited_send : IsSend limited.the_row
+limited_send = search (heap.crosses, sendable, prepared_send, prepared_sync) depth 20

@@ -1,0 +1,7 @@
+use denote.Param.Send.{sendable}
+use Rattle.std.proofs.Crossing.{crosses}
+use Rattle.gq_resolve.proofs.Crossing.{prepared_send}
+use Rattle.gq_resolve.proofs.threads.prepared_plan_goes.Goals as goal
+
+pub goes-requires-send-T : goal.goes-requires-send-T
+goes-requires-send-T c κs = search (sendable, crosses, prepared_send) depth 20

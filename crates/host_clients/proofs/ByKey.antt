@@ -1,0 +1,95 @@
+-- Rows in any order for the keys of an order.
+use Rattle.std.proofs.Common.{◌≡◌, ◌≢◌, ◌∙◌, ℕ, List, Option, Some, None, Ok, Err, map, sym, ap, subst, inr}
+use Rattle.std.specs.Prelude.{MatchOption, Result, IfErr, IsErrAnd, option_map, slice_get}
+use Rattle.std.specs.Global.{Vec}
+use Rattle.std.proofs.lemmas.Option.{slice_get-map}
+use Rattle.flat_rows.specs.Keyed.{AreAsked, AreRows, ByOf, KeyedReplyFault, LaidRows, keyed_items, rows_laid}
+use Rattle.flat_rows.specs.declared.keyed.KeyedFault.{KeyedFault}
+use Rattle.load_memory.specs.Keys.{KeyOf}
+use Rattle.load_memory.specs.Outcomes.{item_of}
+use Rattle.load_memory.specs.declared.outcome.Item.{Item}
+use Rattle.load_queue.specs.Orders.{OrderOf}
+use Rattle.plan_requests.specs.Servers.{ServerOf}
+use Rattle.rounds_by_hand.specs.Pending.{order_in}
+use Rattle.rounds_by_hand.specs.declared.handed_in.HandedIn.{HandedIn}
+use Rattle.rounds_by_hand.specs.declared.pending.Pending.TheVariants.{Out}
+use Rattle.server.specs.Clients.{ClientOf}
+use Rattle.host_clients.specs.Clients.{KeepsOrStops, StopsAt, TakesAnswerTo, TakesReply, client_in, orders_in, pending_of}
+use Rattle.host_clients.specs.Keyed.{KeyedRowsFault, OfOrder, TakesKeyed, keyed_refusal, of_order, of_rows}
+use Rattle.host_clients.specs.Lines.{by_at, keyed_by}
+use Rattle.host_clients.specs.Refused.{OrderFault}
+use Rattle.host_clients.specs.declared.client.HostClient.{HostClient}
+use Rattle.host_clients.specs.declared.fault.Fault.{Fault}
+use Rattle.host_clients.specs.declared.fault.Fault.TheVariants as fault
+use Rattle.host_clients.specs.declared.keyed.KeyedRefusal.{KeyedRefusal}
+use Rattle.host_clients.specs.declared.keyed.KeyedRefusal.TheVariants.{Refused}
+use Rattle.host_clients.proofs.Refusals.{orders-of}
+
+-- ---- the order that waits
+
+-- what is so of the order's keys, and of its loader's line
+pub of-waiting : (client : HostClient) (number : ℕ) (server : ServerOf) (order : OrderOf) → MatchOption (client_in client) ⊥ (λ (c : ClientOf HandedIn). c.server ≡ server)
+    → slice_get (pending_of client) number ≡ Some (Out order) → (P : ByOf → List KeyOf → Type 0) → P (keyed_by (by_at server order.loader)) order.keys → OfOrder client number P
+of-waiting client number server order is-server at P holds = go (client_in client) is-server where
+  there : slice_get (orders_in client) number ≡ Some order
+  there = ap (λ os. slice_get os number) (orders-of client) ∙ slice_get-map order_in (pending_of client) number ∙ ap (option_map order_in) at
+
+  go : (o : Option (ClientOf HandedIn)) → MatchOption o ⊥ (λ (c : ClientOf HandedIn). c.server ≡ server)
+      → MatchOption o ⊥ (λ (c : ClientOf HandedIn). MatchOption (slice_get (orders_in client) number) ⊥ (λ (o : OrderOf). P (keyed_by (by_at c.server o.loader)) o.keys))
+  go None is = is
+  go (Some c) is = rw (there, is) holds
+
+-- says the same of the keys as they are read, and of the columns as they are found
+pub of-read : (client : HostClient) (number : ℕ) (server : ServerOf) (order : OrderOf) → MatchOption (client_in client) ⊥ (λ (c : ClientOf HandedIn). c.server ≡ server)
+    → slice_get (pending_of client) number ≡ Some (Out order) → (by : ByOf) → by ≡ keyed_by (by_at server order.loader) → (keys : List KeyOf) → keys ≡ order.keys
+    → (P : ByOf → List KeyOf → Type 0) → P by keys → OfOrder client number P
+of-read client number server order is-server at by by-is keys keys-are P holds =
+    of-waiting client number server order is-server at P (subst (λ (b : ByOf). P b order.keys) by-is (subst (P by) keys-are holds))
+
+of-both : (client : HostClient) (number : ℕ) (P Q R : ByOf → List KeyOf → Type 0) → ((by : ByOf) (keys : List KeyOf) → P by keys → Q by keys → R by keys) → OfOrder client number P → OfOrder client number Q → OfOrder client number R
+of-both client number P Q R both = go (client_in client) where
+  at : (server : ServerOf) (o : Option OrderOf) → MatchOption o ⊥ (λ (o : OrderOf). P (keyed_by (by_at server o.loader)) o.keys) → MatchOption o ⊥ (λ (o : OrderOf). Q (keyed_by (by_at server o.loader)) o.keys)
+      → MatchOption o ⊥ (λ (o : OrderOf). R (keyed_by (by_at server o.loader)) o.keys)
+  at server None p q = p
+  at server (Some o) p q = both (keyed_by (by_at server o.loader)) o.keys p q
+
+  go : (o : Option (ClientOf HandedIn)) → MatchOption o ⊥ (λ (c : ClientOf HandedIn). MatchOption (slice_get (orders_in client) number) ⊥ (λ (o : OrderOf). P (keyed_by (by_at c.server o.loader)) o.keys))
+      → MatchOption o ⊥ (λ (c : ClientOf HandedIn). MatchOption (slice_get (orders_in client) number) ⊥ (λ (o : OrderOf). Q (keyed_by (by_at c.server o.loader)) o.keys))
+      → MatchOption o ⊥ (λ (c : ClientOf HandedIn). MatchOption (slice_get (orders_in client) number) ⊥ (λ (o : OrderOf). R (keyed_by (by_at c.server o.loader)) o.keys))
+  go None p q = p
+  go (Some c) p q = at c.server (slice_get (orders_in client) number) p q
+
+pub taken-by-key : (number : ℕ) (r : LaidRows) (old new : HostClient) (items : Vec Item) → OfOrder old number (λ by keys. map item_of items.items ≡ keyed_items by keys (rows_laid r))
+    → OfOrder old number (λ by keys. AreRows r × AreAsked by keys (rows_laid r)) → TakesAnswerTo number (Ok items) old new → TakesKeyed number r old new
+taken-by-key number r old new items are asked takes =
+    of-both old number (λ by keys. map item_of items.items ≡ keyed_items by keys (rows_laid r)) (λ by keys. AreRows r × AreAsked by keys (rows_laid r))
+    (λ by keys. AreRows r × AreAsked by keys (rows_laid r) × TakesReply number (keyed_items by keys (rows_laid r)) old new)
+    (λ by keys is rows. (rows.0, rows.1, record { items = items; are_said = is; takes = takes })) are asked
+
+-- ---- why they aren't taken
+
+-- the order takes none
+module _ (number : ℕ) (r : LaidRows) (old new : HostClient) (e : Fault) (result : Result (Unit {0}) KeyedRefusal) (is : IsErrAnd result (λ g. g ≡ Refused e)) where
+  pub refused-kept : (e ≢ fault.NoMemory → new ≡ old) → IfErr result (λ g. g ≢ Refused fault.NoMemory → new ≡ old)
+  refused-kept kept = go result is where
+    go : (x : Result (Unit {0}) KeyedRefusal) → IsErrAnd x (λ g. g ≡ Refused e) → IfErr x (λ g. g ≢ Refused fault.NoMemory → new ≡ old)
+    go (Ok d) same = tt
+    go (Err g) same = λ other. kept (λ no. other (same ∙ ap Refused no))
+
+  pub refused-stops : (e ≡ fault.NoMemory → StopsAt number old new) → IfErr result (λ g. g ≡ Refused fault.NoMemory → KeepsOrStops number old new)
+  refused-stops stops = go result is where
+    go : (x : Result (Unit {0}) KeyedRefusal) → IsErrAnd x (λ g. g ≡ Refused e) → IfErr x (λ g. g ≡ Refused fault.NoMemory → KeepsOrStops number old new)
+    go (Ok d) same = tt
+    go (Err g) same = λ no. let both : Refused e ≡ Refused fault.NoMemory = sym same ∙ no in inr (stops (cc both))
+
+  pub refused-order : OrderFault (pending_of old) number e → IfErr result (KeyedRowsFault number r old)
+  refused-order why = go result is where
+    go : (x : Result (Unit {0}) KeyedRefusal) → IsErrAnd x (λ g. g ≡ Refused e) → IfErr x (KeyedRowsFault number r old)
+    go (Ok d) same = tt
+    go (Err g) same = of_order e why same
+
+-- the rows have a fault
+pub refused-rows : {T : Type 0} (number : ℕ) (r : LaidRows) (client : HostClient) (found : KeyedFault) (result : Result T KeyedRefusal) → IsErrAnd result (λ g. g ≡ keyed_refusal found)
+    → OfOrder client number (λ by keys. KeyedReplyFault by keys r found) → IfErr result (KeyedRowsFault number r client)
+refused-rows number r client found (Ok x) is why = tt
+refused-rows number r client found (Err g) is why = of_rows found why is

@@ -1,4 +1,0 @@
-pub mod Crossing
-pub mod PlanCrossing
-pub mod RootCrossing
-pub mod KeptCrossing

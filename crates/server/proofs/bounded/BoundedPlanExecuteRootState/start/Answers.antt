@@ -1,4 +1,0 @@
-use Rattle.server.proofs.bounded.BoundedPlanExecuteRootState.start.Goals as goal
-
-pub returns : goal.returns
-returns c = λ m. (c.new.ensures.plan, c.new.ensures.fits m)

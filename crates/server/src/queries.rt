@@ -1,0 +1,157 @@
+//! What requests ask of a server, kept for those that come again.
+
+ghost use Rattle.std.specs.Prelude.{◌≡◌, IfOk, length};
+ghost use Rattle.request_line.specs.Seen.{request_of, requests_of};
+ghost use Rattle.server.specs.Clients.{HasLoaders};
+ghost use Rattle.server.specs.Counts.{CountsText};
+ghost use Rattle.server.specs.Planned.{PlansFor, one, several, text as asked_text};
+
+use crate::counting::line_read;
+use crate::planned::{PlannedRequest, plan_none, plan_one, plan_several};
+use crate::request_cache::RequestCache;
+use load_rounds::Session;
+use plan_requests::{Request, Server};
+use request_line::{Line, LineReader};
+use std::alloc::{AllocError, Global};
+use std::marker::Model;
+
+/// What requests ask of a server, kept for those that come again: documents that keep every rule, by their texts (at most 1,024, of 262,144
+/// bytes together), and plans, prepared, by queries, operations' names and variables (at most 2,048, of 262,144 bytes of these
+/// together, of queries of up to 32,768 bytes and of variables that are short). No clause says which are kept, and no answer depends
+/// on it.
+///
+/// A client has its own. A host whose clients come and go has one for many: it plans what is asked of any of them, and the client
+/// answers what was planned ([`by_hand`](crate::ClientSession::by_hand), [`into_answering`](crate::ClientSession::into_answering)).
+///
+/// A contract sees the server.
+pub struct Queries {
+    pub(crate) lines: LineReader,
+    pub(crate) kept: RequestCache,
+}
+
+impl Model for Queries {
+    ghost use Rattle.std.specs.Coded.{codes};
+    ghost use Rattle.gq_parser.specs.contracts.tree.TypeRef as type_ref;
+    ghost use Rattle.gq_parser.specs.contracts.tree.Literal as literal;
+    ghost use Rattle.plan_requests.specs.Servers.{ServerOf};
+
+    ghost Value = { ServerOf };
+
+    ghost coded = { Prim.hlevel (codes, type_ref.the_row.coded, literal.the_row.coded) };
+
+    ghost view = { λ q. q.kept.server };
+}
+
+impl Drop for Queries {
+    fn drop(self) {
+        let Queries {
+            lines: _lines,
+            kept: _kept,
+        } = self;
+    }
+}
+
+impl Queries {
+    /// Nothing yet, over this server.
+    pub fn new(alloc: Global, server: Server) -> Queries
+        ensures { result ≡ server }
+    {
+        Queries {
+            lines: LineReader::new(),
+            kept: RequestCache::new(alloc, server),
+        }
+    }
+
+    /// The server.
+    pub fn server(&self) -> &Server
+        ensures { result.now ≡ self.now }
+    {
+        self.kept.server()
+    }
+
+    /// Returns what a request asks of the server: its plan, of whose answer the text has at most `most` bytes, or the text that refuses
+    /// it. Nothing is asked.
+    ///
+    /// # Errors
+    ///
+    /// Only when out of memory.
+    pub fn plan(
+        &mut self,
+        alloc: Global,
+        request: &Request<'_>,
+        most: Option<usize>,
+    ) -> Result<PlannedRequest, AllocError>
+        ensures planned { IfOk result
+            (PlansFor self.old most (one (request_of request.now))) }
+        ensures loaders { IfOk result (λ planned.
+            planned.loaders ≡ length self.old.bindings.loaders) }
+        ensures same { self.new ≡ self.old }
+    {
+        plan_one(alloc, &mut self.kept, request, most)
+    }
+
+    /// Returns what the requests of an array ask, of which `None` is a value that is no request. Each is planned or refused, as
+    /// [`plan`](Queries::plan) does it.
+    ///
+    /// # Errors
+    ///
+    /// Only when out of memory.
+    pub fn plan_all(
+        &mut self,
+        alloc: Global,
+        requests: &[Option<Request<'_>>],
+        most: Option<usize>,
+    ) -> Result<PlannedRequest, AllocError>
+        ensures planned { IfOk result
+            (PlansFor self.old most (several (requests_of requests.now))) }
+        ensures loaders { IfOk result (λ planned.
+            planned.loaders ≡ length self.old.bindings.loaders) }
+        ensures same { self.new ≡ self.old }
+    {
+        plan_several(alloc, &mut self.kept, requests, most)
+    }
+
+    /// Returns what a request that is JSON text asks, or an array of 1 to 16: an object with the members `query`, `operationName` and
+    /// `variables`, as clients send it. What is neither is refused with `not a request`.
+    ///
+    /// # Errors
+    ///
+    /// Only when out of memory.
+    pub fn plan_text(
+        &mut self,
+        alloc: Global,
+        text: &[u8],
+        most: Option<usize>,
+    ) -> Result<PlannedRequest, AllocError>
+        ensures planned { IfOk result
+            (PlansFor self.old most (asked_text text.now)) }
+        ensures loaders { IfOk result (λ planned.
+            planned.loaders ≡ length self.old.bindings.loaders) }
+        ensures same { self.new ≡ self.old }
+    {
+        let Queries { lines, kept } = self;
+        match lines.read(alloc, text) {
+            Ok(Line::One(request)) => Ok(plan_one(alloc, kept, &request, most)?),
+            Ok(Line::Several(values)) => Ok(plan_several(alloc, kept, &values, most)?),
+            Ok(Line::NoRequest) => Ok(plan_none(alloc, kept, most)?),
+            Err(_) => Err(AllocError),
+        }
+    }
+
+    /// Returns how many loads the answer to a text reads over what a session knows ([`loads_read`](crate::ClientSession::loads_read)).
+    pub(crate) fn loads_read<S>(
+        &mut self,
+        alloc: Global,
+        session: &Session<S>,
+        text: &[u8],
+    ) -> Result<u64, AllocError>
+        requires { HasLoaders self.old session.now }
+        ensures counts { IfOk result (CountsText self.old session.now text.now) }
+        ensures same { self.new ≡ self.old }
+    {
+        match self.lines.read(alloc, text) {
+            Ok(line) => line_read(alloc, &self.kept, session, &line),
+            Err(_) => Err(AllocError),
+        }
+    }
+}

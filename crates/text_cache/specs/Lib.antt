@@ -1,0 +1,3 @@
+pub mod TextCaches
+pub mod Keeping
+pub mod Examples
