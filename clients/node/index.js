@@ -142,12 +142,13 @@ class Server {
     return client;
   }
 
+  /** Has a client stand by, in place of the one that has stood by longest where there are enough. */
   #giveBack(client, forgot) {
     client.unread.clear();
     if (!forgot) addon.restart(client.handle);
-    const keep = (forgot || code() === 0) && !this.#closed && this.#idle.length < MOST_IDLE;
-    if (keep) this.#idle.push(client);
-    else addon.close(client.handle);
+    if ((!forgot && code() !== 0) || this.#closed) return void addon.close(client.handle);
+    this.#idle.push(client);
+    if (this.#idle.length > MOST_IDLE) addon.close(this.#idle.shift().handle);
   }
 }
 

@@ -3,7 +3,7 @@
 
 const assert = require('node:assert/strict');
 const { constants } = require('node:buffer');
-const { describe, it } = require('node:test');
+const { describe, it, mock } = require('node:test');
 const { addon, border } = require('../border.js');
 const { openWorld } = require('./tables.js');
 
@@ -58,5 +58,19 @@ describe('what a large request needed', () => {
     assert.equal((await client.loadMany('allUsers', [undefined]))[0].length, 100_000);
     assertSmall();
     client.close();
+  });
+});
+
+describe('clients that stand by', () => {
+  it('shut out none with other limits', async () => {
+    const { server } = openWorld();
+    const ask = (maxBatch) => server.answer({ query }, users('Ada'), { maxBatch });
+    await Promise.all(Array.from({ length: 20 }, () => ask(1)));
+    const opened = mock.method(addon, 'client');
+    await ask(2);
+    await ask(2);
+    assert.equal(opened.mock.callCount(), 1);
+    opened.mock.restore();
+    server.close();
   });
 });
