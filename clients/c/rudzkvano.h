@@ -8,10 +8,10 @@
    A client also loads keys of one loader: rz_begin_load starts it, it goes on as a request does, and rz_loaded copies an outcome for each key.
 
    Handles. An rz_handle of zeros is empty. What it holds is freed by rz_close, or when another object is put into it. It may be moved in memory,
-   since nothing points to it: of two copies of a handle that holds something only one may be used from then on. A call gets each handle once: the handles of one call are different structs. A handle is passed to one call at a time, from
-   any thread, and passing it on to another thread is ordered by a lock, a thread's start or its end. To answer on several threads, give each
-   one a server handle of its own by rz_share. While a call runs, the handles it was given are empty. No call may be made from a signal
-   handler, nor in the child of a fork.
+   since nothing points to it: of two copies of a handle that holds something only one may be used from then on. A call gets each handle once:
+   the handles of one call are different structs. A handle is passed to one call at a time, from any thread, and passing it on to another
+   thread is ordered by a lock, a thread's start or its end. To answer on several threads, give each one a server handle of its own by
+   rz_share. While a call runs, the handles it was given are empty. No call may be made from a signal handler, nor in the child of a fork.
 
    Memory. The library calls malloc, realloc and free. All data is copied: into buffers of the caller, or out of them before the call
    returns. A length counts elements. A pointer to a buffer of no elements may be null, and no other. Buffers that a call fills are given at
