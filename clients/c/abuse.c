@@ -285,6 +285,34 @@ static void takes_second(world *w, int h) { takes(w, h, 1, 0); }
 static void takes_failed_first(world *w, int h) { takes(w, h, 0, 1); }
 static void takes_failed_second(world *w, int h) { takes(w, h, 1, 1); }
 
+static int32_t if_waits(const handle_model *model, int32_t code) {
+    return if_order(model, 0, model->phase == OUT && model->replied[0] ? RZ_REPLIED : code);
+}
+
+/* A row of the user 1, by its key: an order for the user 2 refuses it. */
+static void takes_keyed(world *w, int h) {
+    handle_model *model = &w->of[h];
+    uint32_t row = 9;
+    int32_t wanted = if_waits(model, model->asks[0] == USER_2 ? RZ_NOT_ASKED : RZ_DONE);
+    if (CHECK(rz_take_keyed_rows(&w->at[h], 0, 3, 1, NULL, 0, REPLY_ENDS, 6, TEXT(REPLY), &row), wanted)) {
+        model->replied[0] = 1;
+        model->fails[0] = 0;
+    }
+    is_same("the row", row, wanted == RZ_NOT_ASKED ? 1 : 9);
+}
+
+/* Each order has one key. */
+static void takes_wrong_faults(world *w, int h) {
+    const uint32_t first[] = {0}, past[] = {1}, twice[] = {0, 0};
+    const handle_model *model = &w->of[h];
+    uint32_t row = 9;
+    CHECK(rz_take_keyed_rows(&w->at[h], 0, 3, 1, past, 1, REPLY_ENDS, 6, TEXT(REPLY), &row), if_waits(model, RZ_BAD_FAULTS));
+    CHECK(rz_take_keyed_rows(&w->at[h], 0, 3, 1, twice, 2, REPLY_ENDS, 6, TEXT(REPLY), &row), if_waits(model, RZ_BAD_FAULTS));
+    CHECK(rz_take_keyed_rows(&w->at[h], 0, 3, 1, first, 1, REPLY_ENDS, 6, TEXT(REPLY), &row), if_waits(model, RZ_TOO_FEW_TEXTS));
+    CHECK(rz_take_keyed_rows(&w->at[h], 0, 3, 0, first, 1, REPLY_ENDS, 6, TEXT(REPLY), &row), if_waits(model, RZ_TEXTS_LEFT));
+    is_same("the row", row, 9);
+}
+
 static void takes_no_order(world *w, int h) {
     const uint32_t rows[] = {1};
     int32_t wanted = of_client(&w->of[h], RZ_NO_ORDER);
@@ -419,8 +447,8 @@ typedef void move(world *w, int h);
 static move *const MOVES[] = {
     opens, opens_wrongly, shares, reads_loaders, makes_client, makes_client_wrongly, closes, begins, begins_no_request, begins_parts,
     begins_wrong_parts, goes_on, cancels, reads_orders, takes_first, takes_second, takes_no_order, takes_failed_first, takes_failed_second,
-    takes_wrong_counts, reads_answer, reads_orders_wrongly, takes_wrong_texts, limits, restarts, primes, clears, clears_all,
-    knows_wrong_texts, knows_no_loader, reads_log, loads, loads_wrongly, reads_outcomes,
+    takes_wrong_counts, reads_answer, reads_orders_wrongly, takes_wrong_texts, takes_keyed, takes_wrong_faults, limits, restarts, primes, clears,
+    clears_all, knows_wrong_texts, knows_no_loader, reads_log, loads, loads_wrongly, reads_outcomes,
 };
 enum { MOVE_COUNT = sizeof MOVES / sizeof *MOVES, STATES = 9, PLACES = MOVE_COUNT * HANDLES, WALKS = 1000, WALK = 300 };
 

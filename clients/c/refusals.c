@@ -57,8 +57,8 @@ static void handles(rz_handle *server, rz_handle *client) {
     WANTS(rz_sizes(server, &sizes), RZ_BAD_HANDLE);
     WANTS(rz_orders(server, none, 0, none, 0, none, 0, none, 0, byte, 0), RZ_BAD_HANDLE);
     WANTS(rz_take_rows(server, 0, 0, none, 0, none, 0, byte, 0), RZ_BAD_HANDLE);
-    WANTS(rz_take_keyed_rows(server, 0, 0, 0, none, 0, byte, 0, &word), RZ_BAD_HANDLE);
-    WANTS(rz_take_keyed_rows(&empty, 0, 0, 0, none, 0, byte, 0, &word), RZ_BAD_HANDLE);
+    WANTS(rz_take_keyed_rows(server, 0, 0, 0, NULL, 0, none, 0, byte, 0, &word), RZ_BAD_HANDLE);
+    WANTS(rz_take_keyed_rows(&empty, 0, 0, 0, NULL, 0, none, 0, byte, 0, &word), RZ_BAD_HANDLE);
     WANTS(rz_take_failed(&empty, 0, TEXT("down")), RZ_BAD_HANDLE);
     WANTS(rz_answer(server, byte, 0), RZ_BAD_HANDLE);
     WANTS(rz_cancel(server), RZ_BAD_HANDLE);
@@ -89,6 +89,14 @@ static void opening(rz_handle *server, const uint8_t *schema, size_t schema_len,
     WANTS(fault.line, 1);
     WANTS(fault.column, 17);
     WANTS(fault.in_bindings, 0);
+    const char unknown[] = "there is no type \"Nope\"";
+    uint8_t sentence[64] = {0};
+    WANTS(rz_fault_text(&fault, TEXT("type Query { a: Nope }"), bindings, bindings_len, NULL, 0), strlen(unknown));
+    WANTS(rz_fault_text(&fault, TEXT("type Query { a: Nope }"), bindings, bindings_len, sentence, 3), strlen(unknown));
+    WANTS(memcmp(sentence, "the\0", 4), 0);
+    WANTS(rz_fault_text(&fault, TEXT("type Query { a: Nope }"), bindings, bindings_len, sentence, 64), strlen(unknown));
+    WANTS(memcmp(sentence, unknown, sizeof unknown), 0);
+    WANTS(rz_fault_text(&fault, (const uint8_t *)"\xff", 1, bindings, bindings_len, sentence, 64), 0);
     WANTS(rz_open(server, schema, schema_len, TEXT("bindings 1\nloader x"), &fault), RZ_BAD_SCHEMA);
     WANTS(fault.number, 8);
     WANTS(fault.line, 2);
@@ -294,26 +302,64 @@ static void many_rows(rz_handle *client) {
 static void keyed_rows(rz_handle *client) {
     const uint32_t ends[] = {4, 6, 9, 10, 13, 14}, other[] = {4, 6, 9, 10, 13, 14, 17, 18}, twice[] = {2, 4, 5, 6};
     uint32_t row = 9;
-    WANTS(rz_take_keyed_rows(client, 0, 2, 0, ends, 0, TEXT(""), &row), RZ_NO_ORDER);
+    WANTS(rz_take_keyed_rows(client, 0, 2, 0, NULL, 0, ends, 0, TEXT(""), &row), RZ_NO_ORDER);
     WANTS(rz_begin(client, TEXT("{\"query\":\"{a:user(id:1){name} b:user(id:2){name} c:user(id:3){name}}\"}")), RZ_DONE);
     WANTS(rz_next(client), RZ_ROUND);
-    WANTS(rz_take_keyed_rows(client, 1, 2, 2, ends, 6, TEXT("nameidBob2Ada1"), &row), RZ_NO_ORDER);
-    WANTS(rz_take_keyed_rows(client, 0, 2, 2, ends, 6, TEXT("nameidBob2Ada\xff"), &row), RZ_NOT_UTF8);
-    WANTS(rz_take_keyed_rows(client, 0, 2, 2, ends, 6, TEXT("nameidBob2Ada1left"), &row), RZ_BAD_ENDS);
-    WANTS(rz_take_keyed_rows(client, 0, 0, 2, ends, 0, TEXT(""), &row), RZ_NO_COLUMN);
-    WANTS(rz_take_keyed_rows(client, 0, 2, 3, ends, 6, TEXT("nameidBob2Ada1"), &row), RZ_TOO_FEW_TEXTS);
-    WANTS(rz_take_keyed_rows(client, 0, 2, UINT32_MAX, ends, 6, TEXT("nameidBob2Ada1"), &row), RZ_TOO_FEW_TEXTS);
-    WANTS(rz_take_keyed_rows(client, 0, 2, 1, ends, 6, TEXT("nameidBob2Ada1"), &row), RZ_TEXTS_LEFT);
-    WANTS(rz_take_keyed_rows(client, 0, 2, 2, ends, 6, TEXT("nameIDBob2Ada1"), &row), RZ_NO_KEY_COLUMN);
+    WANTS(rz_take_keyed_rows(client, 1, 2, 2, NULL, 0, ends, 6, TEXT("nameidBob2Ada1"), &row), RZ_NO_ORDER);
+    WANTS(rz_take_keyed_rows(client, 0, 2, 2, NULL, 0, ends, 6, TEXT("nameidBob2Ada\xff"), &row), RZ_NOT_UTF8);
+    WANTS(rz_take_keyed_rows(client, 0, 2, 2, NULL, 0, ends, 6, TEXT("nameidBob2Ada1left"), &row), RZ_BAD_ENDS);
+    WANTS(rz_take_keyed_rows(client, 0, 0, 2, NULL, 0, ends, 0, TEXT(""), &row), RZ_NO_COLUMN);
+    WANTS(rz_take_keyed_rows(client, 0, 2, 3, NULL, 0, ends, 6, TEXT("nameidBob2Ada1"), &row), RZ_TOO_FEW_TEXTS);
+    WANTS(rz_take_keyed_rows(client, 0, 2, UINT32_MAX, NULL, 0, ends, 6, TEXT("nameidBob2Ada1"), &row), RZ_TOO_FEW_TEXTS);
+    WANTS(rz_take_keyed_rows(client, 0, 2, 1, NULL, 0, ends, 6, TEXT("nameidBob2Ada1"), &row), RZ_TEXTS_LEFT);
+    WANTS(rz_take_keyed_rows(client, 0, 2, 2, NULL, 0, ends, 6, TEXT("nameIDBob2Ada1"), &row), RZ_NO_KEY_COLUMN);
     WANTS(row, 9);
-    WANTS(rz_take_keyed_rows(client, 0, 2, 3, other, 8, TEXT("nameidBob2Ada1Eve4"), &row), RZ_NOT_ASKED);
+    WANTS(rz_take_keyed_rows(client, 0, 2, 3, NULL, 0, other, 8, TEXT("nameidBob2Ada1Eve4"), &row), RZ_NOT_ASKED);
     WANTS(row, 3);
-    WANTS(rz_take_keyed_rows(client, 0, 2, 1, twice, 4, TEXT("idid41"), &row), RZ_NOT_ASKED);
+    WANTS(rz_take_keyed_rows(client, 0, 2, 1, NULL, 0, twice, 4, TEXT("idid41"), &row), RZ_NOT_ASKED);
     WANTS(row, 1);
     WANTS(rz_next(client), RZ_WAITING);
-    WANTS(rz_take_keyed_rows(client, 0, 2, 2, ends, 6, TEXT("nameidBob2Ada1"), &row), RZ_DONE);
-    WANTS(rz_take_keyed_rows(client, 0, 2, 2, ends, 6, TEXT("nameidBob2Ada1"), &row), RZ_REPLIED);
+    WANTS(rz_take_keyed_rows(client, 0, 2, 2, NULL, 0, ends, 6, TEXT("nameidBob2Ada1"), &row), RZ_DONE);
+    WANTS(rz_take_keyed_rows(client, 0, 2, 2, NULL, 0, ends, 6, TEXT("nameidBob2Ada1"), &row), RZ_REPLIED);
     WANTS(row, 1);
+    WANTS(rz_next(client), RZ_DONE);
+    print_answer(client);
+    WANTS(rz_restart(client), RZ_DONE);
+}
+
+/* Faults of keys beside rows in any order: what is refused; then one in the place of a row, and one of a key without rows; then one alone. */
+static void keyed_faults(rz_handle *client) {
+    const uint32_t ends[] = {4, 6, 9, 10, 13, 14, 18, 21}, other[] = {4, 6, 9, 10, 13, 14, 17, 18, 22}, alone[] = {4};
+    const uint32_t second[] = {1}, both[] = {1, 2}, same[] = {1, 1}, falls[] = {2, 1}, past[] = {3}, far[] = {1, UINT32_MAX};
+    uint32_t row = 9;
+    WANTS(rz_begin(client, TEXT("{\"query\":\"{a:user(id:1){name} b:user(id:2){name} c:user(id:3){name}}\"}")), RZ_DONE);
+    WANTS(rz_next(client), RZ_ROUND);
+    WANTS(rz_take_keyed_rows(client, 1, 2, 2, past, 1, ends, 7, TEXT("nameidBob2Ada1cast"), &row), RZ_NO_ORDER);
+    WANTS(rz_take_keyed_rows(client, 0, 2, 2, past, 1, ends, 7, TEXT("nameidBob2Ada1cast"), &row), RZ_BAD_FAULTS);
+    WANTS(rz_take_keyed_rows(client, 0, 2, 2, far, 2, ends, 8, TEXT("nameidBob2Ada1castoff"), &row), RZ_BAD_FAULTS);
+    WANTS(rz_take_keyed_rows(client, 0, 2, 2, same, 2, ends, 8, TEXT("nameidBob2Ada1castoff"), &row), RZ_BAD_FAULTS);
+    WANTS(rz_take_keyed_rows(client, 0, 2, 2, falls, 2, ends, 8, TEXT("nameidBob2Ada1castoff"), &row), RZ_BAD_FAULTS);
+    WANTS(rz_take_keyed_rows(client, 0, 2, 2, past, 1, ends, 7, TEXT("nameidBob2Ada1ca\xfft"), &row), RZ_BAD_FAULTS);
+    WANTS(rz_take_keyed_rows(client, 0, 2, 2, second, 1, ends, 7, TEXT("nameidBob2Ada1ca\xfft"), &row), RZ_NOT_UTF8);
+    WANTS(rz_take_keyed_rows(client, 0, 2, 2, second, 1, ends, 7, TEXT("nameidBob2Ada1castoff"), &row), RZ_BAD_ENDS);
+    WANTS(rz_take_keyed_rows(client, 0, 0, 2, second, 1, alone, 1, TEXT("cast"), &row), RZ_NO_COLUMN);
+    WANTS(rz_take_keyed_rows(client, 0, 2, 2, both, 2, ends, 7, TEXT("nameidBob2Ada1cast"), &row), RZ_TOO_FEW_TEXTS);
+    WANTS(rz_take_keyed_rows(client, 0, 2, 2, second, 1, ends, 8, TEXT("nameidBob2Ada1castoff"), &row), RZ_TEXTS_LEFT);
+    WANTS(rz_take_keyed_rows(client, 0, 2, 2, NULL, 0, ends, 7, TEXT("nameidBob2Ada1cast"), &row), RZ_TEXTS_LEFT);
+    WANTS(rz_take_keyed_rows(client, 0, 2, 2, second, 1, ends, 7, TEXT("nameIDBob2Ada1cast"), &row), RZ_NO_KEY_COLUMN);
+    WANTS(row, 9);
+    WANTS(rz_take_keyed_rows(client, 0, 2, 3, second, 1, other, 9, TEXT("nameidBob2Ada1Eve4cast"), &row), RZ_NOT_ASKED);
+    WANTS(row, 3);
+    WANTS(rz_next(client), RZ_WAITING);
+    WANTS(rz_take_keyed_rows(client, 0, 2, 2, both, 2, ends, 8, TEXT("nameidBob2Ada1castoff"), &row), RZ_DONE);
+    WANTS(rz_take_keyed_rows(client, 0, 2, 2, past, 1, ends, 7, TEXT("nameidBob2Ada1cast"), &row), RZ_REPLIED);
+    WANTS(row, 3);
+    WANTS(rz_next(client), RZ_DONE);
+    print_answer(client);
+    WANTS(rz_restart(client), RZ_DONE);
+    WANTS(rz_begin(client, TEXT("{\"query\":\"{a:user(id:1){name} b:user(id:2){name}}\"}")), RZ_DONE);
+    WANTS(rz_next(client), RZ_ROUND);
+    WANTS(rz_take_keyed_rows(client, 0, 0, 0, second, 1, alone, 1, TEXT("cast"), &row), RZ_DONE);
     WANTS(rz_next(client), RZ_DONE);
     print_answer(client);
     WANTS(rz_restart(client), RZ_DONE);
@@ -338,7 +384,7 @@ static void nulls(rz_handle *server) {
     WANTS(rz_sizes(&client, &sizes), RZ_DONE);
     WANTS(rz_orders(&client, loaders, 1, keys, 1, texts, 1, ends, 1, bytes, 1), RZ_DONE);
     WANTS(rz_take_rows(&client, 0, 0, NULL, 0, NULL, 0, NULL, 0), RZ_BAD_COUNT);
-    WANTS(rz_take_keyed_rows(&client, 0, 0, 1, NULL, 0, NULL, 0, &row), RZ_NO_COLUMN);
+    WANTS(rz_take_keyed_rows(&client, 0, 0, 1, NULL, 0, NULL, 0, NULL, 0, &row), RZ_NO_COLUMN);
     WANTS(rz_take_rows(&client, 0, 0, rows, 1, NULL, 0, NULL, 0), RZ_DONE);
     WANTS(rz_next(&client), RZ_DONE);
     WANTS(rz_begin_load(&client, 0, NULL, 0, NULL, 0, NULL, 0), RZ_DONE);
@@ -512,9 +558,9 @@ static void codes(void) {
     uint8_t name[64];
     WANTS(rz_version() >= RZ_VERSION, 1);
     WANTS(rz_code_name(0, name, 64), 0);
-    WANTS(rz_code_name(-22, name, 64), 0);
+    WANTS(rz_code_name(-23, name, 64), 0);
     WANTS(rz_code_text(RZ_BAD_HANDLE, name, 3) > 3, 1);
-    for (int32_t code = -1; code >= -21; code--) {
+    for (int32_t code = -1; code >= -22; code--) {
         size_t len = rz_code_name(code, name, 64);
         WANTS(len > 3 && len < 64 && memcmp(name, "RZ_", 3) == 0, 1);
         printf("%d %.*s\n", code, (int)len, (char *)name);
@@ -544,6 +590,7 @@ int main(int argc, char **argv) {
     parts(&client);
     many_rows(&client);
     keyed_rows(&client);
+    keyed_faults(&client);
     nulls(&other);
     requests(&client);
     loads(&client);

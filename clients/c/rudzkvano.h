@@ -57,7 +57,8 @@ enum {
     RZ_NO_COLUMN = -18,     /* rows of no column */
     RZ_TOO_MANY_ROWS = -19, /* more than 4,294,967,295 rows in one reply */
     RZ_NO_KEY_COLUMN = -20, /* rows in any order lack a column that their loader is by */
-    RZ_NOT_ASKED = -21      /* a row has a key that wasn't asked for */
+    RZ_NOT_ASKED = -21,     /* a row has a key that wasn't asked for */
+    RZ_BAD_FAULTS = -22     /* a fault is of no key of the order, or its key doesn't come after that of the fault before */
 };
 
 /* In the place of a number of rows: the key has a fault, and one text says which. */
@@ -72,7 +73,7 @@ enum {
 /* ---- The library. */
 
 /* The version of this header. It goes with a library whose rz_version is the same, or has the same major number and a larger rest. */
-#define RZ_VERSION 66048u
+#define RZ_VERSION 131072u
 
 /* The version of the library: 65536 * major + 256 * minor + patch. */
 uint32_t rz_version(void);
@@ -90,6 +91,11 @@ typedef struct { uint64_t line, column; uint32_t number, in_bindings; } rz_fault
 
 /* Reads a schema and its bindings. RZ_NOT_UTF8, RZ_BAD_SCHEMA (only then *fault is written), RZ_NO_MEMORY: server holds what it held. */
 int32_t rz_open(rz_handle *server, const uint8_t *schema, size_t schema_len, const uint8_t *bindings, size_t bindings_len, rz_fault *fault);
+
+/* What is wrong with a schema or with bindings, in a sentence with the names that stand there. fault is as rz_open wrote it, and the texts are the
+   same. As much as fits into bytes. Returns the whole length; 0 where a text isn't UTF-8, or memory runs out. */
+size_t rz_fault_text(const rz_fault *fault, const uint8_t *schema, size_t schema_len, const uint8_t *bindings, size_t bindings_len, uint8_t *bytes,
+                     size_t bytes_len);
 
 /* Puts the same server into another handle too. It is freed with the last of its handles and clients. RZ_NO_MEMORY: other holds what it held. */
 int32_t rz_share(rz_handle *server, rz_handle *other);
@@ -156,12 +162,14 @@ int32_t rz_take_rows(rz_handle *client, size_t order, size_t columns, const uint
 
 /* Takes rows for the keys of an order in any order: each key gets the rows that have it, in the order given, and a key that no row has gets none.
    A row has its key in the columns that the order's loader is by (rz_loaders), and keys are compared as the loader compares them; an empty
-   field is the empty text. The texts are the names of the columns, and then the fields of all rows, row after row. Of two columns of one name
-   the first counts. Refused are RZ_NO_ORDER, RZ_REPLIED, RZ_NOT_UTF8, RZ_BAD_ENDS, RZ_NO_COLUMN, RZ_TOO_FEW_TEXTS, RZ_TEXTS_LEFT,
-   RZ_NO_KEY_COLUMN (where there are rows), RZ_NOT_ASKED (only then *row is written: the number, from 1, of the first row whose key wasn't asked
-   for): the order waits as before. RZ_NO_MEMORY as above. */
-int32_t rz_take_keyed_rows(rz_handle *client, size_t order, size_t columns, uint32_t rows, const uint32_t *ends, size_t ends_len,
-                           const uint8_t *bytes, size_t bytes_len, uint32_t *row);
+   field is the empty text. faults has the places, in the order and from 0, of the keys that have a fault, each greater than the one before: a
+   key with a fault takes the fault in place of its rows, if it has any. The texts are the names of the columns, then the fields of all rows,
+   row after row, and then of each of faults why the key has it. Of two columns of one name the first counts. Refused are RZ_NO_ORDER,
+   RZ_REPLIED, RZ_BAD_FAULTS, RZ_NOT_UTF8, RZ_BAD_ENDS, RZ_NO_COLUMN, RZ_TOO_FEW_TEXTS, RZ_TEXTS_LEFT, RZ_NO_KEY_COLUMN (where there are rows),
+   RZ_NOT_ASKED (only then *row is written: the number, from 1, of the first row whose key wasn't asked for): the order waits as before.
+   RZ_NO_MEMORY as above. */
+int32_t rz_take_keyed_rows(rz_handle *client, size_t order, size_t columns, uint32_t rows, const uint32_t *faults, size_t faults_len,
+                           const uint32_t *ends, size_t ends_len, const uint8_t *bytes, size_t bytes_len, uint32_t *row);
 
 /* Takes it that the batch of an order failed as a whole, with this text. RZ_NO_ORDER, RZ_NOT_UTF8, RZ_REPLIED; RZ_NO_MEMORY as above. */
 int32_t rz_take_failed(rz_handle *client, size_t order, const uint8_t *text, size_t text_len);

@@ -19,8 +19,8 @@ type Key [2]string
 // Rows is what a batch function returns, with the names of the columns: either Rows or Items.
 type Rows struct {
 	Columns []string
-	// Rows has the rows of all keys in any order. A row belongs to the key that it has in the loader's columns, and the rows of a key keep
-	// their order. A row of a key that wasn't asked for fails the batch.
+	// Rows has the rows of all keys in any order, which the library aligns. A row belongs to the key that it has in the loader's columns, and
+	// the rows of a key keep their order. A row of a key that wasn't asked for fails the batch.
 	Rows [][]any
 	// Items has an item for each key, in the order of the keys, as a batch function of DataLoader returns them. All rows, for a loader by no
 	// column, are one item.
@@ -109,33 +109,63 @@ func flatKeys(loader *Loader, keys []Key) (flat texts, err error) {
 }
 
 // reply is what the library is given: for each key its number of rows or keyFault; and the names of the columns, the values of all rows and
-// the faults. unread are the columns that are left out, since a value in them has no text, each with the reason.
+// the faults. Rows in any order are keyed: the library aligns them with the keys, rows has how many there are, and faults the places of the keys
+// with a fault. unread are the columns that are left out, since a value in them has no text, each with the reason.
 type reply struct {
 	columns int
 	rows    []uint32
+	faults  []uint32
 	texts   texts
+	keyed   bool
 	unread  map[string]error
 }
 
 func flatten(loader *Loader, keys []Key, rows Rows) (reply, error) {
-	items, err := rows.Items, error(nil)
-	if items == nil {
-		items, err = group(loader, keys, rows)
-	} else if rows.Rows != nil {
-		err = loader.misfit("both Rows and Items")
+	wanted, keyed := len(keys), rows.Items == nil && len(loader.Columns) > 0
+	if len(loader.Columns) == 0 {
+		wanted = 1
 	}
-	if err != nil {
-		return reply{}, err
+	switch {
+	case rows.Items == nil:
+		rows.Items = []Item{{Rows: rows.Rows}}
+	case rows.Rows != nil:
+		return reply{}, loader.misfit("both Rows and Items")
+	case len(rows.Items) != wanted:
+		return reply{}, loader.misfit("%d items for %d keys", len(rows.Items), wanted)
 	}
-	whole := reply{unread: map[string]error{}}
-	if err := whole.add(loader, keys, rows.Columns, items); err != nil || len(whole.unread) == 0 {
+	whole := reply{keyed: keyed, unread: map[string]error{}}
+	if err := whole.add(loader, keys, rows); err != nil || len(whole.unread) == 0 {
 		return whole, err
 	}
-	done := reply{unread: whole.unread}
-	if err := done.add(loader, keys, rows.Columns, items); err != nil || done.columns > 0 {
+	for _, column := range loader.Columns {
+		if why := whole.unread[column]; keyed && why != nil {
+			return whole, why
+		}
+	}
+	done := reply{keyed: keyed, unread: whole.unread}
+	if err := done.add(loader, keys, rows); err != nil || done.columns > 0 {
 		return done, err
 	}
 	return done, done.unread[rows.Columns[0]]
+}
+
+// flattenWithoutCasts is flatten over rows in any order without those of keys that the database cast.
+func flattenWithoutCasts(loader *Loader, keys []Key, rows Rows) (reply, error) {
+	rest, faults, err := loader.withoutCasts(keys, rows)
+	if err != nil {
+		return reply{}, err
+	}
+	done, err := flatten(loader, keys, rest)
+	for place, why := range faults {
+		if why != nil {
+			done.faults = append(done.faults, uint32(place))
+			done.texts.add(strings.ToValidUTF8(why.Error(), "\uFFFD"))
+		}
+	}
+	if err == nil && !done.texts.fit() {
+		err = loader.misfit("its rows have more than %d bytes", uint32(math.MaxUint32))
+	}
+	return done, err
 }
 
 // misfit says why rows don't fit the keys that they are for.
@@ -144,35 +174,33 @@ func (l *Loader) misfit(format string, values ...any) error {
 }
 
 // add adds all but the columns that are unread already. It notes those that can't be read.
-func (r *reply) add(loader *Loader, keys []Key, columns []string, items []Item) error {
-	wanted := len(keys)
-	if len(loader.Columns) == 0 {
-		wanted = 1
-	}
-	if len(items) != wanted {
-		return loader.misfit("%d items for %d keys", len(items), wanted)
-	}
-	left := make([]bool, len(columns))
-	for place, column := range columns {
+func (r *reply) add(loader *Loader, keys []Key, rows Rows) error {
+	left := make([]bool, len(rows.Columns))
+	for place, column := range rows.Columns {
 		if _, left[place] = r.unread[column]; !left[place] {
 			r.columns++
 			r.texts.add(strings.ToValidUTF8(column, "\uFFFD"))
 		}
 	}
-	for number, item := range items {
+	for number, item := range rows.Items {
 		if item.Err != nil {
 			r.rows = append(r.rows, keyFault)
 			continue
 		}
 		r.rows = append(r.rows, uint32(len(item.Rows)))
 		for place, row := range item.Rows {
-			if err := loader.check(columns, row); err != nil {
+			if err := loader.check(rows.Columns, row); err != nil {
 				return err
 			}
-			r.addRow(columns, left, row, func(column string, err error) error { return loader.noText(column, place, keys, number, err) })
+			r.addRow(rows.Columns, left, row, func(column string, err error) error {
+				if r.keyed {
+					return loader.noKeyedText(column, place, keys, rows, err)
+				}
+				return loader.noText(column, place, keys, number, err)
+			})
 		}
 	}
-	for _, item := range items {
+	for _, item := range rows.Items {
 		if item.Err != nil {
 			r.texts.add(strings.ToValidUTF8(item.Err.Error(), "\uFFFD"))
 		}
@@ -206,6 +234,26 @@ func (l *Loader) noText(column string, place int, keys []Key, number int, err er
 	return fmt.Errorf("loader %s, column %s, row %d%s: %w", l.Name, column, place+1, of, err)
 }
 
+// noKeyedText says the same of rows in any order, of which the one of this place has that value; or that its key has no text.
+func (l *Loader) noKeyedText(column string, place int, keys []Key, rows Rows, err error) error {
+	key, keyErr := l.keyOf(rows.Columns, place, rows.Rows[place])
+	if keyErr != nil {
+		return keyErr
+	}
+	before := 0
+	for number, row := range rows.Rows[:place] {
+		if found, err := l.keyOf(rows.Columns, number, row); err == nil && l.compared(found) == l.compared(key) {
+			before++
+		}
+	}
+	for _, asked := range keys {
+		if l.compared(asked) == l.compared(key) {
+			key = asked
+		}
+	}
+	return l.noText(column, before, []Key{key}, 0, err)
+}
+
 func (l *Loader) check(columns []string, row []any) error {
 	switch len(row) {
 	case 0:
@@ -217,82 +265,79 @@ func (l *Loader) check(columns []string, row []any) error {
 	}
 }
 
-// group puts rows in any order to the keys that they have in the loader's columns.
-func group(loader *Loader, keys []Key, rows Rows) ([]Item, error) {
-	if len(loader.Columns) == 0 {
-		return []Item{{Rows: rows.Rows}}, nil
+// notAsked says that a row, of this place from 0, has a key that wasn't asked for; or what keyOf says, where it has none.
+func (l *Loader) notAsked(rows Rows, place int) error {
+	key, err := l.keyOf(rows.Columns, place, rows.Rows[place])
+	if err != nil {
+		return err
 	}
-	items, numbers := make([]Item, len(keys)), make(map[Key]int, len(keys))
-	for number, key := range keys {
-		numbers[loader.compared(key)] = number
+	columns := "column " + l.Columns[0]
+	if len(l.Columns) == 2 {
+		columns = "columns " + strings.Join(l.Columns, " and ")
 	}
-	var others []otherRow
+	return l.misfit("row %d has the key %s in %s, which wasn't asked for", place+1, l.quoted(key), columns)
+}
+
+// withoutCasts has the rows but those of which the database cast the key, as 1 for 01, and for each key that it cast a fault. It refuses a row of
+// another key that wasn't asked for.
+func (l *Loader) withoutCasts(keys []Key, rows Rows) (Rows, []error, error) {
+	found, having := make([]Key, len(rows.Rows)), make(map[Key]bool, len(rows.Rows))
 	for place, row := range rows.Rows {
-		if err := loader.check(rows.Columns, row); err != nil {
-			return nil, err
-		}
-		key, err := loader.keyOf(rows.Columns, place, row)
+		key, err := l.keyOf(rows.Columns, place, row)
 		if err != nil {
-			return nil, err
+			return rows, nil, err
 		}
-		if number, found := numbers[loader.compared(key)]; found {
-			items[number].Rows = append(items[number].Rows, row)
-		} else {
-			others = append(others, otherRow{key, place + 1})
+		found[place], having[l.compared(key)] = key, true
+	}
+	asked, alike := make(map[Key]bool, len(keys)), map[Key]bool{}
+	for _, key := range keys {
+		asked[l.compared(key)] = true
+		if !having[l.compared(key)] {
+			alike[asCast(key)] = true
 		}
 	}
-	return items, loader.faultCasts(keys, items, others)
-}
-
-// otherRow is a row, by its number from 1, of a key that wasn't asked for.
-type otherRow struct {
-	key    Key
-	number int
-}
-
-// faultCasts gives a fault to each key for which there are rows of another key, since the database takes both for the same, as 1 and 01.
-func (l *Loader) faultCasts(keys []Key, items []Item, others []otherRow) error {
-	if others == nil {
-		return nil
-	}
-	alike := map[Key][]int{}
-	for number, key := range keys {
-		if items[number].Rows == nil {
-			alike[asCast(key)] = append(alike[asCast(key)], number)
+	kept, casts := [][]any{}, map[Key]Key{}
+	for place, key := range found {
+		switch {
+		case asked[l.compared(key)]:
+			kept = append(kept, rows.Rows[place])
+		case alike[asCast(key)]:
+			casts[asCast(key)] = key
+		default:
+			return rows, nil, l.notAsked(rows, place)
 		}
 	}
-	for _, other := range others {
-		numbers, found := alike[asCast(other.key)]
-		if !found {
-			columns := "column " + l.Columns[0]
-			if len(l.Columns) == 2 {
-				columns = "columns " + strings.Join(l.Columns, " and ")
-			}
-			return l.misfit("row %d has the key %s in %s, which wasn't asked for", other.number, l.quoted(other.key), columns)
-		}
-		for _, number := range numbers {
-			items[number].Err = l.misfit("a row of the key %s for the key %s", l.quoted(other.key), l.quoted(keys[number]))
+	rows.Rows = kept
+	faults := make([]error, len(keys))
+	for place, key := range keys {
+		if other, found := casts[asCast(key)]; found && !having[l.compared(key)] {
+			faults[place] = l.misfit("a row of the key %s for the key %s", l.quoted(other), l.quoted(key))
 		}
 	}
-	return nil
+	return rows, faults, nil
 }
 
-func (l *Loader) quoted(key Key) string {
-	return "'" + strings.Join(key[:len(l.Columns)], "', '") + "'"
-}
-
-var numberParts = regexp.MustCompile(`^([+-]?)0*([0-9]*)(?:\.([0-9]*?)0*)?$`)
+var numberParts = regexp.MustCompile(`^([+-]?)([0-9]*)(?:\.([0-9]*))?(?:e([+-]?[0-9]{1,9}))?$`)
 
 // asCast has what is the same for texts that a database may take for the same: a number, or a text without case and blanks around it.
 func asCast(key Key) Key {
 	for part, text := range key {
-		text = strings.ToLower(strings.TrimSpace(text))
-		if parts := numberParts.FindStringSubmatch(text); parts != nil && strings.ContainsAny(text, "0123456789") {
-			text = strings.TrimPrefix(parts[1], "+") + "0" + parts[2] + "." + parts[3]
+		key[part] = strings.ToLower(strings.TrimSpace(text))
+		parts := numberParts.FindStringSubmatch(key[part])
+		if parts == nil || parts[2]+parts[3] == "" {
+			continue
 		}
-		key[part] = text
+		exponent, _ := strconv.Atoi(parts[4])
+		digits := strings.TrimLeft(parts[2]+parts[3], "0")
+		if key[part] = "0"; digits != "" {
+			key[part] = fmt.Sprint(strings.TrimPrefix(parts[1], "+"), strings.TrimRight(digits, "0"), "e", exponent-len(parts[3])+len(digits))
+		}
 	}
 	return key
+}
+
+func (l *Loader) quoted(key Key) string {
+	return "'" + strings.Join(key[:len(l.Columns)], "', '") + "'"
 }
 
 // keyOf has the key that a row, of this place from 0, belongs to.

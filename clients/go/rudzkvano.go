@@ -259,8 +259,10 @@ func Open(schema, bindings string) (*Server, error) {
 	})
 	if err != nil {
 		if err.(*Error).Code == C.RZ_BAD_SCHEMA {
-			told := &SchemaFault{Number: int(fault.number), Line: int(fault.line), Column: int(fault.column), InBindings: fault.in_bindings != 0}
-			return nil, told.explain(schema, bindings)
+			reason := words(func(bytes *C.uint8_t, count C.size_t) C.size_t {
+				return C.rz_fault_text(&fault, bytesAt(schemaBytes), C.size_t(len(schema)), bytesAt(bindingsBytes), C.size_t(len(bindings)), bytes, count)
+			})
+			return nil, &SchemaFault{int(fault.number), int(fault.line), int(fault.column), fault.in_bindings != 0, reason}
 		}
 		return nil, err
 	}
@@ -457,6 +459,7 @@ type order struct {
 // outcome is what a batch function returned, or the value of its panic.
 type outcome struct {
 	order    order
+	rows     Rows
 	reply    reply
 	err      error
 	time     time.Duration
@@ -582,7 +585,7 @@ func (m *memory) runRound(ctx context.Context, functions Loaders) ([]Ran, error)
 			if done.panicked != nil {
 				panic(done.panicked)
 			}
-			if err := m.take(done); err != nil {
+			if err := m.take(&done); err != nil {
 				return nil, err
 			}
 			batches[done.order.number] = Ran{done.order.loader.Name, done.order.keys, done.time, done.err}
@@ -599,29 +602,55 @@ func (o order) ask(ctx context.Context, function BatchFunc) (done outcome) {
 		return done
 	}
 	start := time.Now()
-	rows, err := function(ctx, o.keys)
-	done.time, done.err = time.Since(start), err
-	if err == nil {
-		done.reply, done.err = flatten(o.loader, o.keys, rows)
+	done.rows, done.err = function(ctx, o.keys)
+	done.time = time.Since(start)
+	if done.err == nil {
+		done.reply, done.err = flatten(o.loader, o.keys, done.rows)
 	}
 	return done
 }
 
-// take hands in what a batch function returned.
-func (m *memory) take(done outcome) error {
-	number := C.size_t(done.order.number)
-	_, err := m.handle.call(func(at *C.rz_handle) C.int32_t {
-		if done.err != nil {
-			why := []byte(strings.ToValidUTF8(done.err.Error(), "\uFFFD"))
-			return C.rz_take_failed(at, number, bytesAt(why), C.size_t(len(why)))
+// take hands in what a batch function returned. Where the library refuses its rows, the batch fails.
+func (m *memory) take(done *outcome) error {
+	if done.err == nil {
+		if err := m.takeRows(done); err != nil || done.err == nil {
+			return err
 		}
-		reply := &done.reply
-		return C.rz_take_rows(at, number, C.size_t(reply.columns), wordsAt(reply.rows), C.size_t(len(reply.rows)),
-			wordsAt(reply.texts.ends), C.size_t(len(reply.texts.ends)), bytesAt(reply.texts.bytes), C.size_t(len(reply.texts.bytes)))
+	}
+	why := []byte(strings.ToValidUTF8(done.err.Error(), "\uFFFD"))
+	_, err := m.handle.call(func(at *C.rz_handle) C.int32_t {
+		return C.rz_take_failed(at, C.size_t(done.order.number), bytesAt(why), C.size_t(len(why)))
 	})
+	return err
+}
+
+// takeRows hands in rows, without those of keys that the database cast. It notes why the batch fails where they aren't rows of its keys.
+func (m *memory) takeRows(done *outcome) error {
+	loader, keys := done.order.loader, done.order.keys
+	err := m.handIn(done.order.number, &done.reply)
+	if refused, is := err.(*Error); is && (refused.Code == C.RZ_NO_KEY_COLUMN || refused.Code == C.RZ_NOT_ASKED) {
+		if done.reply, done.err = flattenWithoutCasts(loader, keys, done.rows); done.err != nil {
+			return nil
+		}
+		err = m.handIn(done.order.number, &done.reply)
+	}
 	for column, why := range done.reply.unread {
 		m.unread[column] = why
 	}
+	return err
+}
+
+func (m *memory) handIn(order int, reply *reply) error {
+	number, columns, rows, ends, bytes := C.size_t(order), C.size_t(reply.columns), reply.rows, reply.texts.ends, reply.texts.bytes
+	row := C.uint32_t(0)
+	_, err := m.handle.call(func(at *C.rz_handle) C.int32_t {
+		if reply.keyed {
+			return C.rz_take_keyed_rows(at, number, columns, C.uint32_t(rows[0]), wordsAt(reply.faults), C.size_t(len(reply.faults)),
+				wordsAt(ends), C.size_t(len(ends)), bytesAt(bytes), C.size_t(len(bytes)), &row)
+		}
+		return C.rz_take_rows(at, number, columns, wordsAt(rows), C.size_t(len(rows)), wordsAt(ends), C.size_t(len(ends)), bytesAt(bytes),
+			C.size_t(len(bytes)))
+	})
 	return err
 }
 
@@ -727,6 +756,12 @@ func (c *Client) Prime(loader string, key Key, rows Rows) (bool, error) {
 		return false, err
 	}
 	told, err := flatten(&c.memory.loaders[number], []Key{key}, rows)
+	if err == nil && told.keyed {
+		told, err = flattenWithoutCasts(&c.memory.loaders[number], []Key{key}, rows)
+	}
+	if len(told.faults) > 0 {
+		told.rows[0] = keyFault
+	}
 	if err != nil {
 		return false, err
 	}

@@ -341,20 +341,58 @@ func TestWhatADatabaseCastsIsAFaultOfItsKey(t *testing.T) {
 			[]string{"loader one: a row of the key '1' for the key ' 1.0'", "", "loader one: a row of the key '1' for the key '+1'"}},
 		{loader, []Key{{"ADA "}, {"2"}}, []any{"Ada", ""}, []string{"loader one: a row of the key 'Ada' for the key 'ADA '", ""}},
 		{loader, []Key{{"-0.50"}, {"2"}}, []any{-0.5, ""}, []string{"loader one: a row of the key '-0.5' for the key '-0.50'", ""}},
+		{loader, []Key{{"1.20E2"}, {"2"}}, []any{120, ""}, []string{"loader one: a row of the key '120' for the key '1.20E2'", ""}},
+		{loader, []Key{{"-0"}, {"2"}}, []any{0, ""}, []string{"loader one: a row of the key '0' for the key '-0'", ""}},
 		{pairs, []Key{{"01", "x"}, {"2", "y"}}, []any{1, "X"}, []string{"loader two: a row of the key '1', 'X' for the key '01', 'x'", ""}},
 	}
 	for _, each := range cases {
-		items := must(group(each.loader, each.keys, Rows{Columns: columns, Rows: [][]any{each.row, {"2", "y"}}}))
+		rest, faults, err := each.loader.withoutCasts(each.keys, Rows{Columns: columns, Rows: [][]any{each.row, {"2", "y"}}})
+		expect(t, each.keys, err, nil)
+		expect(t, each.keys, rest.Rows, [][]any{{"2", "y"}})
 		for number, fault := range each.faults {
 			got := ""
-			if items[number].Err != nil {
-				got = items[number].Err.Error()
+			if faults[number] != nil {
+				got = faults[number].Error()
 			}
 			expect(t, each.keys[number], got, fault)
 		}
 	}
-	_, err := group(loader, []Key{{"-1"}, {"."}, {""}}, Rows{Columns: columns, Rows: [][]any{{1, ""}}})
+	_, _, err := loader.withoutCasts([]Key{{"-1"}, {"."}, {""}, {"1e"}}, Rows{Columns: columns, Rows: [][]any{{1, ""}}})
 	expect(t, "another number", err.Error(), "loader one: row 1 has the key '1' in column id, which wasn't asked for")
+}
+
+func TestRowsOfKeysThatWereCastAreLeftOut(t *testing.T) {
+	server := must(Open(read("schema.graphql"), read("bindings.txt")))
+	defer server.Close()
+	users := func(_ context.Context, keys []Key) (rows Rows, _ error) {
+		rows.Columns = []string{"id", "name"}
+		for _, key := range keys {
+			number := must(strconv.Atoi(key[0]))
+			rows.Rows = append(rows.Rows, []any{number, fmt.Sprint("a", number)}, []any{number, fmt.Sprint("b", number)})
+		}
+		return rows, nil
+	}
+	client := must(server.Client(Loaders{"userById": users}, nil))
+	defer client.Close()
+	keys := make([]Key, 1000)
+	for number := range keys {
+		keys[number] = Key{fmt.Sprint(number)}
+		if number%2 == 1 {
+			keys[number] = Key{fmt.Sprintf("%05d", number)}
+		}
+	}
+	for number, loaded := range must(client.LoadMany(context.Background(), "userById", keys...)) {
+		id := fmt.Sprint(number)
+		wanted := Loaded{Rows: []LoadedRow{{[]string{"id", "name"}, []string{id, "a" + id}}, {[]string{"id", "name"}, []string{id, "b" + id}}}}
+		if number%2 == 1 {
+			wanted = Loaded{Err: &LoadFault{fmt.Sprintf("loader userById: a row of the key '%d' for the key '%05d'", number, number), false}}
+		}
+		expect(t, keys[number], loaded, wanted)
+	}
+	wasAdded, err := client.Prime("userById", Key{"1.0"}, Rows{Columns: []string{"id"}, Rows: [][]any{{1}}})
+	expect(t, "primed", []any{wasAdded, err}, []any{true, nil})
+	loaded := must(client.LoadMany(context.Background(), "userById", Key{"1.0"}))
+	expect(t, "primed", loaded[0].Err, error(&LoadFault{"loader userById: a row of the key '1' for the key '1.0'", false}))
 }
 
 func TestALoaderThatFoldsComparesKeysWithoutTheirCase(t *testing.T) {
@@ -366,6 +404,29 @@ func TestALoaderThatFoldsComparesKeysWithoutTheirCase(t *testing.T) {
 	}
 	text := answer(server.AnswerText(context.Background(), Request{Query: `{user(id:"aDA"){name}}`}, Loaders{"userById": users}, nil))
 	expect(t, "folded", text, `{"data":{"user":{"name":"Ada"}}}`)
+}
+
+func TestRowsKeepTheirOrderWithinAKeyAsItsLoaderComparesIt(t *testing.T) {
+	schema := "type Query { named(name: String!): [User!]! } type User { id: ID age: Int }"
+	server := must(Open(schema, "bindings 2\nloader byName users by name fold\nfield Query.named many byName arg name\n"))
+	defer server.Close()
+	rows := [][]any{{2, "bob", 7}, {1, "ADA", 36}, {3, "Ada", []int{7}}}
+	loaders := Loaders{"byName": func(context.Context, []Key) (Rows, error) {
+		return Rows{Columns: []string{"id", "name", "age"}, Rows: rows}, nil
+	}}
+	client := must(server.Client(loaders, nil))
+	defer client.Close()
+	response := must(client.Answer(context.Background(), Request{Query: `{a:named(name:"aDA"){id} b:named(name:"Bob"){id age}}`}))
+	expect(t, "data", string(response.Data), `{"a":[{"id":"1"},{"id":"3"}],"b":[{"id":"2","age":null}]}`)
+	why := "loader byName, column age, row 2 of the key 'aDA': a value of type []int has no text"
+	expect(t, "unread", response.Errors[0].Message, why)
+	expect(t, "restarted", client.Restart(), nil)
+	rows = append(rows, []any{4, "Éva", 1})
+	why = "loader byName: row 4 has the key 'Éva' in column name, which wasn't asked for"
+	for _, outcome := range must(client.LoadMany(context.Background(), "byName", Key{"aDA"}, Key{"Bob"})) {
+		expect(t, "not asked", outcome, Loaded{Err: &LoadFault{why, true}})
+	}
+	expect(t, "primed", must(client.Prime("byName", Key{"ADA"}, Rows{Columns: []string{"name"}, Rows: [][]any{{"aDa"}, {"Ada"}}})), true)
 }
 
 func TestValuesBecomeTexts(t *testing.T) {
@@ -395,12 +456,12 @@ func TestTheLibraryHasTheVersionOfTheHeader(t *testing.T) {
 		version uint32
 		text    string
 	}{
-		{0x10200, ""}, {0x10201, ""}, {0x10300, ""}, {0x101FF, "1.1.255"}, {0x10000, "1.0.0"}, {0x20000, "2.0.0"},
+		{0x20000, ""}, {0x20001, ""}, {0x20100, ""}, {0x1FFFF, "1.255.255"}, {0x10200, "1.2.0"}, {0x30000, "3.0.0"},
 	}
 	for _, each := range cases {
 		var wanted error
 		if each.text != "" {
-			wanted = fmt.Errorf("librudzkvano_c.so is version %s of the library, and this package needs 1.2.0 or a later 1.x", each.text)
+			wanted = fmt.Errorf("librudzkvano_c.so is version %s of the library, and this package needs 2.0.0 or a later 2.x", each.text)
 		}
 		expect(t, each.version, checkVersion(each.version), wanted)
 	}

@@ -255,18 +255,25 @@ static napi_value begin_load(napi_env env, napi_callback_info info) {
     return go_begun(env, call.border, call.held, code, true);
 }
 
-/* reply(client, text): takes the rows for an order, and goes on. The head has the order, how many columns, keys and texts there are, and the
-   text's length in UTF-16 units. After it come the numbers of rows and the ends. */
+/* reply(client, text, keyed): takes the rows for an order, and goes on. The head has the order, how many columns, keys and texts there are, and the
+   text's length in UTF-16 units. After it come the numbers of rows and the ends. Keyed rows are in any order, counted as those of one key, and after
+   their number come the places of the keys with a fault, counted as keys. */
 static napi_value reply(napi_env env, napi_callback_info info) {
     call call;
     size_t len;
+    bool keyed;
     if (!arguments(env, info, &call, true) || !put_text(env, call.border, call.values[1], 0, &len)) return refused(env, "reply");
+    if (napi_get_value_bool(env, call.values[2], &keyed) != napi_ok) return refused(env, "reply");
     uint32_t *words = call.border->words;
     size_t keys = words[2], texts = words[3];
-    if (HEAD + keys + texts > call.border->words_len) return tell(call.border, RZ_BAD_SIZE);
+    if (HEAD + keys + texts > call.border->words_len || (keyed && !keys)) return tell(call.border, RZ_BAD_SIZE);
     uint32_t *rows = words + HEAD, *ends = rows + keys;
     if (len != words[4]) to_bytes(call.border->bytes, len, ends, texts);
-    int32_t code = rz_take_rows(&call.held->handle, words[0], words[1], rows, keys, ends, texts, call.border->bytes, len);
+    rz_handle *client = &call.held->handle;
+    const uint8_t *bytes = call.border->bytes;
+    uint32_t row;
+    int32_t code = keyed ? rz_take_keyed_rows(client, words[0], words[1], rows[0], rows + 1, keys - 1, ends, texts, bytes, len, &row)
+                         : rz_take_rows(client, words[0], words[1], rows, keys, ends, texts, bytes, len);
     return go_on(env, call.border, call.held, code);
 }
 
@@ -403,7 +410,20 @@ static napi_value value_of(napi_env env, border *border, int32_t code, rz_handle
     return value;
 }
 
-/* open(schema, bindings): the fault's number, line, column and in_bindings are left in the words 1 to 4. */
+/* What is wrong with the texts that the bytes begin with, in a sentence. */
+static napi_value sentence_on(napi_env env, border *border, const rz_fault *fault, size_t schema, size_t bindings) {
+    napi_value sentence = NULL;
+    size_t texts = schema + bindings;
+    size_t len = rz_fault_text(fault, border->bytes, schema, border->bytes + schema, bindings, NULL, 0);
+    if (!make_room(border, texts + len)) return tell(border, RZ_NO_MEMORY);
+    uint8_t *bytes = border->bytes;
+    len = rz_fault_text(fault, bytes, schema, bytes + schema, bindings, bytes + texts, len);
+    napi_create_string_utf8(env, (const char *)bytes + texts, len, &sentence);
+    tell(border, RZ_BAD_SCHEMA);
+    return sentence;
+}
+
+/* open(schema, bindings): the fault's number, line, column and in_bindings are left in the words 1 to 4, and it returns what it says. */
 static napi_value open_server(napi_env env, napi_callback_info info) {
     call call;
     size_t schema, bindings;
@@ -417,6 +437,7 @@ static napi_value open_server(napi_env env, napi_callback_info info) {
     words[2] = (uint32_t)fault.line;
     words[3] = (uint32_t)fault.column;
     words[4] = fault.in_bindings;
+    if (code == RZ_BAD_SCHEMA) return sentence_on(env, call.border, &fault, schema, bindings);
     return value_of(env, call.border, code, server, false);
 }
 

@@ -11,6 +11,8 @@ const addon = loadAddon();
 const [HEAD, FIRST_WORDS, KEPT_WORDS] = [8, 1 << 12, 1 << 16];
 /** The codes of a step, where it isn't refused. */
 const [DONE, ROUND, WAITING, NEED_ROOM] = [0, 1, 2, 3];
+/** The codes of rows that aren't those of the keys of their order. */
+const [NO_KEY_COLUMN, NOT_ASKED] = [-20, -21];
 /** The code of the addon for a text that is longer than a string may be. */
 const TEXT_TOO_LONG = -1000;
 /** In the place of a number of rows: the batch failed, and above it: the key has a fault. In the place of a number of columns: those of the row before. */
@@ -157,5 +159,5 @@ function readLog(client, loader) {
 
 module.exports = {
   addon, border, call, code, giveBackWords, makeRoom, readLoaders, readLog, readOutcomes, readRound, refusal, RudzkvanoError, DONE, FIRST_WORDS,
-  HEAD, KEPT_WORDS, NEED_ROOM, ROUND, WAITING,
+  HEAD, KEPT_WORDS, NEED_ROOM, NO_KEY_COLUMN, NOT_ASKED, ROUND, WAITING,
 };

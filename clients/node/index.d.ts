@@ -24,7 +24,7 @@ export interface InAnyOrder<R extends Row = Row> {
 }
 /** An item for each key, in the order of the keys. */
 export function aligned<R extends Row = Row>(items: readonly Item<R>[]): Aligned<R>;
-/** Rows of all keys, which are sorted to the keys by the loader's columns. */
+/** Rows of all keys, which the library aligns with the keys by the loader's columns. */
 export function inAnyOrder<R extends Row = Row>(rows: readonly R[] | Arrays): InAnyOrder<R>;
 /** How an array is read that is neither. */
 export type Form = 'aligned' | 'inAnyOrder';

@@ -11,7 +11,6 @@ const { aligned, checkForms, inAnyOrder } = require('./forms.js');
 const { Introspection } = require('./introspection.js');
 const { writeItem, writeKeys } = require('./rows.js');
 const { Run } = require('./run.js');
-const { sentenceOn } = require('./schema_fault.js');
 
 const BAD_SCHEMA = -4;
 /** More keys than any limit of a batch may have. */
@@ -21,10 +20,10 @@ const MOST_IDLE = 16;
 
 /** A schema or its bindings are refused: by the fault S`number`, at this line and column, which are 0 where it has none. */
 class SchemaFault extends RudzkvanoError {
-  constructor([number, line, column, inBindings], texts) {
+  constructor([number, line, column, inBindings], reason) {
     super(BAD_SCHEMA);
     Object.assign(this, { number, line, column, inBindings: inBindings === 1 });
-    this.message = `S${number} at ${inBindings ? 'bindings' : 'schema'}:${line}:${column}: ${sentenceOn(this, texts)}`;
+    this.message = `S${number} at ${inBindings ? 'bindings' : 'schema'}:${line}:${column}: ${reason}`;
   }
 }
 
@@ -60,9 +59,10 @@ class Server {
   #checked;
 
   constructor({ schema, bindings }) {
-    this.#handle = addon.open(schema, bindings);
-    if (code() === BAD_SCHEMA) throw new SchemaFault(border.words.subarray(1, 5), { schema, bindings });
+    const opened = addon.open(schema, bindings);
+    if (code() === BAD_SCHEMA) throw new SchemaFault(border.words.subarray(1, 5), opened);
     if (code() < 0) throw new RudzkvanoError(code());
+    this.#handle = opened;
     this.#introspection = new Introspection(schema);
     this.loaders = Object.freeze(readLoaders(this.#handle));
     this.#byName = new Map(this.loaders.map((loader) => [loader.name, loader]));

@@ -56,15 +56,10 @@ function checkArray(loader, returned) {
 
 // ---- The keys of rows.
 
-/** One text for a key, which is a text or a pair, so that the texts of two keys are the same where the keys are. */
+/** One text for a key, so that the texts of two keys are the same where the loader takes the keys for the same. */
 function keyText(loader, key) {
-  const text = typeof key === 'string' ? key : JSON.stringify(key.map(wellFormed));
+  const text = JSON.stringify([key].flat().map(wellFormed));
   return loader.folds ? text.replace(/[A-Z]/g, (letter) => letter.toLowerCase()) : text;
-}
-
-/** The texts of the keys that were asked for. */
-function keyTexts(loader, keys) {
-  return loader.folds || loader.columns.length === 2 ? keys.map((key) => keyText(loader, key)) : keys;
 }
 
 /** What a message says of a key: a text, or a pair. */
@@ -72,74 +67,32 @@ function quoted(key) {
   return [key].flat().map((text) => inspect(text)).join(', ');
 }
 
-/** The key that a text of keyText is of. */
-function keyIn(loader, text) {
-  return loader.columns.length === 2 ? JSON.parse(text) : text;
-}
-
 /** The first column of a loader that a row hasn't. */
 function lacking(loader, row) {
   return loader.columns.find((column) => row[column] === undefined);
 }
 
-/** The text of a part of the key of a row, which is the one of this number. */
-function partOf(loader, row, number, place, member) {
-  const text = textOf(row[member]);
-  if (text === undefined) throw noText(loader, loader.columns[place], `row ${number}`, row[member]);
-  return text;
+/** The place of the first element that is no row or hasn't all of the loader's columns, or -1. */
+function placeOfOther(loader, elements) {
+  return elements.findIndex((element) => !isRow(element) || lacking(loader, element) !== undefined);
 }
 
-/** The text of the key of a row, which has it in these members. */
-function keyOf(loader, row, number, first, second) {
-  const key = partOf(loader, row, number, 0, first);
-  if (second === undefined) return loader.folds ? keyText(loader, key) : key;
-  return keyText(loader, [key, partOf(loader, row, number, 1, second)]);
-}
-
-/** The texts of the keys of rows, up to the first element that is no row or hasn't all of the loader's columns. */
-function keysOf(loader, rows) {
-  const [first, second] = loader.columns;
-  const keys = [];
-  for (const row of rows) {
-    if (!isRow(row) || row[first] === undefined || (second !== undefined && row[second] === undefined)) break;
-    keys.push(keyOf(loader, row, keys.length + 1, first, second));
-  }
-  return keys;
-}
-
-// ---- A reply: its rows in the order of the keys, for each key how many of them it has or KEY_FAULT, and the faults.
-
-function alike(some, others) {
-  for (let i = 0; i < some.length; i++) if (some[i] !== others[i]) return false;
-  return some.length === others.length;
-}
-
-function filled(count, number) {
-  const numbers = [];
-  for (let i = 0; i < count; i++) numbers.push(number);
-  return numbers;
-}
-
-/** The reply of rows with these keys, in any order. */
-function grouped(loader, keys, rows, keysOfRows) {
-  const asked = keyTexts(loader, keys);
-  if (alike(keysOfRows, asked)) return { rows, counts: filled(asked.length, 1), faults: [] };
-  const counts = filled(asked.length, 0);
-  const places = new Map(asked.map((key, place) => [key, place]));
-  const found = keysOfRows.map((key, row) => {
-    const place = places.get(key) ?? places.get(wellFormed(key));
-    if (place === undefined) {
-      const columns = `column${loader.columns.length === 2 ? 's' : ''} ${loader.columns.join(' and ')}`;
-      throw new RangeError(`loader ${loader.name}: row ${row + 1} has the key ${quoted(keyIn(loader, key))} in ${columns}, which wasn't asked for`);
-    }
-    counts[place]++;
-    return place;
+/** The texts of the key of a row, which is the one of this number. `columns` are the names of its columns, where it is an array. */
+function keyOf(loader, row, number, columns) {
+  return loader.columns.map((column) => {
+    const value = row[columns ? columns.indexOf(column) : column];
+    const text = textOf(value);
+    if (text === undefined) throw noText(loader, column, `row ${number}`, value);
+    return text;
   });
-  let end = 0;
-  const starts = counts.map((count) => (end += count) - count);
-  const sorted = new Array(rows.length);
-  found.forEach((place, i) => (sorted[starts[place]++] = rows[i]));
-  return { rows: sorted, counts, faults: [] };
+}
+
+// ---- A reply: its rows in the order of the keys, for each key how many of them it has or KEY_FAULT, and the faults. The rows of a keyed reply are
+// in any order, counted as those of one key: the library aligns them. After their count come the places of the keys with a fault.
+
+/** The reply of rows in any order. A loader by no column has no keys. */
+function unsorted(loader, rows, columns) {
+  return { rows, columns, counts: [rows.length], faults: [], isKeyed: loader.columns.length > 0 };
 }
 
 /** The reply of elements that are aligned with the keys: an array of rows, one row, nothing, or an error, of which `faultOf` makes a text. */
@@ -169,31 +122,21 @@ function isArrays(returned) {
   return Array.isArray(returned?.columns) && Array.isArray(returned.rows);
 }
 
-/** The reply of columns with rows that are arrays, in any order. */
-function ofArrays(loader, keys, { columns, rows }) {
-  for (const row of rows) {
-    if (!Array.isArray(row)) throw new TypeError(`loader ${loader.name}: a row of type ${typeName(row)}`);
-    if (row.length !== columns.length) throw new RangeError(`loader ${loader.name}: a row of ${row.length} values for ${columns.length} columns`);
+/** The reply of rows in any order, which are objects, or arrays beside the names of their columns. */
+function ofRows(loader, returned) {
+  if (isArrays(returned)) {
+    const { columns, rows } = returned;
+    for (const row of rows) {
+      if (!Array.isArray(row)) throw new TypeError(`loader ${loader.name}: a row of type ${typeName(row)}`);
+      if (row.length !== columns.length) throw new RangeError(`loader ${loader.name}: a row of ${row.length} values for ${columns.length} columns`);
+    }
+    return unsorted(loader, rows, columns);
   }
-  if (loader.columns.length === 0) return { columns, rows, counts: [rows.length], faults: [] };
-  const missing = loader.columns.find((column) => !columns.includes(column));
-  if (missing !== undefined) throw new TypeError(`loader ${loader.name}: its rows have no column ${missing}`);
-  const [first, second] = loader.columns.map((column) => columns.indexOf(column));
-  return { columns, ...grouped(loader, keys, rows, rows.map((row, i) => keyOf(loader, row, i + 1, first, second))) };
-}
-
-/** The reply of rows in any order. */
-function ofRows(loader, keys, rows) {
-  if (isArrays(rows)) return ofArrays(loader, keys, rows);
-  checkArray(loader, rows);
-  if (loader.columns.length === 0) return { rows, counts: [rows.length], faults: [] };
-  const keysOfRows = keysOf(loader, rows);
-  const place = keysOfRows.length;
-  if (place < rows.length) {
-    checkRow(loader, rows[place]);
-    throw new TypeError(`loader ${loader.name}: row ${place + 1} has no column ${lacking(loader, rows[place])}`);
-  }
-  return grouped(loader, keys, rows, keysOfRows);
+  checkArray(loader, returned);
+  const place = placeOfOther(loader, returned);
+  if (place < 0) return unsorted(loader, returned);
+  checkRow(loader, returned[place]);
+  throw new TypeError(`loader ${loader.name}: row ${place + 1} has no column ${lacking(loader, returned[place])}`);
 }
 
 /**
@@ -201,15 +144,14 @@ function ofRows(loader, keys, rows) {
  * sorted where there is nothing else.
  */
 function refuseDoubt(loader, keys, elements) {
-  const asked = keyTexts(loader, keys);
   const doubt = (why) => new TypeError(`loader ${loader.name}: ${why}: its function has to return aligned(items) or inAnyOrder(rows)`);
   const rows = [...elements.keys()].filter((place) => isRow(elements[place]));
   const isWhole = (place) => lacking(loader, elements[place]) === undefined;
   const whole = rows.filter(isWhole);
   for (const place of whole) {
-    const key = keyOf(loader, elements[place], place + 1, ...loader.columns);
-    if (key === asked[place] || wellFormed(key) === asked[place]) continue;
-    throw doubt(`row ${place + 1} has the key ${quoted(keyIn(loader, key))}, and stands for the key ${quoted(keys[place])}`);
+    const key = keyOf(loader, elements[place], place + 1);
+    if (keyText(loader, key) === keyText(loader, keys[place])) continue;
+    throw doubt(`row ${place + 1} has the key ${quoted(key)}, and stands for the key ${quoted(keys[place])}`);
   }
   const other = rows.find((place) => !isWhole(place));
   if (whole.length === 0 || other === undefined) return;
@@ -218,8 +160,7 @@ function refuseDoubt(loader, keys, elements) {
 
 /** The reply of an array of which nobody says how it is to be read. */
 function ofBareArray(loader, keys, elements, faultOf) {
-  const keysOfRows = keysOf(loader, elements);
-  if (keysOfRows.length === elements.length) return grouped(loader, keys, elements, keysOfRows);
+  if (placeOfOther(loader, elements) < 0) return unsorted(loader, elements);
   if (elements.length !== keys.length) {
     throw new RangeError(`loader ${loader.name}: ${elements.length} items for ${keys.length} keys, which aren't all rows with its columns`);
   }
@@ -229,10 +170,10 @@ function ofBareArray(loader, keys, elements, faultOf) {
 
 /** The reply that a function returned, of whose bare arrays an option says the form. */
 function replyOf(loader, keys, returned, form, faultOf) {
-  if (returned instanceof InAnyOrder) return ofRows(loader, keys, returned.rows);
+  if (returned instanceof InAnyOrder) return ofRows(loader, returned.rows);
   const isAligned = returned instanceof Aligned;
   if (isAligned && loader.columns.length === 0) throw new TypeError(`loader ${loader.name}: it has no keys that items are aligned with`);
-  if (!isAligned && (isArrays(returned) || loader.columns.length === 0 || form === 'inAnyOrder')) return ofRows(loader, keys, returned);
+  if (!isAligned && (isArrays(returned) || loader.columns.length === 0 || form === 'inAnyOrder')) return ofRows(loader, returned);
   const elements = isAligned ? returned.items : returned;
   checkArray(loader, elements);
   return (isAligned || form === 'aligned' ? ofItems : ofBareArray)(loader, keys, elements, faultOf);
@@ -315,29 +256,80 @@ function widened(loader, reply) {
   return { ...reply, columns, rows: reply.rows.map((row) => columns.map((name) => row[name])) };
 }
 
+const NUMBER = /^([+-]?)(\d*)(?:\.(\d*))?(?:e([+-]?\d{1,9}))?$/;
+
+/** What is the same for texts that a database may take for the same: a number, or a text without case and blanks around it. */
+function castOf(text) {
+  const plain = text.trim().toLowerCase();
+  const [, sign, whole = '', fraction = '', exponent = '0'] = NUMBER.exec(plain) ?? [];
+  if (whole + fraction === '') return plain;
+  const digits = (whole + fraction).replace(/^0+/, '');
+  let end = digits.length;
+  while (digits[end - 1] === '0') end--;
+  return end === 0 ? '0' : `${sign === '-' ? sign : ''}${digits.slice(0, end)}e${Number(exponent) - fraction.length + digits.length}`;
+}
+
+/**
+ * A keyed reply, whose rows have these columns, without those of which the database cast the key, as 1 for 01, and with a fault of each key that it
+ * cast. Throws what is wrong with it where a row has another key that wasn't asked for, or a column of the loader is missing.
+ */
+function withoutCasts(loader, keys, reply, columns, faultOf) {
+  const misfit = (why) => new RangeError(`loader ${loader.name}: ${why}`);
+  const missing = loader.columns.find((column) => !columns.includes(column));
+  if (missing !== undefined) throw new TypeError(`loader ${loader.name}: its rows have no column ${missing}`);
+  const castText = (key) => JSON.stringify([key].flat().map(castOf));
+  const found = reply.rows.map((row, i) => keyOf(loader, row, i + 1, reply.columns));
+  const texts = found.map((key) => keyText(loader, key));
+  const [asked, having] = [new Set(keys.map((key) => keyText(loader, key))), new Set(texts)];
+  const places = [...keys.keys()].filter((place) => !having.has(keyText(loader, keys[place])));
+  const casts = new Map(places.map((place) => [castText(keys[place]), undefined]));
+  const isAsked = texts.map((text, i) => {
+    if (asked.has(text)) return true;
+    const where = `column${loader.columns.length === 2 ? 's' : ''} ${loader.columns.join(' and ')}`;
+    if (!casts.has(castText(found[i]))) throw misfit(`row ${i + 1} has the key ${quoted(found[i])} in ${where}, which wasn't asked for`);
+    casts.set(castText(found[i]), found[i]);
+    return false;
+  });
+  const rows = reply.rows.filter((_, i) => isAsked[i]);
+  const cast = places.filter((place) => casts.get(castText(keys[place])) !== undefined);
+  const faults = cast.map((place) => {
+    const [other, key] = [casts.get(castText(keys[place])), keys[place]];
+    return faultOf(misfit(`a row of the key ${quoted(other)} for the key ${quoted(key)}`), [key]);
+  });
+  return { ...reply, columns: reply.columns ?? (rows.length === 0 ? columns : undefined), rows, counts: [rows.length, ...cast], faults };
+}
+
 /** The key of a row of a reply, and what a message says of the row. */
-function whose(loader, keys, counts, row) {
+function whose(loader, keys, { columns, rows, counts, isKeyed }, row) {
   if (loader.columns.length === 0) return { row: `row ${row + 1}` };
   let [key, before] = [0, row];
-  for (; counts[key] === KEY_FAULT || counts[key] <= before; key++) if (counts[key] !== KEY_FAULT) before -= counts[key];
+  if (isKeyed) {
+    const found = rows.slice(0, row + 1).map((it, i) => keyText(loader, keyOf(loader, it, i + 1, columns)));
+    key = keys.findIndex((it) => keyText(loader, it) === found[row]);
+    before = found.filter((it) => it === found[row]).length - 1;
+  } else {
+    for (; counts[key] === KEY_FAULT || counts[key] <= before; key++) if (counts[key] !== KEY_FAULT) before -= counts[key];
+  }
   return { key: keys[key], row: `row ${before + 1} of the key ${quoted(keys[key])}` };
 }
 
 /** A reply of texts, without the columns in which a value has none. `unread` says of each why it is left out, and by which key. */
 function readable(loader, keys, reply) {
-  const { columns, rows, counts, faults } = widened(loader, reply);
+  const wide = widened(loader, reply);
+  const { columns, rows, isKeyed } = wide;
   const texts = rows.map((row) => row.map(textOf));
   const unread = [];
   const places = [...columns.keys()].filter((place) => {
     const number = texts.findIndex((row) => row[place] === undefined);
     if (number < 0) return true;
-    const { key, row } = whose(loader, keys, counts, number);
+    if (isKeyed && loader.columns.includes(columns[place])) throw noText(loader, columns[place], `row ${number + 1}`, rows[number][place]);
+    const { key, row } = whose(loader, keys, wide, number);
     unread.push({ column: columns[place], error: noText(loader, columns[place], row, rows[number][place]), keys: key === undefined ? [] : [key] });
     return false;
   });
   if (places.length === 0) throw unread[0].error;
   const kept = (row) => places.map((place) => row[place]);
-  return { columns: kept(columns), rows: texts.map(kept), counts, faults, unread };
+  return { ...wide, columns: kept(columns), rows: texts.map(kept), unread };
 }
 
 /**
@@ -361,24 +353,29 @@ function write(loader, keys, reply, place) {
   if (text === undefined) return write(loader, keys, widened(loader, reply), place);
   if (text === NO_TEXT) return write(loader, keys, readable(loader, keys, reply), place);
   if (rows.length > 0 && columns.length === 0) throw new TypeError(`loader ${loader.name}: a row has no columns`);
-  return { text, columns: columns.length, texts, unread };
+  return { text, columns, texts, unread };
 }
 
 /**
- * Leaves what a batch function returned among the words, but for the order's number. Returns its texts, and the columns that are left out of them,
- * since they have a value that has no text. `form` is how a bare array is read, if somebody says it.
+ * Leaves a reply among the words, but for the order's number. Returns its texts, whether it is keyed, and the columns that are left out of them, since
+ * they have a value that has no text; and `withoutCasts`, which leaves a keyed reply that the library refused once more, without the rows that it
+ * refused, or throws why it can't.
  */
-function writeReply(loader, keys, returned, form, faultOf) {
-  const reply = replyOf(loader, keys, returned, form, faultOf);
-  const { counts } = reply;
+function leave(loader, keys, reply, faultOf) {
+  const { counts, isKeyed = false } = reply;
   const { text, columns, texts, unread } = write(loader, keys, reply, HEAD + counts.length);
   const { words } = border;
-  words[1] = columns;
+  words[1] = columns.length;
   words[2] = counts.length;
   words[3] = texts;
   words[4] = text.length;
   for (let key = 0; key < counts.length; key++) words[HEAD + key] = counts[key];
-  return { text, unread };
+  return { text, isKeyed, unread, withoutCasts: () => leave(loader, keys, withoutCasts(loader, keys, reply, columns, faultOf), faultOf) };
+}
+
+/** Leaves what a batch function returned among the words. `form` is how a bare array is read, if somebody says it. */
+function writeReply(loader, keys, returned, form, faultOf) {
+  return leave(loader, keys, replyOf(loader, keys, returned, form, faultOf), faultOf);
 }
 
 /** Leaves texts, and how many there are of each key, among the words, from a place on. Returns them as one. */
@@ -394,7 +391,7 @@ function writeItem(loader, key, item) {
   const { text, columns, texts, unread } = write(loader, keys, reply, HEAD + key.length);
   if (unread.length > 0) throw unread[0].error;
   const keyText = writeKeys(key, HEAD);
-  border.words.set([loader.number, key.length, columns, reply.counts[0], texts, keyText.length, text.length]);
+  border.words.set([loader.number, key.length, columns.length, reply.counts[0], texts, keyText.length, text.length]);
   return [keyText, text];
 }
 

@@ -2,7 +2,8 @@
 'use strict';
 
 const {
-  addon, border, code, giveBackWords, makeRoom, readOutcomes, readRound, refusal, DONE, HEAD, NEED_ROOM, ROUND, WAITING,
+  addon, border, code, giveBackWords, makeRoom, readOutcomes, readRound, refusal, DONE, HEAD, NEED_ROOM, NO_KEY_COLUMN, NOT_ASKED, ROUND,
+  WAITING,
 } = require('./border.js');
 const { editErrors, faultText, messageOf, plainText, shownBy, withExtensions } = require('./faults.js');
 const { formOf } = require('./forms.js');
@@ -158,11 +159,25 @@ class Run {
     } catch (why) {
       return this.fail(order, why);
     }
-    // a getter of a row, or a hook, may have stopped the request
+    let text = this.handIn(order, reply);
+    if (code() === NO_KEY_COLUMN || code() === NOT_ASKED) {
+      try {
+        reply = reply.withoutCasts();
+      } catch (why) {
+        return this.fail(order, why);
+      }
+      text = this.handIn(order, reply);
+    }
     if (this.over) return undefined;
     for (const it of reply.unread) this.unread.set(it.column, { ...it, loader });
+    return this.told(order, this.left(text));
+  }
+
+  /** Has the library take a reply, unless a getter of a row, or a hook, has stopped the request. Returns what the step left. */
+  handIn(order, { text, isKeyed }) {
+    if (this.over) return undefined;
     border.words[0] = order.number;
-    return this.told(order, this.left(addon.reply(this.handle, reply.text)));
+    return addon.reply(this.handle, text, isKeyed);
   }
 
   /** Tells the library that a batch failed. */

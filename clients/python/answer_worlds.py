@@ -120,4 +120,5 @@ def main(path: str, examples: str) -> None:
     call_each(library, examples, tables)
 
 
-main(*sys.argv[1:])
+if __name__ == "__main__":
+    main(*sys.argv[1:])

@@ -111,7 +111,8 @@ describe('faults', () => {
     ['{users{name}}', 'allUsers', [null], ['loader allUsers: a row of type null'], { users: null }],
     ['{users{name}}', 'allUsers', [], [], { users: [] }],
     ['{named(name:"ADA"){name}}', 'userByName', [{ name: 'Ada' }], [], { named: { name: 'Ada' } }],
-    ['{named(name:"Ä"){name}}', 'userByName', [{ name: 'ä' }], [notAsked('userByName', "'ä'", 'column name')], { named: null }],
+    ['{named(name:"Ä"){name}}', 'userByName', [{ name: 'ä' }], ["loader userByName: a row of the key 'ä' for the key 'Ä'"], { named: null }],
+    ['{named(name:"Ä"){name}}', 'userByName', [{ name: 'o' }], [notAsked('userByName', "'o'", 'column name')], { named: null }],
     ['{named(name:"Error"){name}}', 'userByName', [new Error('gone')], ['gone'], { named: null }],
     [vote, 'voteByBoth', [{ user: 1, post: 23, stars: 5 }], [], { vote: { stars: 5 } }],
     [vote, 'voteByBoth', [{ user: 12, post: 3, stars: 5 }], [notAsked('voteByBoth', "'12', '3'", 'columns user and post')], { vote: null }],
@@ -164,6 +165,63 @@ describe('faults', () => {
       const { errors } = await answer('{users{name age}}', 'allUsers', rows);
       assert.equal(errors[0].message, `loader allUsers, column age, row 2: ${what} has no text`);
     }
+  });
+
+  it('rows in any order keep it within a key, which is compared as its loader compares it', async () => {
+    const rows = [{ name: 'bob', age: 1 }, { name: 'ADA', age: 2 }, { name: 'Ada', age: [3] }];
+    const client = server.client({ userByName: () => rows });
+    assert.deepEqual(await client.loadMany('userByName', ['aDA', 'Bob']), [[{ name: 'ADA' }, { name: 'Ada' }], [{ name: 'bob' }]]);
+    const { errors } = await client.answer({ query: '{named(name:"BOB"){age}}' });
+    assert.equal(errors[0].message, "loader userByName, column age, row 2 of the key 'aDA': a value of type Array has no text");
+    client.restart();
+    rows.push({ name: 'Éva' });
+    const [{ message }] = await client.loadMany('userByName', ['aDA', 'Bob']);
+    assert.equal(message, notAsked('userByName', "'Éva'", 'column name', 4));
+    client.close();
+  });
+
+  it('what a database casts is a fault of its key', async () => {
+    const cases = [['01', 1], [' +1.0', 1], ['ADA ', 'Ada'], ['1.20E2', 120], ['-0', 0], ['-0.50', -0.5]];
+    for (const [key, id] of cases) {
+      const rows = [{ id, name: 'Eve' }, { id: 2, name: 'Bob' }];
+      for (const returned of [rows, inAnyOrder(rows), { columns: ['id', 'name'], rows: rows.map(Object.values) }]) {
+        const client = server.client({ userById: () => returned });
+        const [fault, found] = await client.loadMany('userById', [key, '2']);
+        assert.deepEqual([fault.message, found], [`loader userById: a row of the key '${id}' for the key '${key}'`, [{ id: '2', name: 'Bob' }]]);
+        client.close();
+      }
+    }
+    for (const key of ['-1', '.', '', '1e']) {
+      const [fault, other] = await server.client({ userById: () => [{ id: 2 }, { id: 1 }] }).loadMany('userById', [key, '2']);
+      assert.deepEqual([fault.message, other.message], twice(notAsked('userById', "'1'", 'column id', 2)));
+    }
+    const { errors, data } = await answer('{a:vote(user:"01",post:"x"){stars} b:vote(user:2,post:3){stars}}', 'voteByBoth', [
+      { user: 1, post: 'X', stars: 1 }, { user: 2, post: 3, stars: 4 },
+    ]);
+    assert.deepEqual([errors[0].message, data], ["loader voteByBoth: a row of the key '1', 'X' for the key '01', 'x'", { a: null, b: { stars: 4 } }]);
+  });
+
+  it('rows of keys that were cast are left out', async () => {
+    const keys = Array.from({ length: 1000 }, (_, i) => (i % 2 === 0 ? `${i}` : `${i}`.padStart(5, '0')));
+    const told = [];
+    const onError = (error, batch) => (told.push([error.message, batch.keys]), new PublicError('cast'));
+    const userById = (asked) => asked.flatMap((key) => ['a', 'b'].map((name) => ({ id: Number(key), name, age: [1] })));
+    const client = server.client({ userById }, { onError });
+    const loaded = await client.loadMany('userById', keys);
+    loaded.forEach((it, i) => {
+      if (i % 2 === 0) assert.deepEqual(it, [{ id: `${i}`, name: 'a' }, { id: `${i}`, name: 'b' }]);
+      else assert.equal(it.message, 'cast');
+    });
+    const odd = keys.filter((_, i) => i % 2 === 1);
+    assert.deepEqual(told, odd.map((key) => [`loader userById: a row of the key '${Number(key)}' for the key '${key}'`, [key]]));
+    const [all] = await server.client({ userById: () => [{ id: 1, name: 'x' }] }).loadMany('userById', ['01']);
+    assert.equal(all.message, "loader userById: a row of the key '1' for the key '01'");
+  });
+
+  it('a member that is not enumerable is no column that has keys', async () => {
+    const row = Object.defineProperty({ name: 'Ada' }, 'id', { value: 1 });
+    const { errors } = await answer(one, 'userById', inAnyOrder([row]));
+    assert.equal(errors[0].message, 'loader userById: its rows have no column id');
   });
 
   it('such a column is told to the hook, in each request that uses it, and forgotten with the rows', async () => {

@@ -15,16 +15,16 @@ from types import MappingProxyType
 from typing import Any, Concatenate, NamedTuple, ParamSpec, TypeAlias, TypeVar, Union
 
 from .errors import OnError, edit_errors, fault_text, has_extensions, message_of, parted
-from .library import BUSY, Held, Library, buffer_of, cut, flat, words
+from .library import BUSY, NO_COLUMN, NO_KEY_COLUMN, NOT_ASKED, Held, Library, Refused, buffer_of, cut, flat, words
 from .limits import checked_limit
 from .loaders import Batch, Form, Keys, Loaded, Loader, Loaders, OnRound, Order, Ran, Round
-from .rows import Reply, Unread, item_of, outcomes_of, reply_of, text_of
+from .rows import Keyed, Misfit, Reply, Unread, item_of, outcomes_of, reply_of, text_of, unread_of, without_casts
 
 # The text of a query; a request with `query`, `variables` and `operationName`; 1 to 16 of these, which share their rounds; or JSON text of those.
 Query: TypeAlias = Union[str, Mapping[str, Any], Sequence[Mapping[str, Any]], bytes]
 Variables: TypeAlias = Union[Mapping[str, Any], None]
 # what a batch function returned, or the error by which the batch failed; and after how many seconds
-_Outcome: TypeAlias = tuple[Union[Reply, Exception], float]
+_Outcome: TypeAlias = tuple[Union[Reply, Keyed, Exception], float]
 # tells the answer to a query that another library answers, or None
 Introspect: TypeAlias = Callable[[Query, Variables, Union[str, None]], Union[str, None]]
 
@@ -229,7 +229,7 @@ class Client(Held):
                 task.cancel()
             raise
 
-    def _read(self, order: Order, returned: Any) -> Reply:
+    def _read(self, order: Order, returned: Any) -> Reply | Keyed:
         return reply_of(order.loader, order.keys, returned, self._asks.forms.get(order.loader.name))
 
     def _asked(self, order: Order) -> Any:
@@ -240,15 +240,22 @@ class Client(Held):
 
     def _end_round(self, number: int, orders: list[Order], outcomes: list[_Outcome]) -> None:
         """Takes what the batches of a round returned, and tells of it."""
-        for order, (reply, _) in zip(orders, outcomes):
-            if isinstance(reply, Exception):
-                self._fail(order, self._fault_text(reply, order.loader, order.keys))
-            else:
-                self._take(order, reply)
+        failed = [self._end(order, reply) for order, (reply, _) in zip(orders, outcomes)]
         if self._asks.on_round is not None:
-            told = zip(orders, outcomes)
-            batches = [Ran(it.loader.name, it.keys, seconds * 1000, _failed(reply)) for it, (reply, seconds) in told]
+            told = zip(orders, outcomes, failed)
+            batches = [Ran(it.loader.name, it.keys, seconds * 1000, None if why is None else message_of(why)) for it, (_, seconds), why in told]
             self._asks.on_round(Round(number, batches))
+
+    def _end(self, order: Order, reply: Reply | Keyed | Exception) -> Exception | None:
+        """Takes what a batch returned. Returns the error by which it failed as a whole, if it did."""
+        if not isinstance(reply, Exception):
+            try:
+                self._take(order, reply)
+                return None
+            except Misfit as misfit:
+                reply = misfit
+        self._fail(order, self._fault_text(reply, order.loader, order.keys))
+        return reply
 
     def _fault_text(self, error: Exception, loader: Loader, keys: Keys) -> str:
         text = fault_text(error, loader.name, keys, self._asks.on_error)
@@ -323,11 +330,33 @@ class Client(Held):
         """Takes the reply to an order: what a batch function returns."""
         self._take(order, self._read(order, returned))
 
-    def _take(self, order: Order, reply: Reply) -> None:
-        columns, rows, ends, data, _, unread = self._with_faults(order.loader, reply)
-        self._call(self._calls.rz_take_rows, order.number, columns, *buffer_of(rows), *buffer_of(ends), data, len(data))
+    def _take(self, order: Order, reply: Reply | Keyed) -> None:
+        if isinstance(reply, Keyed):
+            self._take_keyed(order, reply)
+            unread = unread_of(order.loader, order.keys, reply)
+        else:
+            columns, rows, ends, data, _, unread = self._with_faults(order.loader, reply)
+            self._call(self._calls.rz_take_rows, order.number, columns, *buffer_of(rows), *buffer_of(ends), data, len(data))
         for column, why in unread.items():
             self._unread[column] = order.loader, why
+
+    def _take_keyed(self, order: Order, reply: Keyed) -> None:
+        """Has the library align rows with the keys of an order, of which some have a fault if the database cast them. Raises Misfit where they aren't
+        rows of these keys."""
+        try:
+            self._hand_in(order, reply, {})
+            return
+        except Refused as refused:
+            if refused.code not in (NO_COLUMN, NO_KEY_COLUMN, NOT_ASKED):
+                raise
+        self._hand_in(order, *without_casts(order.loader, order.keys, reply))
+
+    def _hand_in(self, order: Order, reply: Keyed, faults: Mapping[int, Exception]) -> None:
+        texts = [self._fault_text(error, order.loader, [order.keys[place]]) for place, error in faults.items()]
+        columns, rows, ends, data, _ = reply.with_faults(texts) if faults else reply
+        places, row = array("I", faults), words(1)
+        size = len(columns), rows, *buffer_of(places), *buffer_of(ends)
+        self._call(self._calls.rz_take_keyed_rows, order.number, *size, data, len(data), row.buffer_info()[0])
 
     def _fail(self, order: Order, text: str) -> None:
         """Takes it that the batch of an order failed as a whole."""
@@ -456,10 +485,6 @@ class Client(Held):
             if loader.name == name:
                 return loader
         raise ValueError(f"the bindings have no loader {name}")
-
-
-def _failed(reply: Reply | Exception) -> str | None:
-    return message_of(reply) if isinstance(reply, Exception) else None
 
 
 def _json(value: object) -> str:

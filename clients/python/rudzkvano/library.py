@@ -7,16 +7,17 @@ import os
 import threading
 import weakref
 from array import array
-from collections.abc import Callable, Mapping
+from collections.abc import Callable, Mapping, Sequence
 from ctypes import addressof, c_char_p, c_int32, c_size_t, c_uint32, c_void_p
 from itertools import accumulate
 from pathlib import Path
 from typing import Any, TypeVar
 
 # The version of clients/c/rudzkvano.h that this package calls: 65536 * major + 256 * minor + patch.
-HEADER_VERSION = 66048
-BUSY = -7
+HEADER_VERSION = 131072
 BAD_SCHEMA = -4
+BUSY = -7
+NO_COLUMN, NO_KEY_COLUMN, NOT_ASKED = -18, -20, -21
 KEY_FAULT = 0xFFFFFFFF
 BATCH_FAULT = 0xFFFFFFFE
 SAME_COLUMNS = 0xFFFFFFFF
@@ -32,6 +33,7 @@ _ARGUMENTS = {
 }
 _CALLS = {
     "rz_open": "http",
+    "rz_fault_text": "pttb",
     "rz_loaders_sizes": "hp",
     "rz_loaders": "hbbb",
     "rz_client": "hhb",
@@ -44,6 +46,7 @@ _CALLS = {
     "rz_sizes": "hp",
     "rz_orders": "hbbbbb",
     "rz_take_rows": "hnnbbt",
+    "rz_take_keyed_rows": "hnnubbtp",
     "rz_take_failed": "hnt",
     "rz_answer": "hb",
     "rz_prime": "hnbtnubtp",
@@ -109,6 +112,7 @@ class Library:
         for name in ("rz_code_name", "rz_code_text"):
             getattr(self.calls, name).restype = c_size_t
             getattr(self.calls, name).argtypes = (c_int32, c_void_p, c_size_t)
+        self.calls.rz_fault_text.restype = c_size_t
         for name, kinds in _CALLS.items():
             getattr(self.calls, name).argtypes = sum((_ARGUMENTS[kind] for kind in kinds), ())
 
@@ -118,6 +122,13 @@ class Library:
     def refused(self, code: int) -> Refused:
         """The error of a code."""
         return Refused(code, self._words_on("rz_code_name", code), self._words_on("rz_code_text", code))
+
+    def fault_text(self, fault: array[int], texts: Sequence[Any]) -> str:
+        """What a fault of a schema or its bindings says, of the same texts, each with its length."""
+        arguments = fault.buffer_info()[0], *texts
+        words = ctypes.create_string_buffer(self.calls.rz_fault_text(*arguments, None, 0))
+        length = self.calls.rz_fault_text(*arguments, addressof(words), len(words))
+        return words.raw[:length].decode()
 
     def _words_on(self, call: str, code: int) -> str:
         words = ctypes.create_string_buffer(256)

@@ -56,7 +56,7 @@ def aligned(items: Iterable[Item]) -> Aligned:
 
 
 def in_any_order(rows: Iterable[Row] | Table | Cursor) -> InAnyOrder:
-    """Rows of all keys, each of which has its key in the columns of the loader."""
+    """Rows of all keys, each of which has its key in the columns of the loader. The library aligns them."""
     return InAnyOrder(rows)
 
 

@@ -1,4 +1,5 @@
-"""What a batch function returned, as the library takes it: for each key how many rows it has, and all texts. And back: the rows of loaded keys."""
+"""What a batch function returned, as the library takes it: rows in any order, or for each key how many rows it has; and all texts. And back: the rows
+of loaded keys."""
 
 from __future__ import annotations
 
@@ -15,7 +16,7 @@ from typing import Any, NamedTuple, TypeAlias
 from uuid import UUID
 
 from .errors import parted
-from .library import BATCH_FAULT, KEY_FAULT, SAME_COLUMNS, LoadFault, flat
+from .library import BATCH_FAULT, KEY_FAULT, SAME_COLUMNS, LoadFault, cut, flat
 from .loaders import Aligned, Form, InAnyOrder, Keys, Loaded, Loader
 
 
@@ -44,25 +45,48 @@ class Reply(NamedTuple):
     unread: Mapping[str, Unread] = _NOTHING
 
     def with_faults(self, texts: list[str]) -> Reply:
-        ends, data = flat(texts)
-        size = len(self.data)
-        return self._replace(ends=self.ends + array("I", [size + end for end in ends]), data=self.data + data, faults=())
+        ends, data = _and_faults(self.ends, self.data, texts)
+        return self._replace(ends=ends, data=data, faults=())
+
+
+class Keyed(NamedTuple):
+    """Rows in any order, which the library aligns with the keys: the names of their columns, how many rows there are, where each text ends, and their
+    bytes. `unread` are the columns that are left out, each with the number of a row whose value has no text, from 0, and the reason."""
+
+    columns: Sequence[str]
+    rows: int
+    ends: array[int]
+    data: bytes
+    unread: Mapping[str, tuple[int, Exception]]
+
+    def with_faults(self, texts: list[str]) -> Keyed:
+        ends, data = _and_faults(self.ends, self.data, texts)
+        return self._replace(ends=ends, data=data)
+
+
+def _and_faults(ends: array[int], data: bytes, texts: list[str]) -> tuple[array[int], bytes]:
+    """The texts of a reply, and then those of the faults."""
+    fault_ends, fault_data = flat(texts)
+    return ends + array("I", [len(data) + end for end in fault_ends]), data + fault_data
+
+
+class Misfit(ValueError):
+    """Rows in any order aren't those of the keys that were asked for."""
 
 
 class _Shape(NamedTuple):
-    """The columns of rows: their names, what takes their values from a row by name, and where the columns of the loader are; None where not all
-    are among them."""
+    """The columns of rows: their names, what takes their values from a row by name, and whether those of the loader are among them."""
 
     columns: tuple[str, ...]
     take: Callable[[Any], Iterable[Any]]
-    key_places: list[int] | None
+    has_keys: bool
 
 
 # rows: their shape, and their values, row after row
 _Table: TypeAlias = tuple[_Shape, list[Any]]
 
 
-def reply_of(loader: Loader, keys: Keys, returned: Any, form: Form | None = None) -> Reply:
+def reply_of(loader: Loader, keys: Keys, returned: Any, form: Form | None = None) -> Reply | Keyed:
     """The reply that a batch function returned for these keys. `form` is how a bare list is read, if somebody says it. Raises TypeError or ValueError
     for what is none."""
     if isinstance(returned, Aligned):
@@ -79,7 +103,7 @@ def reply_of(loader: Loader, keys: Keys, returned: Any, form: Form | None = None
         table = _with_keys(loader, items, is_sorted or form == "in_any_order")
         if table is None:
             return _bare(loader, keys, items)
-    return _grouped(loader, keys, table)
+    return _keyed(loader, table)
 
 
 def item_of(loader: Loader, key: Any, item: Any) -> Reply:
@@ -90,7 +114,7 @@ def item_of(loader: Loader, key: Any, item: Any) -> Reply:
     else:
         shape, values = table
         counts = [len(values) // len(shape.columns)]
-        reply = _flat_reply(loader, counts, _texts_of(shape.columns, values), _by_counts([key], counts))
+        reply = _flat_reply(loader, [key], counts, _texts_of(shape.columns, values))
     for unread in reply.unread.values():
         raise unread.error
     return reply
@@ -245,7 +269,7 @@ def _with_keys(loader: Loader, items: list[Any], are_rows: bool) -> _Table | Non
     kinds = set(map(type, items))
     if kinds == _DICTS or all(map(_is_row_type, kinds)):
         table = _fields(loader, items)
-        if table[0].key_places is not None:
+        if table[0].has_keys:
             return table
         if are_rows:
             raise ValueError(next(f"loader {loader.name}: row {n} has no column {it}" for n, it in _lacking(loader, items) if it is not None))
@@ -266,13 +290,11 @@ def _lacking(loader: Loader, rows: Iterable[Any]) -> Iterator[tuple[int, str | N
 
 @lru_cache(1024)
 def _shape(wanted: tuple[str, ...], columns: tuple[str, ...]) -> _Shape:
-    places = [columns.index(column) for column in wanted] if set(wanted) <= set(columns) else None
-    if len(columns) == 1:
-        return _Shape(columns, lambda row: (row[columns[0]],), places)
-    return _Shape(columns, itemgetter(*columns), places)
+    take: Callable[[Any], Iterable[Any]] = itemgetter(*columns) if len(columns) > 1 else lambda row: (row[columns[0]],)
+    return _Shape(columns, take, set(wanted) <= set(columns))
 
 
-_NO_SHAPE = _Shape((), tuple, None)
+_NO_SHAPE = _Shape((), tuple, False)
 
 
 def _fields(loader: Loader, rows: Sequence[Any]) -> _Table:
@@ -290,8 +312,7 @@ def _fields(loader: Loader, rows: Sequence[Any]) -> _Table:
     if not names:
         raise TypeError(f"loader {loader.name}: a row has no columns")
     shape = _shape(loader.columns, tuple(names))
-    if not all(column in row.keys() for column in loader.columns for row in rows):
-        shape = shape._replace(key_places=None)
+    shape = shape._replace(has_keys=all(column in row.keys() for column in loader.columns for row in rows))
     return shape, list(chain.from_iterable((names | dict(row)).values() for row in rows))
 
 
@@ -300,78 +321,55 @@ def _fields(loader: Loader, rows: Sequence[Any]) -> _Table:
 _FOLDING = str.maketrans(ascii_uppercase, ascii_lowercase)
 
 
-def _folded(key: Any) -> Any:
-    return key.translate(_FOLDING) if isinstance(key, str) else tuple(map(_folded, key))
+def _compared(loader: Loader, key: Any) -> Any:
+    """A key as the loader compares it."""
+    if not loader.folds:
+        return key
+    return key.translate(_FOLDING) if isinstance(key, str) else tuple(part.translate(_FOLDING) for part in key)
 
 
-def _grouped(loader: Loader, keys: Keys, table: _Table) -> Reply:
-    """The reply of rows in any order, which have their keys in the columns of the loader."""
-    (columns, _, key_places), values = table
-    read = _texts_of(columns, values)
-    if not loader.columns or not values:
-        return _flat_reply(loader, [len(values) // max(len(columns), 1)] * max(len(keys), 1), read)
-    if key_places is None:
-        raise ValueError(f"loader {loader.name}: its rows have no column {next(it for it in loader.columns if it not in columns)}")
-    if read.unread:
-        key_places = _places_in(loader, read)
-    parts = [read.texts[place :: len(read.columns)] for place in key_places]
-    asked, found = list[Any](keys), parts[0] if len(parts) == 1 else list[Any](zip(*parts))
-    if loader.folds:
-        asked, found = list(map(_folded, asked)), list(map(_folded, found))
-    if found == asked:
-        return _flat_reply(loader, [1] * len(keys), read, _by_counts(keys, [1] * len(keys)))
-    return _sorted(loader, dict(zip(asked, keys)), found, read)
-
-
-def _places_in(loader: Loader, read: _Texts) -> list[int]:
-    """Where the columns of the loader are, of which none may have been left out."""
+def _keyed(loader: Loader, table: _Table) -> Reply | Keyed:
+    """The reply of rows in any order, which have their keys in the columns of the loader. One of all rows has no keys."""
+    (columns, _, _), values = table
+    read, count = _texts_of(columns, values), len(values) // max(len(columns), 1)
+    if not loader.columns:
+        return _flat_reply(loader, [], [count], read)
     for column in loader.columns:
         if column in read.unread:
             row, why = read.unread[column]
             raise TypeError(f"loader {loader.name}, column {column}, row {row + 1}: {why}")
-    return [read.columns.index(column) for column in loader.columns]
+    return Keyed(read.columns, count, *_flat_texts(loader, read), read.unread)
 
 
-def _sorted(loader: Loader, keys: Mapping[Any, Any], found: list[Any], read: _Texts) -> Reply:
-    """The reply of rows that have these keys, in the order of the keys that were asked for."""
-    groups: dict[Any, list[Sequence[str]]] = {key: [] for key in keys}
-    # rows of other keys, by their numbers
-    others: dict[Any, int] = {}
-    for number, (key, row) in enumerate(zip(found, zip(*[iter(read.texts)] * len(read.columns))), 1):
-        if key in groups:
-            groups[key].append(row)
-        else:
-            others.setdefault(key, number)
-    read = read._replace(texts=list(chain.from_iterable(chain.from_iterable(groups.values()))))
-
-    def owner(row: int) -> _Owner:
-        return keys.get(found[row], found[row]), found[:row].count(found[row])
-
-    if not others:
-        return _flat_reply(loader, list(map(len, groups.values())), read, owner)
-    faults = _faults_of_casts(loader, {key: keys[key] for key, rows in groups.items() if not rows}, others)
-    counts = [KEY_FAULT if key in faults else len(rows) for key, rows in groups.items()]
-    return _flat_reply(loader, counts, read, owner, [(keys[key], faults[key]) for key in groups if key in faults])
-
-
-def _faults_of_casts(loader: Loader, without_rows: Mapping[Any, Any], others: Mapping[Any, int]) -> dict[Any, Exception]:
-    """The faults of keys for which there are rows of other keys, since the database takes both for the same, as 1 and 01."""
-    alike: dict[Any, list[Any]] = {}
-    for key in without_rows:
-        alike.setdefault(_as_cast(key), []).append(key)
-    faults: dict[Any, Exception] = {}
-    for other, number in others.items():
-        if _as_cast(other) not in alike:
+def without_casts(loader: Loader, keys: Keys, reply: Keyed) -> tuple[Keyed, dict[int, Exception]]:
+    """Rows that the library refused, but those of which the database cast the key, as 1 for 01; and the faults of the keys that it cast, by their
+    places. Raises Misfit where a row has another key that wasn't asked for, or a column of the loader is missing."""
+    for column in loader.columns:
+        if column not in reply.columns:
+            raise Misfit(f"loader {loader.name}: its rows have no column {column}")
+    asked, found = [_compared(loader, key) for key in keys], _keys_of(loader, reply)
+    compared = [_compared(loader, key) for key in found]
+    wanted, having_rows = set(asked), set(compared)
+    alike: dict[Any, list[int]] = {}
+    for place, key in enumerate(keys):
+        if asked[place] not in having_rows:
+            alike.setdefault(_as_cast(key), []).append(place)
+    casts: dict[Any, Any] = {}
+    for number, (key, it) in enumerate(zip(found, compared), 1):
+        if it not in wanted and _as_cast(key) not in alike:
             columns = f"column{'s' * (len(loader.columns) - 1)} {' and '.join(loader.columns)}"
-            raise ValueError(f"loader {loader.name}: row {number} has the key {_quoted(other)} in {columns}, which wasn't asked for")
-        for key in alike[_as_cast(other)]:
-            faults[key] = ValueError(f"loader {loader.name}: a row of the key {_quoted(other)} for the key {_quoted(without_rows[key])}")
-    return faults
+            raise Misfit(f"loader {loader.name}: row {number} has the key {_quoted(key)} in {columns}, which wasn't asked for")
+        if it not in wanted:
+            casts[_as_cast(key)] = key
+    faults = {place: _fault_of_cast(loader, key, keys[place]) for cast, key in casts.items() for place in alike[cast]}
+    width, texts = len(reply.columns), cut(reply.ends.tolist(), reply.data)
+    kept = [text for place, text in enumerate(texts) if place < width or compared[place // width - 1] in wanted]
+    ends, data = flat(kept)
+    return reply._replace(rows=len(kept) // width - 1, ends=ends, data=data), dict(sorted(faults.items()))
 
 
-def _quoted(key: Any) -> str:
-    """What a message says of a key: a text, or a pair."""
-    return ", ".join(map(repr, key)) if isinstance(key, tuple) else repr(key)
+def _fault_of_cast(loader: Loader, found: Any, asked: Any) -> Exception:
+    return ValueError(f"loader {loader.name}: a row of the key {_quoted(found)} for the key {_quoted(asked)}")
 
 
 def _as_cast(key: Any) -> Any:
@@ -384,6 +382,28 @@ def _as_cast(key: Any) -> Any:
     except ArithmeticError:
         return text.casefold()
     return number if number.is_finite() else text.casefold()
+
+
+def unread_of(loader: Loader, keys: Keys, reply: Keyed) -> Mapping[str, Unread]:
+    """The columns that are left out of rows that the library has taken for these keys."""
+    if not reply.unread:
+        return _NOTHING
+    asked = {_compared(loader, key): key for key in keys}
+    found = [asked.get(_compared(loader, key), key) for key in _keys_of(loader, reply)]
+    told = reply.unread.items()
+    return {column: _unread(loader, column, why, found[row], found[:row].count(found[row])) for column, (row, why) in told}
+
+
+def _keys_of(loader: Loader, reply: Keyed) -> list[Any]:
+    """The keys of rows, in the columns of the loader."""
+    width, texts = len(reply.columns), cut(reply.ends.tolist(), reply.data)
+    parts = [texts[width + reply.columns.index(column) :: width] for column in loader.columns]
+    return parts[0] if len(parts) == 1 else list[Any](zip(*parts))
+
+
+def _quoted(key: Any) -> str:
+    """What a message says of a key: a text, or a pair."""
+    return ", ".join(map(repr, key)) if isinstance(key, tuple) else repr(key)
 
 
 def _bare(loader: Loader, keys: Keys, items: list[Any]) -> Reply:
@@ -404,7 +424,7 @@ def _doubt(loader: Loader, keys: Keys, items: list[Any]) -> str | None:
     whole = [row for row, column in zip(rows, lacking) if column is None]
     for place, row in whole:
         found = _key_in(loader, place, _by_name(row))
-        if (_folded(found) != _folded(keys[place])) if loader.folds else found != keys[place]:
+        if _compared(loader, found) != _compared(loader, keys[place]):
             return f"row {place + 1} has the key {_quoted(found)}, and stands for the key {_quoted(keys[place])}"
     if not whole or len(whole) == len(rows):
         return None
@@ -436,7 +456,7 @@ def _aligned(loader: Loader, keys: Keys, items: list[Any]) -> Reply:
         if not _is_row_type(kind):
             raise TypeError(f"loader {loader.name}: a row of type {kind.__name__}")
     shape, values = _fields(loader, rows) if rows else (_NO_SHAPE, [])
-    return _flat_reply(loader, counts, _texts_of(shape.columns, values), _by_counts(keys, counts), faults)
+    return _flat_reply(loader, keys, counts, _texts_of(shape.columns, values), faults)
 
 
 def _one_by_one(loader: Loader, items: list[Any]) -> tuple[list[Any], list[int]]:
@@ -459,45 +479,33 @@ def _one_by_one(loader: Loader, items: list[Any]) -> tuple[list[Any], list[int]]
     return rows, counts
 
 
-# the key that a row is of, and the place of the row among those of the key
-_Owner: TypeAlias = tuple[Any, int]
-
-
-def _by_counts(keys: Sequence[Any], counts: list[int]) -> Callable[[int], _Owner]:
-    """The owner of each row, of which the keys have these numbers."""
-
-    def owner(row: int) -> _Owner:
-        for key, count in zip(keys, counts):
-            if count != KEY_FAULT and row < count:
-                return key, row
-            row -= count if count != KEY_FAULT else 0
-        raise IndexError(row)
-
-    return owner
-
-
-def _flat_reply(
-    loader: Loader,
-    counts: list[int],
-    read: _Texts,
-    owner: Callable[[int], _Owner] | None = None,
-    faults: Sequence[tuple[Any, Exception]] = (),
-) -> Reply:
-    unread = {column: _unread(loader, column, *why, owner) for column, why in read.unread.items()} if read.unread else _NOTHING
+def _flat_reply(loader: Loader, keys: Sequence[Any], counts: list[int], read: _Texts, faults: Sequence[tuple[Any, Exception]] = ()) -> Reply:
+    unread = {column: _unread(loader, column, why, *_owner(keys, counts, row)) for column, (row, why) in read.unread.items()}
     if unread and not read.columns:
         raise next(iter(unread.values())).error
+    return Reply(len(read.columns), array("I", counts), *_flat_texts(loader, read), faults, unread)
+
+
+def _flat_texts(loader: Loader, read: _Texts) -> tuple[array[int], bytes]:
     try:
-        ends, data = flat([*read.columns, *read.texts])
+        return flat([*read.columns, *read.texts])
     except TypeError:
         raise TypeError(f"loader {loader.name}: the name of a column is no text") from None
-    return Reply(len(read.columns), array("I", counts), ends, data, faults, unread)
 
 
-def _unread(loader: Loader, column: str, row: int, why: Exception, owner: Callable[[int], _Owner] | None) -> Unread:
-    if owner is None or not loader.columns:
-        return Unread(TypeError(f"loader {loader.name}, column {column}, row {row + 1}: {why}"))
-    key, number = owner(row)
-    return Unread(TypeError(f"loader {loader.name}, column {column}, row {number + 1} of the key {_quoted(key)}: {why}"), key)
+def _owner(keys: Sequence[Any], counts: list[int], row: int) -> tuple[Any, int]:
+    """The key that a row is of, of which the keys have these numbers, and the place of the row among those of the key."""
+    for key, count in zip(keys, counts):
+        if count != KEY_FAULT and row < count:
+            return key, row
+        row -= count if count != KEY_FAULT else 0
+    return None, row
+
+
+def _unread(loader: Loader, column: str, why: Exception, key: Any, row: int) -> Unread:
+    """Why a column is left out, by the row of this place among those of the key, or among all rows of a loader that has no keys."""
+    of_key = f" of the key {_quoted(key)}" if loader.columns else ""
+    return Unread(TypeError(f"loader {loader.name}, column {column}, row {row + 1}{of_key}: {why}"), key)
 
 
 # ---- The rows of loaded keys.

@@ -15,7 +15,6 @@ from .introspection import GraphQL, Introspection
 from .library import BAD_SCHEMA, Held, Library, Refused, SchemaFault, buffer_of, cut, words
 from .limits import checked_limit
 from .loaders import Forms, Loader, Loaders, OnRound, checked_forms
-from .schema_faults import reason_of
 
 if TYPE_CHECKING:
     from typing_extensions import Unpack
@@ -58,7 +57,7 @@ class Server(Held):
                 raise
             line, column, rest = fault
             place = rest & 0xFFFFFFFF, line, column, bool(rest >> 32)
-            raise SchemaFault(refused, *place, reason_of(*place, schema, bindings)) from None
+            raise SchemaFault(refused, *place, self._library.fault_text(fault, arguments)) from None
         self.loaders = self._read_loaders()
         self._names = frozenset(loader.name for loader in self.loaders)
         self._schema = schema

@@ -131,7 +131,7 @@ class Refusals(Calls):
             self.refused("RZ_NO_ORDER", client.reply, order, [])
 
     def test_where_the_library_is(self) -> None:
-        self.assertEqual(Library().version()[0], 1)
+        self.assertEqual(Library().version()[0], 2)
         program = "import rudzkvano; print(rudzkvano.Library().version()[0])"
         path = str(worlds.REPOSITORY / "clients/python")
         for variables in ({"RUDZKVANO_LIBRARY": "/nowhere/lib.so"}, {"RUDZKVANO_LIBRARY": str(Path(path) / "no.so")}):
@@ -145,11 +145,11 @@ class Refusals(Calls):
 
     @unittest.skipUnless(shutil.which("cc"), "there is no C compiler, so libraries of other versions aren't tried")
     def test_a_library_of_another_version(self) -> None:
-        needs = "of the library, and this package needs 1.2.0 or a later 1.x"
+        needs = "of the library, and this package needs 2.0.0 or a later 2.x"
         cases = [
             ("unsigned rz_version(void) { return 65536; }", f"is version 1.0.0 {needs}"),
-            ("unsigned rz_version(void) { return 66047; }", f"is version 1.1.255 {needs}"),
-            ("unsigned rz_version(void) { return 131072; }", f"is version 2.0.0 {needs}"),
+            ("unsigned rz_version(void) { return 131071; }", f"is version 1.255.255 {needs}"),
+            ("unsigned rz_version(void) { return 196608; }", f"is version 3.0.0 {needs}"),
             ("int other;", "is no library of Rudzkvano"),
         ]
         with tempfile.TemporaryDirectory() as folder:

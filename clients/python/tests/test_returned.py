@@ -11,7 +11,7 @@ from types import MappingProxyType
 from typing import Any, NamedTuple
 
 import worlds
-from rudzkvano import Server, aligned, in_any_order
+from rudzkvano import PublicError, Server, aligned, in_any_order
 
 SCHEMA = """type Query { item(id: ID!): Item  items(ids: [ID!]!): [Item]!  all: [Item!]!  of(name: String!): [Item!]!  pair(a: ID!, b: ID!): Item }
 type Item { id: ID  text: String  other: String  count: Int  yes: Boolean }"""
@@ -331,6 +331,29 @@ class Returned(unittest.TestCase):
         found = self.answer('{of(name:"ADA "){text}}', itemsByName=lambda keys: [row])
         self.assertEqual(found["errors"][0]["message"], "loader itemsByName: a row of the key 'ada' for the key 'ADA '")
 
+    def test_rows_of_keys_that_were_cast_are_left_out(self) -> None:
+        keys = [str(number) if number % 2 == 0 else f"{number:05}" for number in range(1000)]
+        told: list[tuple[str, Any]] = []
+
+        def on_error(error: Exception, _loader: str, keys: Any) -> PublicError:
+            told.append((str(error), keys))
+            return PublicError("cast")
+
+        client = self.server.client({"itemById": lambda keys: [{"id": int(key), "text": [text]} for key in keys for text in "ab"]}, on_error=on_error)
+        self.addCleanup(client.close)
+        for number, (key, loaded) in enumerate(zip(keys, client.load_many("itemById", keys))):
+            if number % 2 == 0:
+                self.assertEqual(loaded, [{"id": key}] * 2)
+            else:
+                self.assertEqual(str(loaded), "cast")
+        self.assertEqual(told, [(f"{LOADER}: a row of the key '{int(key)}' for the key '{key}'", [key]) for key in keys[1::2]])
+        for key, value in (("1.20E2", 120), ("-0", 0), (" 1 ", 1)):
+            (loaded,) = self.server.client({"itemById": lambda keys: [{"id": value}]}).load_many("itemById", [key])
+            self.assertEqual(str(loaded), f"{LOADER}: a row of the key '{value}' for the key '{key}'")
+        for key in ("1e", "-1", ".", ""):
+            (loaded,) = self.server.client({"itemById": lambda keys: [{"id": 1}]}).load_many("itemById", [key])
+            self.assertEqual(str(loaded), f"{LOADER}: row 1 has the key '1' {BY_ID}")
+
     def test_the_fault_of_a_key(self) -> None:
         for item in ([ONE], ONE):
             found = self.answer("{items(ids:[1,2,3]){text}}", itemById=lambda keys: [item, ValueError("no such item"), KeyError()])
@@ -362,6 +385,32 @@ class Returned(unittest.TestCase):
         rows = [{"name": "ADA", "text": "one"}, {"name": "bob", "text": "two"}, {"name": "Ada", "text": "three"}, {"name": "É", "text": "four"}]
         found = self.answer('{a:of(name:"ada"){text} b:of(name:"BOB"){text} c:of(name:"É"){text}}', itemsByName=lambda keys: rows)
         self.assertEqual(found, {"data": {"a": [{"text": "one"}, {"text": "three"}], "b": [{"text": "two"}], "c": [{"text": "four"}]}})
+
+    def test_rows_of_folding_loaders_are_told_as_they_are(self) -> None:
+        rows: list[Any] = [{"name": "bob", "id": 2}, {"name": "ADA", "id": 1, "text": "one"}, {"name": "Ada", "id": 3, "text": [3]}]
+        query = '{a:of(name:"aDa"){id text} b:of(name:"Bob"){id}}'
+        found = self.answer(query, itemsByName=lambda keys: rows)
+        self.assertEqual(found["data"], {"a": [{"id": "1", "text": None}, {"id": "3", "text": None}], "b": [{"id": "2"}]})
+        message = "loader itemsByName, column text, row 2 of the key 'aDa': a value of type list has no text"
+        self.assertEqual([error["message"] for error in found["errors"]], [message] * 2)
+        found = self.answer(query, itemsByName=lambda keys: [*rows, {"name": "Éva"}])
+        not_asked = "loader itemsByName: row 4 has the key 'Éva' in column name, which wasn't asked for"
+        self.assertEqual([error["message"] for error in found["errors"]], [not_asked] * 2)
+
+    def test_rows_that_are_refused_leave_their_order(self) -> None:
+        client = self.server.client({})
+        self.addCleanup(client.close)
+        client.begin_request("{items(ids:[1,2]){text}}")
+        client.next()
+        (order,) = client.orders()
+        refused: list[tuple[Any, str]] = [([ONE, {"id": 3}], f"row 2 has the key '3' {BY_ID}"), ((["text"], [["x"]]), "its rows have no column id")]
+        for returned, why in refused:
+            with self.assertRaises(ValueError) as raised:
+                client.reply(order, returned)
+            self.assertEqual(str(raised.exception), f"{LOADER}: {why}")
+        client.reply(order, [TWO, ONE])
+        client.next()
+        self.assertEqual(client.text(), '{"data":{"items":[{"text":"one"},{"text":"two"}]}}')
 
     def test_rows_of_sqlite(self) -> None:
         database = sqlite3.connect(":memory:")

@@ -8,6 +8,8 @@ use std::{iter, ptr, str};
 pub const ROUND: i32 = 1;
 pub const WAITING: i32 = 2;
 pub const BAD_SCHEMA: i32 = -4;
+pub const NO_KEY_COLUMN: i32 = -20;
+pub const NOT_ASKED: i32 = -21;
 /// In the place of a number of rows: the key has a fault.
 pub const KEY_FAULT: u32 = u32::MAX;
 /// The same of an outcome: its batch failed as a whole.
@@ -76,11 +78,14 @@ pub struct KeyLists {
     pub texts: Texts,
 }
 
-/// The rows of some keys: the number of columns, for each key its number of rows or `KEY_FAULT`, and the texts.
+/// The rows of some keys: the number of columns, for each key its number of rows or `KEY_FAULT`, and the texts. Keyed rows are in any order, counted
+/// as those of one key, and `faults` are the places of the keys with a fault.
 pub struct Reply {
     pub columns: usize,
     pub rows: Vec<u32>,
+    pub faults: Vec<u32>,
     pub texts: Texts,
+    pub is_keyed: bool,
 }
 
 /// The outcomes of loaded keys: for each key its number of rows or a fault, for each row its number of columns or that they are those of the row
@@ -164,6 +169,15 @@ extern "C" {
         bindings_len: usize,
         fault: &mut Fault,
     ) -> i32;
+    fn rz_fault_text(
+        fault: &Fault,
+        schema: *const u8,
+        schema_len: usize,
+        bindings: *const u8,
+        bindings_len: usize,
+        bytes: *mut u8,
+        bytes_len: usize,
+    ) -> usize;
     fn rz_loaders_sizes(server: &mut Handle, sizes: &mut LoaderSizes) -> i32;
     fn rz_loaders(
         server: &mut Handle,
@@ -213,6 +227,19 @@ extern "C" {
         ends_len: usize,
         bytes: *const u8,
         bytes_len: usize,
+    ) -> i32;
+    fn rz_take_keyed_rows(
+        client: &mut Handle,
+        order: usize,
+        columns: usize,
+        rows: u32,
+        faults: *const u32,
+        faults_len: usize,
+        ends: *const u32,
+        ends_len: usize,
+        bytes: *const u8,
+        bytes_len: usize,
+        row: &mut u32,
     ) -> i32;
     fn rz_take_failed(client: &mut Handle, order: usize, text: *const u8, text_len: usize) -> i32;
     fn rz_answer(client: &mut Handle, bytes: *mut u8, bytes_len: usize) -> i32;
@@ -300,6 +327,12 @@ pub fn words_on(code: i32) -> (String, String) {
     (name, text)
 }
 
+/// What a fault of these texts says.
+pub fn fault_text(fault: &Fault, schema: &[u8], bindings: &[u8]) -> String {
+    let (schema_at, bindings_at) = (schema.as_ptr(), bindings.as_ptr());
+    words(|bytes| unsafe { rz_fault_text(fault, schema_at, schema.len(), bindings_at, bindings.len(), bytes.as_mut_ptr(), bytes.len()) })
+}
+
 /// A text of which a call tells the length, and copies as much as there is room for.
 fn words(call: impl Fn(&mut [u8]) -> usize) -> String {
     let mut bytes = vec![0; call(&mut [])];
@@ -382,9 +415,17 @@ impl Handle {
         }
     }
 
+    /// Keyed rows are those of `rz_take_keyed_rows`, which may write the number of a row.
     pub fn take_rows(&mut self, order: usize, reply: &Reply) -> i32 {
-        let Reply { columns, rows, texts: Texts { ends, bytes } } = reply;
-        unsafe { rz_take_rows(self, order, *columns, rows.as_ptr(), rows.len(), ends.as_ptr(), ends.len(), bytes.as_ptr(), bytes.len()) }
+        let Reply { columns, rows, faults, texts: Texts { ends, bytes }, is_keyed } = reply;
+        let (ends_at, ends_len, bytes_at, bytes_len) = (ends.as_ptr(), ends.len(), bytes.as_ptr(), bytes.len());
+        if *is_keyed {
+            let (faults_at, faults_len, mut row) = (faults.as_ptr(), faults.len(), 0);
+            return unsafe {
+                rz_take_keyed_rows(self, order, *columns, rows[0], faults_at, faults_len, ends_at, ends_len, bytes_at, bytes_len, &mut row)
+            };
+        }
+        unsafe { rz_take_rows(self, order, *columns, rows.as_ptr(), rows.len(), ends_at, ends_len, bytes_at, bytes_len) }
     }
 
     pub fn take_failed(&mut self, order: usize, text: &str) -> i32 {
@@ -427,7 +468,7 @@ impl Handle {
 
     /// The reply has the item of one key.
     pub fn prime(&mut self, loader: usize, key: &Texts, reply: &Reply, primed: &mut u32) -> i32 {
-        let Reply { columns, rows, texts: Texts { ends, bytes } } = reply;
+        let Reply { columns, rows, texts: Texts { ends, bytes }, .. } = reply;
         unsafe {
             rz_prime(
                 self,

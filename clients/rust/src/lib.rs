@@ -22,7 +22,6 @@
 
 mod calls;
 mod rows;
-mod schema_fault;
 
 use calls::{Handle, KeyLists, LoadSizes, LogSizes, Outcomes, Sizes, Texts};
 pub use rows::{BatchFault, Item, Key, Loaded, LoadedRow, Row, Rows};
@@ -281,7 +280,7 @@ impl Server {
         let (mut handle, mut fault) = (Handle::empty(), calls::Fault::default());
         let code = handle.open(schema.as_bytes(), bindings.as_bytes(), &mut fault);
         if code == calls::BAD_SCHEMA {
-            let reason = schema_fault::reason_of(&fault, schema, bindings);
+            let reason = calls::fault_text(&fault, schema.as_bytes(), bindings.as_bytes());
             let calls::Fault { number, line, column, in_bindings } = fault;
             return Err(Error::Schema(SchemaFault { number, line, column, in_bindings: in_bindings != 0, reason }));
         }
@@ -549,7 +548,14 @@ impl Client {
     /// [`Error::Misfit`] where they don't fit the order, which waits as before, and [`Error::Refused`] where it isn't out or has a reply.
     pub fn reply(&mut self, order: &Order, rows: Rows) -> Result<(), Error> {
         let reply = rows.into_reply(&order.loader, &order.keys).map_err(Error::Misfit)?;
-        went_well(self.handle.take_rows(order.number, &reply)).map(drop)
+        let code = match self.handle.take_rows(order.number, &reply) {
+            calls::NO_KEY_COLUMN | calls::NOT_ASKED => {
+                let rest = rows::without_casts(&order.loader, &order.keys, &reply).map_err(Error::Misfit)?;
+                self.handle.take_rows(order.number, &rest)
+            }
+            code => code,
+        };
+        went_well(code).map(drop)
     }
 
     /// Takes it that the batch of an order failed as a whole.
@@ -596,9 +602,13 @@ impl Client {
     ///
     /// [`Error::NoLoader`], [`Error::Misfit`], and [`Error::Refused`] where a request is being answered.
     pub fn prime(&mut self, loader: &str, key: impl Into<Key>, rows: Rows) -> Result<bool, Error> {
-        let (number, key) = (number_of(&self.loaders, loader)?, key.into());
-        let texts = key.flat(&self.loaders[number]).map_err(Error::Misfit)?;
-        let reply = rows.into_reply(&self.loaders[number], &[key]).map_err(Error::Misfit)?;
+        let (number, keys) = (number_of(&self.loaders, loader)?, [key.into()]);
+        let texts = rows::flat_keys(&self.loaders[number], &keys).map_err(Error::Misfit)?;
+        let mut reply = rows.into_reply(&self.loaders[number], &keys).map_err(Error::Misfit)?;
+        if reply.is_keyed {
+            reply = rows::without_casts(&self.loaders[number], &keys, &reply).map_err(Error::Misfit)?;
+            reply.rows[0] = if reply.faults.is_empty() { reply.rows[0] } else { calls::KEY_FAULT };
+        }
         let mut primed = 0;
         went_well(self.handle.prime(number, &texts, &reply, &mut primed))?;
         Ok(primed != 0)

@@ -2,7 +2,7 @@
 
 use crate::calls::{KeyLists, Outcomes, Reply, Texts, BATCH_FAULT, KEY_FAULT, SAME_COLUMNS};
 use crate::Loader;
-use std::collections::HashMap;
+use std::collections::{HashMap, HashSet};
 use std::fmt;
 use std::sync::Arc;
 
@@ -195,8 +195,8 @@ pub enum Rows {
         /// The items.
         items: Vec<Item>,
     },
-    /// The rows of all keys in any order. A row belongs to the key that it has in the loader's columns, and the rows of a key keep their
-    /// order. A row of a key that wasn't asked for fails the batch.
+    /// The rows of all keys in any order, which the library aligns. A row belongs to the key that it has in the loader's columns, and the
+    /// rows of a key keep their order. A row of a key that wasn't asked for fails the batch.
     Grouped {
         /// The names of the columns.
         columns: Vec<String>,
@@ -218,11 +218,12 @@ impl Rows {
 
     /// The reply to these keys, or why the rows don't fit them.
     pub(crate) fn into_reply(self, loader: &Loader, keys: &[Key]) -> Result<Reply, String> {
-        let reply = match self {
-            Self::Aligned { columns, items } => reply(loader, keys, &columns, &items),
-            Self::Grouped { columns, rows } => group(loader, keys, &columns, rows).and_then(|items| reply(loader, keys, &columns, &items)),
+        let (columns, items, is_keyed) = match self {
+            Self::Aligned { columns, items } => (columns, items, false),
+            Self::Grouped { columns, rows } => (columns, vec![Item::Rows(rows)], !loader.columns.is_empty()),
         };
-        reply.map_err(|text| format!("loader {}: {text}", loader.name))
+        let wanted = if is_keyed || loader.columns.is_empty() { 1 } else { keys.len() };
+        reply(&columns, &items, wanted, is_keyed).map_err(|text| format!("loader {}: {text}", loader.name))
     }
 }
 
@@ -238,78 +239,84 @@ fn check(row: &Row, columns: &[String]) -> Result<(), String> {
     }
 }
 
-/// The item of each key: the rows that have it in the loader's columns.
-fn group(loader: &Loader, keys: &[Key], columns: &[String], rows: Vec<Row>) -> Result<Vec<Item>, String> {
-    rows.iter().try_for_each(|row| check(row, columns))?;
-    if loader.columns.is_empty() {
-        return Ok(vec![Item::Rows(rows)]);
+/// The key that each row of a keyed reply has in the loader's columns, or which of these is missing.
+fn keys_in<'r>(loader: &Loader, reply: &'r Reply) -> Result<Vec<Vec<&'r str>>, String> {
+    let texts: Vec<_> = reply.texts.iter().collect();
+    let (names, fields) = texts.split_at(reply.columns);
+    if fields.is_empty() {
+        return Ok(vec![]);
     }
-    let mut groups = vec![vec![]; keys.len()];
-    let mut others = vec![];
-    if !rows.is_empty() {
-        let place = |column| columns.iter().position(|name| name == column).ok_or_else(|| format!("its rows have no column {column}"));
-        let places = loader.columns.iter().map(place).collect::<Result<Vec<_>, _>>()?;
-        // keys of a loader that folds are compared without the case of A to Z
-        let compared = |text: &str| if loader.folds { text.to_ascii_lowercase() } else { text.to_owned() };
-        let numbered = keys.iter().enumerate();
-        let numbers: HashMap<Vec<_>, _> = numbered.map(|(number, key)| (key.texts().into_iter().map(compared).collect(), number)).collect();
-        for (number, row) in (1..).zip(rows) {
-            let texts: Vec<_> = places.iter().map(|&place| row[place].as_deref().map_or_else(String::new, compared)).collect();
-            match numbers.get(&texts) {
-                Some(&number) => groups[number].push(row),
-                None => others.push((number, texts)),
-            }
-        }
-    }
-    let mut items: Vec<_> = groups.into_iter().map(Item::Rows).collect();
-    fault_casts(loader, keys, &mut items, &others)?;
-    Ok(items)
+    let place = |column| names.iter().position(|name| name == column).ok_or_else(|| format!("its rows have no column {column}"));
+    let places = loader.columns.iter().map(place).collect::<Result<Vec<_>, _>>()?;
+    Ok(fields.chunks(names.len()).map(|row| places.iter().map(|&place| row[place]).collect()).collect())
 }
 
-/// Gives a fault to each key for which there are rows of another key, since the database takes both for the same, as `1` and `01`. `others` are the
-/// numbers and the keys of such rows.
-fn fault_casts(loader: &Loader, keys: &[Key], items: &mut [Item], others: &[(usize, Vec<String>)]) -> Result<(), String> {
-    if others.is_empty() {
-        return Ok(());
-    }
-    let mut alike: HashMap<Vec<String>, Vec<usize>> = HashMap::new();
-    for (number, key) in keys.iter().enumerate() {
-        if items[number] == Item::Rows(vec![]) {
-            alike.entry(key.texts().into_iter().map(as_cast).collect()).or_default().push(number);
+/// A keyed reply without the rows of which the database cast the key, as `1` for `01`, and with a fault of each key that it cast; or why the
+/// library refuses it: a row has another key that wasn't asked for, or the rows lack a column that has keys.
+pub(crate) fn without_casts(loader: &Loader, keys: &[Key], reply: &Reply) -> Result<Reply, String> {
+    let compared = |text: &str| if loader.folds { text.to_ascii_lowercase() } else { text.to_owned() };
+    let comparable = |texts: &[&str]| texts.iter().map(|text| compared(text)).collect::<Vec<_>>();
+    let cast_of = |texts: &[&str]| texts.iter().map(|text| as_cast(text)).collect::<Vec<_>>();
+    let found = keys_in(loader, reply).map_err(|text| format!("loader {}: {text}", loader.name))?;
+    let found: Vec<_> = found.into_iter().map(|key| (comparable(&key), key)).collect();
+    let asked: HashSet<_> = keys.iter().map(|key| comparable(&key.texts())).collect();
+    let having_rows: HashSet<_> = found.iter().map(|(key, _)| key).collect();
+    let lacking_rows = keys.iter().map(|key| (key, having_rows.contains(&comparable(&key.texts())))).enumerate();
+    let lacking_rows: Vec<_> = lacking_rows.filter(|(_, (_, has_rows))| !has_rows).map(|(place, (key, _))| (place, key.texts())).collect();
+    let mut casts: HashMap<_, Option<&Vec<&str>>> = lacking_rows.iter().map(|(_, key)| (cast_of(key), None)).collect();
+    for (row, (key, texts)) in (1..).zip(&found) {
+        if !asked.contains(key) {
+            *casts.get_mut(&cast_of(texts)).ok_or_else(|| not_asked(loader, row, texts))? = Some(texts);
         }
     }
+    let texts: Vec<_> = reply.texts.iter().collect();
+    let (names, fields) = texts.split_at(reply.columns);
+    let mut rest = Reply { columns: names.len(), rows: vec![0], faults: vec![], texts: Texts::default(), is_keyed: true };
+    rest.texts.extend(names.iter().copied());
+    for (row, _) in fields.chunks(names.len().max(1)).zip(&found).filter(|(_, (key, _))| asked.contains(key)) {
+        rest.rows[0] += 1;
+        rest.texts.extend(row.iter().copied());
+    }
+    for (place, key) in lacking_rows {
+        if let Some(other) = casts[&cast_of(&key)] {
+            rest.faults.push(place as u32);
+            let (other, key) = (other.join("', '"), key.join("', '"));
+            rest.texts.extend([&*format!("loader {}: a row of the key '{other}' for the key '{key}'", loader.name)]);
+        }
+    }
+    rest.texts.fits().then_some(rest).ok_or_else(|| format!("loader {}: {TOO_MANY_BYTES}", loader.name))
+}
+
+fn not_asked(loader: &Loader, row: usize, key: &[&str]) -> String {
     let columns = format!("column{} {}", if loader.columns.len() == 2 { "s" } else { "" }, loader.columns.join(" and "));
-    for (row, other) in others {
-        let texts = other.join("', '");
-        let cast: Vec<_> = other.iter().map(|text| as_cast(text)).collect();
-        let numbers = alike.get(&cast).ok_or_else(|| format!("row {row} has the key '{texts}' in {columns}, which wasn't asked for"))?;
-        for &number in numbers {
-            let key = keys[number].texts().join("', '");
-            items[number] = Item::Fault(format!("loader {}: a row of the key '{texts}' for the key '{key}'", loader.name));
-        }
-    }
-    Ok(())
+    format!("loader {}: row {row} has the key '{}' in {columns}, which wasn't asked for", loader.name, key.join("', '"))
 }
 
 /// What is the same for texts that a database may take for the same: a number, or a text without case and blanks around it.
 fn as_cast(text: &str) -> String {
     let text = text.trim().to_lowercase();
-    let (minus, digits) = text.strip_prefix('-').map_or(("", text.strip_prefix('+').unwrap_or(&text)), |digits| ("-", digits));
+    let (mantissa, exponent) = text.split_once('e').unwrap_or((&text, "0"));
+    let (minus, digits) = mantissa.strip_prefix('-').map_or(("", mantissa.strip_prefix('+').unwrap_or(mantissa)), |digits| ("-", digits));
     let (whole, fraction) = digits.split_once('.').unwrap_or((digits, ""));
-    let are_digits = |part: &str| part.bytes().all(|byte| byte.is_ascii_digit());
-    if whole.len() + fraction.len() == 0 || !are_digits(whole) || !are_digits(fraction) {
+    let digits = format!("{whole}{fraction}");
+    let exponent = exponent.parse::<i32>().ok().map(i64::from);
+    let Some(exponent) = exponent.filter(|_| !digits.is_empty() && digits.bytes().all(|byte| byte.is_ascii_digit())) else {
         return text;
+    };
+    match digits.trim_start_matches('0') {
+        "" => "0".to_owned(),
+        digits => format!("{minus}{}e{}", digits.trim_end_matches('0'), exponent - fraction.len() as i64 + digits.len() as i64),
     }
-    format!("{minus}0{}.{}", whole.trim_start_matches('0'), fraction.trim_end_matches('0'))
 }
 
+const TOO_MANY_BYTES: &str = "its rows have more than 4,294,967,295 bytes";
+
 /// What the library is given: the names of the columns, then the values of all rows, and then the faults.
-fn reply(loader: &Loader, keys: &[Key], columns: &[String], items: &[Item]) -> Result<Reply, String> {
-    let wanted = if loader.columns.is_empty() { 1 } else { keys.len() };
+fn reply(columns: &[String], items: &[Item], wanted: usize, is_keyed: bool) -> Result<Reply, String> {
     if items.len() != wanted {
         return Err(format!("{} items for {wanted} keys", items.len()));
     }
-    let mut reply = Reply { columns: columns.len(), rows: Vec::with_capacity(wanted), texts: Texts::default() };
+    let mut reply = Reply { columns: columns.len(), rows: Vec::with_capacity(wanted), faults: vec![], texts: Texts::default(), is_keyed };
     reply.texts.extend(columns.iter().map(String::as_str));
     let mut faults = vec![];
     for item in items {
@@ -331,7 +338,7 @@ fn reply(loader: &Loader, keys: &[Key], columns: &[String], items: &[Item]) -> R
     if reply.texts.fits() {
         Ok(reply)
     } else {
-        Err("its rows have more than 4,294,967,295 bytes".to_owned())
+        Err(TOO_MANY_BYTES.to_owned())
     }
 }
 

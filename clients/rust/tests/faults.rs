@@ -63,6 +63,9 @@ fn what_a_database_casts_is_a_fault_of_its_key() {
         ("01", "1", Some("loader userById: a row of the key '1' for the key '01'")),
         (" +1.0", "1", Some("loader userById: a row of the key '1' for the key ' +1.0'")),
         ("ADA ", "Ada", Some("loader userById: a row of the key 'Ada' for the key 'ADA '")),
+        ("1.20E2", "120", Some("loader userById: a row of the key '120' for the key '1.20E2'")),
+        ("-0", "0", Some("loader userById: a row of the key '0' for the key '-0'")),
+        ("1e", "1", None),
         ("-1", "1", None),
         (".", "0", None),
     ];
@@ -79,6 +82,33 @@ fn what_a_database_casts_is_a_fault_of_its_key() {
             _ => panic!("{key}: {loaded:?}"),
         }
     }
+}
+
+#[test]
+fn rows_of_keys_that_were_cast_are_left_out() {
+    let world = World::read("");
+    let mut loaders = Loaders::new();
+    loaders.insert("userById", |keys| {
+        let numbers = keys.iter().map(|key| match key {
+            Key::One(text) => text.parse::<u32>().expect("a number"),
+            other => panic!("{other:?}"),
+        });
+        Ok(Rows::grouped(["id", "name"], numbers.flat_map(|id| ["a", "b"].map(|name| row(&[&id.to_string(), &format!("{name}{id}")])))))
+    });
+    let keys: Vec<_> = (0..1000).map(|id| if id % 2 == 0 { format!("{id}") } else { format!("{id:05}") }).collect();
+    let mut client = client(&world);
+    let loaded = client.load_many("userById", keys.iter().map(String::as_str), &mut loaders).expect("loaded");
+    for (id, (key, loaded)) in keys.iter().zip(loaded).enumerate() {
+        match loaded {
+            Loaded::Rows(rows) => {
+                assert_eq!(rows.iter().map(|row| row.get("name")).collect::<Vec<_>>(), [Some(&*format!("a{id}")), Some(&*format!("b{id}"))])
+            }
+            fault => assert_eq!(fault, Loaded::KeyFault(format!("loader userById: a row of the key '{id}' for the key '{key}'"))),
+        }
+    }
+    assert_eq!(client.prime("userById", "1.0", Rows::grouped(["id"], [row(&["1"])])), Ok(true));
+    let loaded = client.load_many("userById", ["1.0"], &mut loaders).expect("loaded");
+    assert_eq!(loaded, [Loaded::KeyFault("loader userById: a row of the key '1' for the key '1.0'".to_owned())]);
 }
 
 #[test]
@@ -241,6 +271,52 @@ fn calls_out_of_turn_are_refused() {
     let wanted = r#"{"errors":[{"message":"down","locations":[{"line":1,"column":2}],"path":["user"]}],"data":{"user":null}}"#;
     assert_eq!(client.text().as_deref(), Ok(wanted));
     assert_eq!(refusal(client.fail(&orders[0], "down")), "RZ_NO_ORDER");
+}
+
+#[test]
+fn grouped_rows_keep_their_order_within_a_key_as_its_loader_compares_it() {
+    let bindings = read("bindings.txt").replace("userById users by id", "userById users by name fold");
+    let server = Server::new(&read("schema.graphql"), &bindings).expect("a server");
+    let mut client = server.client(&Options::default()).expect("a client");
+    let mut rows = vec![row(&["2", "bob"]), row(&["1", "ADA"]), row(&["3", "Ada"])];
+    let load = |client: &mut Client, rows: &[Row]| {
+        let mut loaders = Loaders::new();
+        loaders.insert("userById", |_| Ok(Rows::grouped(["id", "name"], rows.to_vec())));
+        client.load_many("userById", ["aDA", "Bob"], &mut loaders).expect("loaded")
+    };
+    let ids = |outcome: &Loaded| match outcome {
+        Loaded::Rows(rows) => rows.iter().map(|row| row.get("id").unwrap_or_default().to_owned()).collect(),
+        fault => vec![format!("{fault:?}")],
+    };
+    assert_eq!(load(&mut client, &rows).iter().map(ids).collect::<Vec<_>>(), [vec!["1", "3"], vec!["2"]]);
+    client.restart().expect("restarted");
+    rows.push(row(&["4", "Éva"]));
+    let why = "loader userById: row 4 has the key 'Éva' in column name, which wasn't asked for".to_owned();
+    assert_eq!(load(&mut client, &rows), [Loaded::BatchFault(why.clone()), Loaded::BatchFault(why)]);
+    assert_eq!(client.prime("userById", "ADA", Rows::grouped(["name"], [row(&["aDa"]), row(&["Ada"])])), Ok(true));
+}
+
+#[test]
+fn grouped_rows_that_are_refused_leave_their_order() {
+    let world = World::read("");
+    let mut client = client(&world);
+    client.begin(&Request::query("{user(id:1){name}}")).expect("begun");
+    assert_eq!(client.next(), Ok(Progress::Round));
+    let orders = client.orders().expect("orders");
+    let refused = [
+        (Rows::grouped(["name"], [row(&["Ada"])]), "loader userById: its rows have no column id"),
+        (
+            Rows::grouped(["name", "id"], [row(&["Ada", "1"]), row(&["Bob", "2"])]),
+            "loader userById: row 2 has the key '2' in column id, which wasn't asked for",
+        ),
+    ];
+    for (rows, why) in refused {
+        assert_eq!(client.reply(&orders[0], rows), Err(Error::Misfit(why.to_owned())));
+        assert_eq!(client.next(), Ok(Progress::Waiting));
+    }
+    client.reply(&orders[0], Rows::grouped(["name", "id"], [row(&["Ada", "1"])])).expect("taken");
+    assert_eq!(client.next(), Ok(Progress::Done));
+    assert_eq!(client.text().as_deref(), Ok(r#"{"data":{"user":{"name":"Ada"}}}"#));
 }
 
 #[test]

@@ -3,7 +3,7 @@ use Rattle.std.proofs.Common.{◌≡◌, ◌≢◌, ℕ, zero, suc, ◌+◌, ◌
 use Rattle.std.proofs.lemmas.List.Sorted.{IsPermutation-append_right, IsPermutation-append_comm}
 use mathlib.Core.Option.{some, some-injective, some-ne-none}
 use lib.ListN.{get_elem?}
-use Rattle.load_queue.specs.Orders.{OrderOf}
+use Rattle.load_queue.specs.Orders.{CutOf}
 use Rattle.batch_workers.specs.declared.desk.Knowledge.{Knowledge}
 use Rattle.batch_workers.specs.Desk.{knowledge, taken_of, parts_of}
 
@@ -29,7 +29,7 @@ taken_snoc [] w = append-nil w.taken
 taken_snoc (x ∷ xs) w = ap (λ t. x.taken ++ t) (taken_snoc xs w) ∙ sym (append_assoc x.taken (taken_of xs) w.taken)
 
 -- a pass takes more
-pub taken_more : (views : List Knowledge) (port : ℕ) (v w : Knowledge) (more : List OrderOf) → get_elem? views port ≡ some v → w.taken ≡ v.taken ++ more → IsPermutation (taken_of views ++ more) (taken_of (set views port w))
+pub taken_more : (views : List Knowledge) (port : ℕ) (v w : Knowledge) (more : List CutOf) → get_elem? views port ≡ some v → w.taken ≡ v.taken ++ more → IsPermutation (taken_of views ++ more) (taken_of (set views port w))
 taken_more [] port v w more e is = absurd (some-ne-none v (sym e))
 taken_more (x ∷ xs) zero v w more e is =
     let q = ap (λ (u : Knowledge). u.taken) (some-injective x v e) in

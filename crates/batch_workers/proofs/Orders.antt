@@ -10,7 +10,7 @@ use Rattle.load_memory.specs.Keys.{KeyOf}
 use Rattle.load_memory.specs.declared.shelf.Shelf.{Shelf}
 use Rattle.load_memory.specs.declared.shelf.Receipt.{Receipt}
 use Rattle.load_queue.specs.Answers.{AnswerOf}
-use Rattle.load_queue.specs.Orders.{OrderOf}
+use Rattle.load_queue.specs.Orders.{CutOf}
 use Rattle.load_queue.specs.Loaders.{LoaderOf}
 use Rattle.batch_workers.specs.Round.{Shows, EachShown, AllAnswered}
 
@@ -33,21 +33,21 @@ module _ {X Y : Type 0} (f : X → Y) where
   )
 
 module _ {S : Type 0} (may : S → List KeyOf → AnswerOf → Type 0) (loaders : List (LoaderOf S)) (shelf : Shelf) where
-  abbrev Both : OrderOf × Receipt → Type 0
+  abbrev Both : CutOf × Receipt → Type 0
   Both p = Shows may loaders shelf p.0 p.1
 
-  paired : (os : List OrderOf) (rs : List Receipt) → EachShown may loaders shelf os rs → (ps : List (OrderOf × Receipt)) × (map (λ p. p.0) ps ≡ os) × (map (λ p. p.1) ps ≡ rs) × All Both ps
+  paired : (os : List CutOf) (rs : List Receipt) → EachShown may loaders shelf os rs → (ps : List (CutOf × Receipt)) × (map (λ p. p.0) ps ≡ os) × (map (λ p. p.1) ps ≡ rs) × All Both ps
   paired [] [] h = ([], refl, refl, All-nil Both)
   paired [] (r ∷ rs) h = absurd h
   paired (o ∷ os) [] h = absurd h
   paired (o ∷ os) (r ∷ rs) h = let rest = paired os rs h.1 in ((o, r) ∷ rest.0, ap (λ l. o ∷ l) rest.1, ap (λ l. r ∷ l) rest.2, All-cons Both (o, r) rest.0 h.0 rest.3)
 
-  each_shown : (ps : List (OrderOf × Receipt)) → All Both ps → EachShown may loaders shelf (map (λ p. p.0) ps) (map (λ p. p.1) ps)
+  each_shown : (ps : List (CutOf × Receipt)) → All Both ps → EachShown may loaders shelf (map (λ p. p.0) ps) (map (λ p. p.1) ps)
   each_shown [] h = tt
   each_shown (p ∷ ps) h = (h 0 p (omega arith), each_shown ps (All-tail Both p ps h))
 
   -- the receipts, in the order of the orders
-  pub in_order : (orders : List OrderOf) (receipts : List Receipt) → AllAnswered may loaders shelf orders receipts → (rs : List Receipt) × IsPermutation receipts rs × EachShown may loaders shelf orders rs
+  pub in_order : (orders : List CutOf) (receipts : List Receipt) → AllAnswered may loaders shelf orders receipts → (rs : List Receipt) × IsPermutation receipts rs × EachShown may loaders shelf orders rs
   in_order orders receipts h =
       let ps = paired h.taken receipts h.fit in
       let back : IsPermutation (map (λ p. p.0) ps.0) orders = rw ps.1 (IsPermutation-sym orders h.taken h.each_once) in

@@ -7,15 +7,15 @@ use mathlib.Core.Option.{some, some-injective, some-ne-none}
 use lib.ListN.{get_elem?}
 use Rattle.crossbeam_queue.specs.Fifo.{Pushes, Pops, Forks, Merges, Learns}
 use Rattle.crossbeam_queue.proofs.Lists.{at_set, at_snoc, set_else}
-use Rattle.load_queue.specs.Orders.{OrderOf}
+use Rattle.load_queue.specs.Orders.{CutOf}
 use Rattle.batch_workers.specs.declared.desk.Knowledge.{Knowledge}
 use Rattle.batch_workers.specs.Desk.{knowledge, left_half, right_half, both_halves, taken_of, parts_of, Fits, Handed, Puts, Takes, Knows}
 use Rattle.batch_workers.proofs.Knowing.{parts_set, parts_snoc, parts_at, taken_same, taken_snoc, taken_more, taken_less, taken_by_one}
 
-AllFit : List OrderOf → List Knowledge → Type 0
+AllFit : List CutOf → List Knowledge → Type 0
 AllFit orders views = (port : ℕ) (v : Knowledge) → get_elem? views port ≡ some v → Fits orders v
 
-fit_set : (orders : List OrderOf) (views : List Knowledge) (port : ℕ) (w : Knowledge) → Fits orders w → ((j : ℕ) (u : Knowledge) → j ≢ port → get_elem? views j ≡ some u → Fits orders u) → AllFit orders (set views port w)
+fit_set : (orders : List CutOf) (views : List Knowledge) (port : ℕ) (w : Knowledge) → Fits orders w → ((j : ℕ) (u : Knowledge) → j ≢ port → get_elem? views j ≡ some u → Fits orders u) → AllFit orders (set views port w)
 unfolding AllFit
 fit_set orders views port w mine others j u e = ⊎_elim (λ (x : (j ≡ port) × (w ≡ u)). subst (Fits orders) x.1 mine) (λ (x : (j ≢ port) × (get_elem? views j ≡ some u)). others j u x.0 x.1) (at_set views port j w u e)
 
@@ -41,7 +41,7 @@ begins = record {
   fits = λ port v e. subst (Fits []) (only_one [] (knowledge 16 [] []) port v e) ((λ _. refl), λ _. refl);
 }
 
-pub puts : (n port : ℕ) (v : Knowledge) (x : OrderOf) → v.parts ≡ 16 → Pushes Handed n port v x (Puts v x)
+pub puts : (n port : ℕ) (v : Knowledge) (x : CutOf) → v.parts ≡ 16 → Pushes Handed n port v x (Puts v x)
 unfolding AllFit
 puts n port v x whole items views room h at =
     let w = knowledge v.parts (v.all ++ x ∷ []) v.taken in

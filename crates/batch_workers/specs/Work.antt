@@ -8,16 +8,16 @@ use Rattle.load_memory.specs.Keys.{KeyOf}
 use Rattle.load_memory.specs.declared.shelf.Shelf.{Shelf}
 use Rattle.load_memory.specs.declared.shelf.Receipt.{Receipt}
 use Rattle.load_queue.specs.Answers.{AnswerOf}
-use Rattle.load_queue.specs.Orders.{OrderOf}
+use Rattle.load_queue.specs.Orders.{CutOf, AreCutBy}
 use Rattle.load_queue.specs.Loaders.{LoaderOf}
 use Rattle.std.specs.declared.alloc.AllocError.{AllocError}
 use Rattle.batch_workers.specs.declared.desk.Knowledge.{Knowledge}
-use Rattle.batch_workers.specs.Round.{EachShown, HaveLoaders}
+use Rattle.batch_workers.specs.Round.{EachShown}
 
--- a part for each of the workers, of which there is one or more, and a loader for each order
+-- a part for each of the workers, of which there is one or more, and each order is one that its own loader cut
 abbrev pub CanShare : {S : Type 0} → List (LoaderOf S) → Knowledge → ℕ → Type 0
 CanShare loaders knowledge workers = (0 < workers)
-    × (workers ≤ knowledge.parts) × HaveLoaders loaders knowledge.all
+    × (workers ≤ knowledge.parts) × AreCutBy loaders knowledge.all
 
 -- more orders were taken, and at Ok the receipts show replies to these, in order
 pub record Worked {S : Type 0} (may : S → List KeyOf → AnswerOf → Type 0)
@@ -25,7 +25,7 @@ pub record Worked {S : Type 0} (may : S → List KeyOf → AnswerOf → Type 0)
     (result : Result (Vec Receipt) AllocError) : Type 0 where
   pub parts : new.parts ≡ old.parts
   pub all : new.all ≡ old.all
-  pub more : List OrderOf
+  pub more : List CutOf
   pub taken : new.taken ≡ old.taken ++ more
   pub fit : IfOk result (λ v. EachShown may loaders shelf more v.items)
 

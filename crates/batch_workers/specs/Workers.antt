@@ -1,14 +1,15 @@
 -- Definitions of how many workers there may be, and what they don't change.
-use Rattle.std.specs.Prelude.{◌≡◌, ◌<◌, ◌⊎◌, ℕ, List, string_bytes}
+use Rattle.std.specs.Prelude.{◌≡◌, ◌<◌, ◌⊎◌, ℕ, List, map, string_bytes}
 use Rattle.load_memory.specs.Keys.{KeyOf}
 use Rattle.load_queue.specs.Answers.{AnswerOf}
+use Rattle.load_queue.specs.Orders.{CutOf, asks, AreCutBy}
 use Rattle.execution.specs.Program.{Program}
 use Rattle.execution.specs.Completion.{AnsweredOf}
 use Rattle.load_memory.specs.Pairs.{MemoryOf}
 use Rattle.execution.specs.Executes.{GrowsTo}
 use Rattle.load_rounds.specs.Sessions.{SessionOf, StateOf, state_of, memory_of}
 use Rattle.load_rounds.specs.Headline.{Headline, StopsAnswering}
-use Rattle.load_rounds.specs.ByHand.{RunOf, run_of, IsRun}
+use Rattle.load_rounds.specs.ByHand.{RunOf, run_of, orders_in, IsRun}
 use Rattle.load_rounds.specs.SharedRounds.{joint}
 use Rattle.load_rounds.specs.SharedRuns.{RunAllOf, IsRunAll, FitsRun, GoesOnFrom}
 use Rattle.load_rounds.specs.declared.answer.Answer.{Answer}
@@ -32,6 +33,12 @@ ChangeNothing {S} may = (old turned worked : StateOf S) (p : Program)
 abbrev pub Stops : {S : Type 0} → (S → List KeyOf → AnswerOf → Type 0)
     → SessionOf S → SessionOf S → Program → Type 0
 Stops may old new p = StopsAnswering may (state_of old) (state_of new) p
+
+-- No public clause names it. The orders are those of the round that is out, each cut by the session's own loader.
+pub record AreOrdersIn {S : Type 0} (s : StateOf S) (p : Program)
+    (orders : List CutOf) : Type 0 where
+  pub batches : map asks orders ≡ orders_in s p
+  pub cut : AreCutBy s.loaders orders
 
 -- No public clause names them. From whichever state a run was begun: its round that was out is stored; or it is lost.
 abbrev pub StoresRound : {S : Type 0} → (S → List KeyOf → AnswerOf → Type 0)

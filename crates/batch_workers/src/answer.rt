@@ -6,8 +6,8 @@
 ghost use Rattle.std.specs.Prelude.{◌≡◌, ◌<◌, ◌≤◌, ◌↔◌, length, IfOk, OnOk, OnErr, IsErrOf};
 ghost use Rattle.load_rounds.specs.Sessions.{state_of};
 ghost use Rattle.load_rounds.specs.Headline.{HasHeadline};
-ghost use Rattle.load_rounds.specs.ByHand.{orders_in, AwaitsReplies};
-ghost use Rattle.batch_workers.specs.Workers.{IsBadCount, Stops, MakesRound, LosesRound};
+ghost use Rattle.load_rounds.specs.ByHand.{AwaitsReplies};
+ghost use Rattle.batch_workers.specs.Workers.{IsBadCount, Stops, AreOrdersIn, MakesRound, LosesRound};
 
 use crate::fault::WorkFault;
 use crate::round::{MOST_WORKERS, run_round};
@@ -94,8 +94,8 @@ fn make_round<S: Source, E, P: Execute<E>, R: Threads + Wait + Sync>(
     requires count { (0 < workers) × (workers ≤ 16) }
     requires out { AwaitsReplies (P.program run.old.plan)
         run.old.stage (state_of session.old) }
-    requires orders { orders.items ≡ orders_in
-        (state_of session.old) (P.program run.old.plan) }
+    requires orders { AreOrdersIn (state_of session.old)
+        (P.program run.old.plan) orders.items }
     ensures made { OnOk result (MakesRound S.may_answer (P.program run.old.plan)
         session.old session.new run.old run.new) }
     ensures lost { OnErr result (LosesRound S.may_answer (P.program run.old.plan)

@@ -1,10 +1,10 @@
 //! Answers to several plans with workers: round after round that the plans share, each by workers over a shelf of its own.
 ghost use Rattle.std.specs.Prelude.{◌≡◌, ◌<◌, ◌≤◌, ◌↔◌, All, length, IfOk, OnOk, OnErr, IsErrOf};
 ghost use Rattle.load_rounds.specs.Sessions.{state_of, memory_of};
-ghost use Rattle.load_rounds.specs.ByHand.{orders_in, AwaitsReplies};
+ghost use Rattle.load_rounds.specs.ByHand.{AwaitsReplies};
 ghost use Rattle.load_rounds.specs.SharedRounds.{requests, joint, AreAnswers};
 ghost use Rattle.load_rounds.specs.SharedRuns.{FitsLater};
-ghost use Rattle.batch_workers.specs.Workers.{IsBadCount, Stops, MakesShared, LosesShared};
+ghost use Rattle.batch_workers.specs.Workers.{IsBadCount, Stops, AreOrdersIn, MakesShared, LosesShared};
 
 use crate::fault::WorkFault;
 use crate::round::{MOST_WORKERS, run_round};
@@ -89,8 +89,8 @@ fn make_round<S: Source, E, P: Execute<E>, R: Threads + Wait + Sync>(
     requires count { (0 < workers) × (workers ≤ 16) }
     requires out { AwaitsReplies (joint P.program P.text_of run.old.plans)
         run.old.stage (state_of session.old) }
-    requires orders { orders.items
-        ≡ orders_in (state_of session.old) (joint P.program P.text_of run.old.plans) }
+    requires orders { AreOrdersIn (state_of session.old)
+        (joint P.program P.text_of run.old.plans) orders.items }
     requires fits { FitsLater P.program P.text_of
         P.loaders P.fits run.old (memory_of session.old) }
     ensures made { OnOk result (MakesShared P.program P.text_of P.loaders P.fits S.may_answer

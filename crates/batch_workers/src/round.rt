@@ -6,8 +6,9 @@ ghost use Rattle.std.specs.Prelude.{◌≡◌, ◌≤◌, ◌<◌, ◌++◌, [],
 ghost use Rattle.std.specs.Thread.{IsSync};
 ghost use Rattle.crossbeam_queue.specs.Passes.{view, IsPassOf, ruled_capacity};
 ghost use Rattle.load_memory.specs.Shelves.{IsOn};
+ghost use Rattle.load_queue.specs.Orders.{IsCutBy, AreCutBy};
 ghost use Rattle.batch_workers.specs.Desk.{knowledge};
-ghost use Rattle.batch_workers.specs.Round.{HaveLoaders, Shows, AllAnswered};
+ghost use Rattle.batch_workers.specs.Round.{Shows, AllAnswered};
 ghost use Rattle.batch_workers.specs.Work.{CanShare, Worked, WorkedAt};
 
 use crate::desk::{Desk, Halves, Put, TakenOrder, Worker};
@@ -35,7 +36,7 @@ fn serve<S: Source, R: Wait>(
     bench: &Bench<'_, S>,
     order: Order,
 ) -> Result<Receipt, AllocError>
-    requires { order.loader < length bench.now.loaders.now }
+    requires { IsCutBy bench.now.loaders.now order }
     ensures { IfOk result (λ r.
         Shows S.may_answer bench.now.loaders.now bench.now.shelf.now order r) }
 {
@@ -54,7 +55,7 @@ fn work<S: Source, R: Wait>(
 ) -> Result<Vec<Receipt>, AllocError>
     requires desk { IsPassOf bench.now.desk.now worker.old }
     requires part { 0 < (view worker.old).parts }
-    requires loaders { HaveLoaders bench.now.loaders.now
+    requires loaders { AreCutBy bench.now.loaders.now
         (view worker.old).all }
     ensures desk { IsPassOf bench.now.desk.now worker.new }
     ensures worked { Worked S.may_answer bench.now.loaders.now
@@ -82,7 +83,7 @@ fn share<S: Source, R: Threads + Wait + Sync>(
     requires desk { IsPassOf bench.now.desk.now worker.old }
     requires part { (0 < workers)
         × (workers ≤ (view worker.old).parts) }
-    requires loaders { HaveLoaders bench.now.loaders.now
+    requires loaders { AreCutBy bench.now.loaders.now
         (view worker.old).all }
     ensures desk { IsPassOf bench.now.desk.now worker.new }
     ensures worked { Worked S.may_answer bench.now.loaders.now
@@ -166,7 +167,7 @@ pub fn run_round<S: Source, R: Threads + Wait + Sync>(
     workers: usize,
 ) -> Result<Vec<Receipt>, AllocError>
     requires workers { (0 < workers) × (workers ≤ 16) }
-    requires loaders { HaveLoaders
+    requires loaders { AreCutBy
         loaders.now orders.items }
     ensures answered { IfOk result (λ v.
         AllAnswered S.may_answer loaders.now shelf.now orders.items v.items) }

@@ -1,8 +1,8 @@
 //! Rounds that the caller runs: each order asks its source, or is answered with items that came from elsewhere.
 
-ghost use Rattle.std.specs.Prelude.{◌≡◌, ◌≤◌, ◌<◌, All, map, length, IfOk};
+ghost use Rattle.std.specs.Prelude.{◌≡◌, ◌≤◌, map, length, IfOk};
 ghost use Rattle.load_memory.specs.Replies.{reply_of};
-ghost use Rattle.load_queue.specs.Orders.{OrderOf};
+ghost use Rattle.load_queue.specs.Orders.{asks, IsCutBy, AreCutBy};
 ghost use Rattle.execution.specs.Rounds.{may_at, IsReply, AreReplies};
 ghost use Rattle.load_rounds.specs.Histories.{any_tell};
 ghost use Rattle.load_rounds.specs.Headline.{HasHeadline};
@@ -56,8 +56,9 @@ fn reply_to(
     loaders: &[Loader<CountedTable<'_>>],
     elsewhere: Elsewhere,
 ) -> Result<Reply, AllocError>
-    requires { order.loader < length loaders.now }
-    ensures { IfOk result (λ reply. IsReply (may_at any_tell loaders.now) order (reply_of reply)) }
+    requires { IsCutBy loaders.now order }
+    ensures { IfOk result (λ reply.
+        IsReply (may_at any_tell loaders.now) (asks order) (reply_of reply)) }
 {
     if is_known_elsewhere(&order) {
         order.reply_with(alloc, answer_of(alloc, elsewhere))
@@ -73,10 +74,9 @@ fn replies_to(
     loaders: &[Loader<CountedTable<'_>>],
     elsewhere: Elsewhere,
 ) -> Result<Vec<Reply>, AllocError>
-    requires { All (λ (o : OrderOf).
-        o.loader < length loaders.now) orders.items }
-    ensures { IfOk result (λ replies.
-        AreReplies (may_at any_tell loaders.now) orders.items (map reply_of replies.items)) }
+    requires { AreCutBy loaders.now orders.items }
+    ensures { IfOk result (λ replies. AreReplies (may_at any_tell loaders.now)
+        (map asks orders.items) (map reply_of replies.items)) }
 {
     let mut replies = Vec::with_capacity(alloc, orders.len())?;
     for order in orders {
@@ -92,10 +92,9 @@ fn last_first(
     loaders: &[Loader<CountedTable<'_>>],
     elsewhere: Elsewhere,
 ) -> Result<Vec<Reply>, AllocError>
-    requires { All (λ (o : OrderOf).
-        o.loader < length loaders.now) orders.items }
-    ensures { IfOk result (λ replies.
-        AreReceived (may_at any_tell loaders.now) orders.items (map reply_of replies.items)) }
+    requires { AreCutBy loaders.now orders.items }
+    ensures { IfOk result (λ replies. AreReceived (may_at any_tell loaders.now)
+        (map asks orders.items) (map reply_of replies.items)) }
 {
     let mut replies = replies_to(alloc, orders, loaders, elsewhere)?;
     replies.reverse();

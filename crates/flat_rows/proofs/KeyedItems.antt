@@ -1,6 +1,6 @@
 -- The items of keys, from the rows at the places of the first keys.
-use Rattle.std.proofs.Common.{◌≡◌, ◌≤◌, ◌<◌, ◌+◌, ℕ, zero, suc, Bool, true, false, List, [], ◌∷◌, ◌++◌, Option, Some, None, map, length, get_or, take, drop, refl, ap, sym, ◌∙◌, subst, arith}
-use Rattle.std.specs.Prelude.{IfSome, filter, position, not, is_some, is_none, slice_set, ◌==◌}
+use Rattle.std.proofs.Common.{◌≡◌, ◌≤◌, ◌<◌, ◌+◌, ℕ, zero, suc, Bool, true, false, List, [], ◌∷◌, ◌++◌, Option, Some, None, map, length, get_or, take, drop, refl, ap, sym, ◌∙◌, arith}
+use Rattle.std.specs.Prelude.{IfSome, position, not, is_some, is_none, slice_set, ◌==◌}
 use Rattle.std.proofs.Math.Path.{fun_ext}
 use Rattle.std.proofs.lemmas.Bool.{eqb-true, eqb-false}
 use Rattle.std.proofs.lemmas.List.{ext_get_or, get_or-map, get_or-take, length-map, length-set, length-take-le, map-append, take_more, take-append-drop}
@@ -11,7 +11,7 @@ use Rattle.load_memory.specs.declared.key.CacheKey.{CacheKey}
 use Rattle.load_memory.specs.declared.key.KeyMode.{KeyMode}
 use Rattle.load_memory.proofs.RowLaws.{position-found, position-none}
 use Rattle.flat_rows.specs.Grouped.{AreFirsts, AreGroups, FindsKeys, GroupFault, fields_key, first_place, first_places, is_place, look_by, noted, rows_to}
-use Rattle.flat_rows.specs.Keyed.{AreAsked, AreRows, ByOf, HasColumns, KeyedReplyFault, LacksKeyColumn, LaidRows, first_unasked, is_asked, key_in, keyed_items, not_asked, of_rows, no_memory, rows_in_sheet, rows_laid, rows_of, sheet_laid}
+use Rattle.flat_rows.specs.Keyed.{AreAsked, ArePlaces, AreRows, ByOf, KeyedReplyFault, LacksKeyColumn, LaidRows, first_unasked, is_asked, key_in, keyed_items, not_asked, of_rows, no_memory, rows_in_sheet, rows_laid, rows_of, sheet_laid}
 use Rattle.flat_rows.specs.declared.fault.FlatFault.TheVariants as flat
 use Rattle.flat_rows.specs.declared.keyed.KeyPlaces.{KeyPlaces}
 use Rattle.flat_rows.specs.declared.keyed.KeyedFault.{KeyedFault}
@@ -178,7 +178,9 @@ module _ (by : ByOf) (ks : List KeyOf) (at : KeyOf → Option ℕ) (of_keys : Li
   pub all-asked : (given : List RowOf) (groups : List (List RowOf)) → AreGroups look given (length of_keys) groups → AreAsked by ks given
   all-asked given groups h = first-is given ∙ sym (position-none (λ row. is_none (look row)) given [] (length given) refl (λ k lt. h.all_go k lt))
 
-  pub group-fault : (r : LaidRows) → AreRows r → ¬ (LacksKeyColumn (sheet_laid r).names r.count by.columns) → (e : KeyedFault) → GroupFault look (rows_laid r) e → KeyedReplyFault by ks r e
-  group-fault r formed columned (fault.Rows e) h = rw h (of_rows flat.NoMemory no_memory)
-  group-fault r formed columned fault.NoKeyColumn h = absurd h
-  group-fault r formed columned (fault.NotAsked number) h = not_asked number formed columned (h.0, h.1, first-is (rows_laid r) ∙ h.2)
+  pub group-fault : (r : LaidRows) → ArePlaces (length ks) r.faults → AreRows r → ¬ (LacksKeyColumn (sheet_laid r).names r.count by.columns) → (e : KeyedFault) → GroupFault look (rows_laid r) e
+      → KeyedReplyFault by ks r e
+  group-fault r placed formed columned fault.BadFaults h = absurd h
+  group-fault r placed formed columned (fault.Rows e) h = rw h (of_rows flat.NoMemory placed no_memory)
+  group-fault r placed formed columned fault.NoKeyColumn h = absurd h
+  group-fault r placed formed columned (fault.NotAsked number) h = not_asked number placed formed columned (h.0, h.1, first-is (rows_laid r) ∙ h.2)

@@ -1,5 +1,5 @@
 -- How rows are sorted to keys: each goes to the place of the first key that the loader takes for its own. No public clause names these.
-use Rattle.std.specs.Prelude.{ℕ, suc, ◌≡◌, ◌==◌, ◌<◌, ◌≤◌, ◌+◌, ◌*◌, Bool, false, List, [], ◌∷◌, Option, Some, None, map, filter, length, get_or, position, bytes_eq, is_none, option_map, if◌then◌else◌}
+use Rattle.std.specs.Prelude.{ℕ, suc, ◌≡◌, ◌==◌, ◌<◌, ◌≤◌, ◌+◌, Bool, false, List, [], ◌∷◌, Option, Some, None, map, filter, length, get_or, position, bytes_eq, is_none, option_map, if◌then◌else◌}
 use Rattle.std.specs.HashMap.{HashMap}
 use Rattle.std.specs.Map.{lookup}
 use Rattle.std.specs.declared.hash.FoldHasher.{FoldHasher}
@@ -9,7 +9,6 @@ use Rattle.load_memory.specs.Rows.{RowOf, SheetOf, row_at}
 use Rattle.load_memory.specs.declared.key.CacheKey.{CacheKey}
 use Rattle.load_memory.specs.declared.key.KeyMode.{KeyMode}
 use Rattle.flat_rows.specs.Keyed.{ByOf, key_in}
-use Rattle.flat_rows.specs.declared.fault.FlatFault.{FlatFault}
 use Rattle.flat_rows.specs.declared.fault.FlatFault.TheVariants as flat
 use Rattle.flat_rows.specs.declared.keyed.KeyPlaces.{KeyPlaces}
 use Rattle.flat_rows.specs.declared.keyed.KeyPlaces.TheVariants as places
@@ -95,6 +94,7 @@ pub record AreGroups (look : RowOf → Option ℕ) (given : List RowOf) (count :
 -- a row goes nowhere, or memory ran out
 abbrev pub GroupFault : (RowOf → Option ℕ) → List RowOf → KeyedFault → Type 0
 GroupFault look given (fault.Rows e) = e ≡ flat.NoMemory
+GroupFault look given fault.BadFaults = ⊥
 GroupFault look given fault.NoKeyColumn = ⊥
 GroupFault look given (fault.NotAsked number) = (place : ℕ) × (number ≡ place + 1)
     × (position (λ row. is_none (look row)) given ≡ Some place)

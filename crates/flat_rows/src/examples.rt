@@ -1,8 +1,8 @@
 //! Examples of what the definitions give on a few rows, worked by hand.
 ghost use Rattle.std.specs.Prelude.{◌≡◌, [], ◌∷◌, Some, None, codes};
 ghost use Rattle.load_memory.specs.Keys.{all, pair, text};
-ghost use Rattle.load_memory.specs.Outcomes.{rows};
-ghost use Rattle.flat_rows.specs.Keyed.{first_unasked, keyed_items};
+ghost use Rattle.load_memory.specs.Outcomes.{rows, key_fault};
+ghost use Rattle.flat_rows.specs.Keyed.{ArePlaces, first_unasked, keyed_items, with_faults};
 ghost use Rattle.flat_rows.specs.Examples.{ada, bob, by_both, by_id, by_name_folded, by_none, eve, nobody, none, three_ids, twice};
 
 /// A key gets the rows that have it, in the order given, and no rows where none has it. Keys that are the same get the same rows. Of
@@ -28,4 +28,21 @@ pub fn refused_by_hand()
     ensures second { first_unasked by_id (text (codes "2") ∷ [])
         (bob ∷ ada ∷ eve ∷ []) ≡ Some 1 }
     ensures case { first_unasked by_id (text (codes "2") ∷ []) (bob ∷ eve ∷ []) ≡ None }
+{}
+
+/// A fault stands in the place of its key's item alone, whatever that is.
+pub fn faulted_by_hand()
+    ensures none { with_faults [] (none ∷ rows (ada ∷ []) ∷ []) ≡ none ∷ rows (ada ∷ []) ∷ [] }
+    ensures one { with_faults ((1, codes "cast") ∷ []) (none ∷ none ∷ rows (ada ∷ []) ∷ [])
+        ≡ none ∷ key_fault (codes "cast") ∷ rows (ada ∷ []) ∷ [] }
+    ensures over { with_faults ((0, codes "a") ∷ (1, codes "b") ∷ []) (rows (ada ∷ []) ∷ none ∷ [])
+        ≡ key_fault (codes "a") ∷ key_fault (codes "b") ∷ [] }
+{}
+
+/// Places rise, and each is that of a key.
+pub fn placed_by_hand()
+    ensures rising { ArePlaces 3 (0 ∷ 2 ∷ []) }
+    ensures past { ¬ (ArePlaces 3 (0 ∷ 3 ∷ [])) }
+    ensures twice { ¬ (ArePlaces 3 (1 ∷ 1 ∷ [])) }
+    ensures falling { ¬ (ArePlaces 3 (2 ∷ 1 ∷ [])) }
 {}

@@ -1,10 +1,11 @@
 //! The reply to one order whose rows come in any order, each with its key in columns of its own.
-ghost use Rattle.std.specs.Prelude.{◌≡◌, ◌<◌, ◌≤◌, ◌+◌, ◌*◌, ℕ, IfOk, IfErr, IfSome, IfNone, OnOk, Some, None, [], map, length, get_or};
+ghost use Rattle.std.specs.Prelude.{◌≡◌, ◌<◌, ◌≤◌, ◌+◌, ◌*◌, ◌↔◌, ℕ, IsTrue, IfOk, IfErr, IfSome, IfNone, OnOk, Some, None, [], drop, map, length, get_or, zip};
 ghost use Rattle.std.specs.Arc.{arc_value};
 ghost use Rattle.load_memory.specs.Keys.{KeyOf, borrowed_of, cache_of, key_of, same_key};
 ghost use Rattle.load_memory.specs.Outcomes.{item_of, rows as rows_item};
 ghost use Rattle.flat_rows.specs.Grouped.{AreFirsts, AreGroups, AreWithin, FindsKeys, GroupFault, HasPlaces, fields_key, first_place, first_places, look_by, noted, place_in};
-ghost use Rattle.flat_rows.specs.Keyed.{AreAsked, AreRows, CellsFault, HasColumns, HasNoColumn, KeyedReplyFault, LacksKeyColumn, RowsFault, by_of, cells_wanted, keyed_items, laid_rows, rows_in_sheet, rows_laid, sheet_laid};
+ghost use Rattle.flat_rows.specs.Keyed.{AreAsked, ArePlaces, AreRows, CellsFault, HasColumns, HasNoColumn, IsKeyedReply, KeyedReplyFault, LacksKeyColumn, RowsFault};
+ghost use Rattle.flat_rows.specs.Keyed.{by_of, cells_wanted, keyed_items, laid_rows, replied_items, rows_in_sheet, rows_laid, texts_laid, with_faults};
 
 use crate::fault::FlatFault;
 use crate::reply::{Totals, lacks_column, share_sheet, sheet_of, wanted};
@@ -16,14 +17,17 @@ use std::collections::hash_map::Entry;
 use std::sync::Arc;
 use thiserror::Error;
 
-/// Rows of the keys of one order, in any order, as a host lays them out.
+/// Rows of the keys of one order, in any order, and faults of some of these keys, as a host lays them out.
 #[derive(Clone, Copy)]
 pub struct KeyedReply<'h> {
     /// Number of columns.
     pub columns: usize,
     /// Number of rows.
     pub rows: u32,
-    /// For each text where it ends in `bytes`: the names of the columns, and the fields of all rows, row after row.
+    /// The places of the keys that have a fault, from 0, each greater than the one before.
+    pub faults: &'h [u32],
+    /// For each text where it ends in `bytes`: the names of the columns, the fields of all rows, row after row, and then for each of
+    /// `faults` why the key has it.
     pub ends: &'h [u32],
     /// The texts, in UTF-8, each from where the one before it ends.
     pub bytes: &'h [u8],
@@ -41,6 +45,9 @@ pub struct KeyedBy<'h> {
 /// Reason why rows in any order aren't taken.
 #[derive(Clone, Copy, Debug, PartialEq, Eq, Error)]
 pub enum KeyedFault {
+    /// A fault is of no key, or its key doesn't come after that of the fault before.
+    #[error("a fault is of no key, or its key doesn't come after that of the fault before")]
+    BadFaults,
     /// The rows aren't well formed.
     #[error("{0}")]
     Rows(FlatFault),
@@ -260,19 +267,56 @@ fn items_of(alloc: Global, groups: Vec<Rows>, of_keys: &[usize]) -> Result<Vec<I
     Ok(items)
 }
 
-// There is a text for each column, and for each row and column.
-fn check_rows(columns: usize, rows: u32, texts: usize) -> Result<(), FlatFault>
+// Tells whether these are places of so many keys, each greater than the one before.
+fn are_places(keys: usize, places: &[u32]) -> bool
+    ensures { IsTrue result ↔ ArePlaces keys places.now }
+{
+    let mut least = 0;
+    for place in places {
+        let place = *place as usize;
+        if place < least || place >= keys {
+            return false;
+        }
+        least = place + 1;
+    }
+    true
+}
+
+// The items, but that the keys at these places have faults, which are the texts from one on.
+fn put_faults(
+    alloc: Global,
+    mut items: Vec<Item>,
+    places: &[u32],
+    texts: &FlatTexts<'_>,
+    at: usize,
+) -> Result<Vec<Item>, AllocError>
+    requires places { ArePlaces (length items.items) places.now }
+    requires texts { at + length places.now
+        ≤ length texts.now }
+    ensures { IfOk result (λ put. map item_of put.items
+        ≡ with_faults (zip places.now (drop at texts.now)) (map item_of items.items)) }
+{
+    let _texts = texts.len();
+    for (i, place) in places.iter().enumerate() {
+        let fault = String::from_str(alloc, texts.get(at + i))?;
+        items[*place as usize] = Item::KeyFault(fault);
+    }
+    Ok(items)
+}
+
+// There is a text for each column, for each row and column, and for each fault.
+fn check_cells(columns: usize, rows: u32, faults: usize, texts: usize) -> Result<(), FlatFault>
     ensures columned { OnOk result
         (¬ (HasNoColumn columns rows)) }
     ensures texts { OnOk result
-        (texts ≡ cells_wanted columns rows) }
+        (texts ≡ cells_wanted columns rows + faults) }
     ensures fault { IfErr result
-        (CellsFault columns rows texts) }
+        (CellsFault columns rows faults texts) }
 {
     if lacks_column(columns, rows) {
         return Err(FlatFault::NoColumn);
     }
-    let Some(wanted) = wanted(columns, &Totals { rows, faults: 0 }) else {
+    let Some(wanted) = wanted(columns, &Totals { rows, faults }) else {
         return Err(FlatFault::TooFewTexts);
     };
     if texts < wanted {
@@ -284,43 +328,39 @@ fn check_rows(columns: usize, rows: u32, texts: usize) -> Result<(), FlatFault>
     Ok(())
 }
 
-impl KeyedReply<'_> {
-    // The sheet that the texts are.
-    fn sheet(&self, alloc: Global) -> Result<Sheet, FlatFault>
-        ensures sheet { IfOk result (λ s.
-            s ≡ sheet_laid (laid_rows self.now)) }
+impl<'h> KeyedReply<'h> {
+    // The texts, which are as many as the columns, the rows and the faults take.
+    fn texts(&self) -> Result<FlatTexts<'h>, FlatFault>
+        ensures texts { IfOk result (λ texts.
+            texts ≡ texts_laid (laid_rows self.now)) }
         ensures formed { OnOk result (AreRows (laid_rows self.now)) }
         ensures fault { IfErr result
             (RowsFault (laid_rows self.now)) }
     {
         let texts = FlatTexts::new(self.bytes, self.ends)?;
-        check_rows(self.columns, self.rows, texts.len())?;
-        Ok(sheet_of(alloc, self.columns, self.rows, &texts)?)
+        check_cells(self.columns, self.rows, self.faults.len(), texts.len())?;
+        Ok(texts)
     }
 
-    /// An item for each key, in order: the rows that have it in the columns that `by` names, in the order given, which are none where no
-    /// row has it. Keys that are the same to the loader get the same rows. An empty field is the empty text. All rows share one sheet.
-    ///
-    /// # Errors
-    ///
-    /// The first of these that is true: `Rows` with `NotUtf8`, `BadEnds`, `NoColumn`, `TooFewTexts` or `TextsLeft`; `NoKeyColumn`;
-    /// `NotAsked` with the first row whose key is none of these. `Rows` with `NoMemory` comes when out of memory, before any fault that
-    /// would have been found later.
-    pub fn items(
+    // What the rows say: an item for each key, as if no key had a fault.
+    fn row_items(
         &self,
         alloc: Global,
         by: &KeyedBy<'_>,
         keys: &[Key],
+        texts: &FlatTexts<'_>,
     ) -> Result<Vec<Item>, KeyedFault>
-        ensures keyed { let ks = map key_of keys.now in IfOk result (λ items.
-            map item_of items.items ≡ keyed_items (by_of by.now) ks (rows_laid (laid_rows self.now))) }
+        requires placed { ArePlaces (length (map key_of keys.now)) self.now.faults.now }
+        requires formed { AreRows (laid_rows self.now) }
+        requires texts { texts.now ≡ texts_laid (laid_rows self.now) }
+        ensures keyed { let given = rows_laid (laid_rows self.now) in IfOk result (λ items.
+            map item_of items.items ≡ keyed_items (by_of by.now) (map key_of keys.now) given) }
         ensures asked { OnOk result (AreAsked (by_of by.now)
             (map key_of keys.now) (rows_laid (laid_rows self.now))) }
-        ensures formed { OnOk result (AreRows (laid_rows self.now)) }
         ensures fault { IfErr result (KeyedReplyFault
             (by_of by.now) (map key_of keys.now) (laid_rows self.now)) }
     {
-        let sheet = self.sheet(alloc)?;
+        let sheet = sheet_of(alloc, self.columns, self.rows, texts)?;
         let Some(places) = key_places(&sheet, by.columns) else {
             return Err(KeyedFault::NoKeyColumn);
         };
@@ -328,5 +368,36 @@ impl KeyedReply<'_> {
         let asked = note_keys(alloc, by.mode, keys)?;
         let groups = group_rows(alloc, &sheet, by, places, &asked)?;
         Ok(items_of(alloc, groups, &asked.of_keys)?)
+    }
+
+    /// An item for each key, in order: its fault, if it has one, or the rows that have it in the columns that `by` names, in the order given,
+    /// which are none where no row has it. Keys that are the same to the loader get the same rows. An empty field is the empty text. All
+    /// rows share one sheet.
+    ///
+    /// # Errors
+    ///
+    /// The first of these that is true: `BadFaults`; `Rows` with `NotUtf8`, `BadEnds`, `NoColumn`, `TooFewTexts` or `TextsLeft`;
+    /// `NoKeyColumn`; `NotAsked` with the first row whose key is none of these. `Rows` with `NoMemory` comes when out of memory, before any
+    /// fault that would have been found later.
+    pub fn items(
+        &self,
+        alloc: Global,
+        by: &KeyedBy<'_>,
+        keys: &[Key],
+    ) -> Result<Vec<Item>, KeyedFault>
+        ensures items { let ks = map key_of keys.now in IfOk result (λ items.
+            map item_of items.items ≡ replied_items (by_of by.now) ks (laid_rows self.now)) }
+        ensures taken { OnOk result (IsKeyedReply
+            (by_of by.now) (map key_of keys.now) (laid_rows self.now)) }
+        ensures fault { IfErr result (KeyedReplyFault
+            (by_of by.now) (map key_of keys.now) (laid_rows self.now)) }
+    {
+        if !are_places(keys.len(), self.faults) {
+            return Err(KeyedFault::BadFaults);
+        }
+        let texts = self.texts()?;
+        let items = self.row_items(alloc, by, keys, &texts)?;
+        let cells = texts.len() - self.faults.len();
+        Ok(put_faults(alloc, items, self.faults, &texts, cells)?)
     }
 }

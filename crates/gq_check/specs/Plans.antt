@@ -1,5 +1,5 @@
 -- Plans, without where they lie in memory.
-use Rattle.std.specs.Prelude.{ℕ, Bool, List, Option, map, find, bytes_eq}
+use Rattle.std.specs.Prelude.{◌≡◌, ℕ, Bool, List, Option, map, find, bytes_eq}
 use Rattle.std.specs.Arc.{arc_value}
 use Rattle.std.specs.declared.alloc.Global.{Global}
 use Rattle.std.specs.declared.sync.Arc.{Arc}
@@ -21,6 +21,13 @@ pub record PlanParts : Type 0 where
   pub operation : rust-operation.Operation
   pub fragments : List rust-fragment.Fragment
   pub variables : List rust-variable.Variable
+
+-- the other plan has the same parts but for the values of its variables
+pub record IsSameBut (one other : PlanParts) : Type 0 where
+  pub definitions : other.definitions ≡ one.definitions
+  pub bindings : other.bindings ≡ one.bindings
+  pub operation : other.operation ≡ one.operation
+  pub fragments : other.fragments ≡ one.fragments
 
 -- a checked document as the program holds it, and the definitions of the schema over which it was checked
 pub record CheckedParts : Type 0 where

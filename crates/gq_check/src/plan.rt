@@ -1,18 +1,24 @@
 //! Plans.
 
-ghost use Rattle.std.specs.Prelude.{◌≡◌, length};
+ghost use Rattle.std.specs.Prelude.{◌≡◌, Ok, IfOk, IfErr, length};
 ghost use Rattle.std.specs.Option.{option_map, option_copied};
 ghost use Rattle.gq_parser.specs.Tree.{fragment_of};
 ghost use Rattle.gq_schema.specs.Inputs.{input_of};
 ghost use Rattle.gq_variables.specs.Variables.{value_in};
-ghost use Rattle.gq_check.specs.Plans.{plan_of, plan_parts, fragment_in};
-ghost use Rattle.gq_check.specs.Planned.{IsPlan};
+ghost use Rattle.gq_check.specs.Plans.{IsSameBut, plan_of, plan_parts, fragment_in};
+ghost use Rattle.gq_check.specs.Planned.{IsPlan, preparation_of, prepared_in};
+ghost use Rattle.gq_check.specs.Prepared.{IsPrepareFault};
 
+use crate::fault::PrepareFault;
 use crate::fragments::Fragments;
+use crate::preparation::with_values;
 use crate::variables::Variables;
 use gq_bindings::Bindings;
 use gq_parser::{Fragment, Operation};
 use gq_schema::{Input, Schema};
+use gq_variables::Variable;
+use serde_json::Value;
+use std::alloc::Global;
 use std::marker::Model;
 use std::sync::Arc;
 
@@ -127,6 +133,34 @@ impl Plan {
             ≡ value_in (plan_of self.now).variables name.now }
     {
         self.variables.get(name)
+    }
+
+    /// The variables that have a value, in the order of the definitions.
+    pub fn variables(&self) -> &[Variable]
+        ensures { result.now ≡ self.now.variables }
+    {
+        self.variables.as_slice()
+    }
+
+    /// The plan of the same operation of the same document with other values of its variables. It shares the rest with this one.
+    ///
+    /// # Errors
+    ///
+    /// Those of [`prepare`](crate::prepare) that variables have: [`VariablesNotObject`](PrepareFault::VariablesNotObject),
+    /// [`BadVariable`](PrepareFault::BadVariable) for the first in the order of the definitions, and
+    /// [`NoMemory`](PrepareFault::NoMemory).
+    pub fn again(&self, alloc: Global, variables: &Value) -> Result<Plan, PrepareFault>
+        ensures same { IfOk result (IsSameBut self.now) }
+        ensures ok { IfOk result (λ plan. preparation_of self.now.definitions
+            self.now.operation variables.now ≡ Ok (prepared_in plan)) }
+        ensures err { IfErr result (IsPrepareFault
+            (preparation_of self.now.definitions self.now.operation variables.now)) }
+    {
+        let schema = Arc::try_clone(&self.schema)?;
+        let bindings = Arc::try_clone(&self.bindings)?;
+        let operation = Arc::try_clone(&self.operation)?;
+        let fragments = Arc::try_clone(&self.fragments)?;
+        with_values(alloc, schema, bindings, operation, fragments, variables)
     }
 
     /// Returns how many loaders a session of this plan needs: those of the bindings.

@@ -1,10 +1,10 @@
 //! Preparing an operation (section 6.1).
 
-ghost use Rattle.std.specs.Prelude.{◌≡◌, Ok, IfOk, IfErr};
+ghost use Rattle.std.specs.Prelude.{◌≡◌, [], Ok, IfOk, IfErr};
 ghost use Rattle.std.specs.Arc.{arc_value};
 ghost use Rattle.gq_parser.specs.Tree.{operation_of};
 ghost use Rattle.gq_schema.specs.Types.{tree_of};
-ghost use Rattle.gq_check.specs.Plans.{fragments_of};
+ghost use Rattle.gq_check.specs.Plans.{IsSameBut, fragments_of, plan_parts};
 ghost use Rattle.gq_check.specs.Planned.{IsChosen, preparation, preparation_in, preparation_of, prepared_in};
 ghost use Rattle.gq_check.specs.Prepared.{prepare_fault, IsPrepareFault};
 
@@ -35,8 +35,8 @@ impl From<VariableFault> for PrepareFault {
     }
 }
 
-// The plan of a chosen operation, with the values that are given for its variables.
-fn with_values(
+/// The plan of a chosen operation, with the values that are given for its variables.
+pub(crate) fn with_values(
     alloc: Global,
     schema: Arc<Schema>,
     bindings: Arc<Bindings>,
@@ -46,12 +46,7 @@ fn with_values(
 ) -> Result<Plan, PrepareFault>
     requires { IsChosen (tree_of (arc_value schema))
         (operation_of (arc_value operation)) (fragments_of (arc_value fragments)) }
-    ensures schema { IfOk result
-        (λ plan. plan.definitions ≡ arc_value schema) }
-    ensures bindings { IfOk result
-        (λ plan. plan.bindings ≡ arc_value bindings) }
-    ensures fragments { IfOk result
-        (λ plan. plan.fragments ≡ arc_value fragments) }
+    ensures same { IfOk result (IsSameBut (plan_parts schema bindings operation fragments [])) }
     ensures ok { IfOk result (λ plan. preparation_of (arc_value schema)
         (arc_value operation) variables.now ≡ Ok (prepared_in plan)) }
     ensures err { IfErr result

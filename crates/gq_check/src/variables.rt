@@ -87,6 +87,13 @@ impl Variables {
         Ok(Variables { items, places })
     }
 
+    /// The variables in their order.
+    pub fn as_slice(&self) -> &[Variable]
+        ensures { result.now ≡ self.now }
+    {
+        &self.items
+    }
+
     /// The value of the first variable of this name.
     pub fn get(&self, name: &str) -> Option<&Input>
         ensures { option_map input_of (option_copied result)

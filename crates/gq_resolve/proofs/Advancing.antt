@@ -44,7 +44,7 @@ use Rattle.gq_resolve.proofs.Putting.{puts_ask, puts_tokens, asks-puts, waits-pu
 
 -- a root whose members were made of no groups
 pub begun-rooted : (plan : PlanOf) (r : RootObject) (old : List LoadingField) → old ≡ [] → AreMade old r.groups.items (root_prepared plan) (arc_value r.members).items → r.row ≡ [] → IsRooted plan r
-begun-rooted plan r old none made empty = record { root = made.makes plan; row = empty; right = (made.grows plan).right (subst (AreRight plan) (sym none) (λ k g lt. absurd (omega (arith, lt)))) }
+begun-rooted plan r old none made empty = record { root = (made.over plan).makes; row = empty; right = (made.over plan).grows.right (subst (AreRight plan) (sym none) (λ k g lt. absurd (omega (arith, lt)))) }
 
 -- a root whose groups have grown
 pub rooted-more : (plan : PlanOf) (r : RootObject) (gs : Vec LoadingField Global) → Grows plan r.groups.items gs.items → IsRooted plan r → IsRooted plan (record { members = r.members; row = r.row; groups = gs })

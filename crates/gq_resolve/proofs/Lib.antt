@@ -6,6 +6,7 @@ pub mod Thinning
 pub mod Putting
 pub mod Blocking
 pub mod Advancing
+pub mod Reusing
 pub mod Polling
 pub mod BuildingLevels
 pub mod BuildingTrees

@@ -15,7 +15,9 @@ use Rattle.plan_program.specs.PlanPrograms.{root_prepared, plan_program}
 use Rattle.gq_resolve.specs.Answered.{answered_of, answered_json}
 use Rattle.gq_resolve.specs.Evaluated.{front_over, missing_over}
 use Rattle.plan_walk.specs.Reading.{lookup}
-use Rattle.plan_walk.specs.Groups.{view_of, Makes, AreRight}
+use Rattle.gq_variables.specs.Variables.{VariableOf}
+use Rattle.plan_program.specs.OtherVariables.{AgreesOnDirectives, with_variables}
+use Rattle.plan_walk.specs.Groups.{view_of, Makes, AreRight, AreServed, IsOtherwise}
 use Rattle.plan_walk.specs.Puts.{Put, View, puts}
 use Rattle.gq_resolve.specs.Written.{asks, thinned, all_asks, AreWithin, IsWriting}
 use Rattle.plan_walk.specs.declared.waiting.BlockedPosition.{BlockedPosition}
@@ -32,6 +34,20 @@ pub record IsRooted (plan : PlanOf) (r : RootObject) : Type 0 where
   pub root : Makes plan r.groups.items (arc_value r.members).items (root_prepared plan)
   pub row : r.row ≡ []
   pub right : AreRight plan r.groups.items
+
+-- the plan is that one with other variables, and leaves out the same
+pub record IsAlike (first plan : PlanOf) : Type 0 where
+  pub otherwise : IsOtherwise first plan
+  pub agrees : AgreesOnDirectives first plan.variables
+
+-- What was prepared of a plan serves each plan that is this one with other variables and leaves out the same: what stands below the groups
+-- is right for it, and the groups of the root's members serve what these load.
+pub record IsReusable (plan : PlanOf) (r : RootObject) : Type 0 where
+  pub rooted : IsRooted plan r
+  pub right : (vs : List VariableOf) → AgreesOnDirectives plan vs
+      → AreRight (with_variables plan vs) r.groups.items
+  pub served : (vs : List VariableOf) → AgreesOnDirectives plan vs
+      → AreServed (with_variables plan vs) r.groups.items (root_prepared plan) (arc_value r.members).items
 
 -- Over each larger memory these positions ask what the plan asks, each load once.
 pub record MayGoOn (plan : PlanOf) (m : MemoryOf) (r : RootObject)

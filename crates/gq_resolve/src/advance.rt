@@ -1,26 +1,31 @@
 //! Executions that begin, stop where a load is missing, and go on.
 
-ghost use Rattle.std.specs.Prelude.{length, IfOk, OnErr};
+ghost use Rattle.std.specs.Prelude.{[], length, IfOk, OnErr};
+ghost use Rattle.std.specs.Arc.{arc_value};
 ghost use Rattle.load_memory.specs.Pairs.{MemoryOf};
 ghost use Rattle.execution.specs.Executes.{CanExecute, GrowsTo};
 ghost use Rattle.gq_check.specs.Plans.{PlanOf, plan_of};
+ghost use Rattle.plan_program.specs.PlanPrograms.{root_prepared};
+ghost use Rattle.plan_walk.specs.Groups.{AreMade};
 ghost use Rattle.gq_resolve.specs.Evaluated.{AddsPart};
-ghost use Rattle.gq_resolve.specs.Suspended.{plan_on, IsRooted, WaitsBelow, GoesOverTour, IsResponse, MayGoOn, Advanced, FitsStopped, FitsTour, IsAdvanced, lacking};
+ghost use Rattle.gq_resolve.specs.Suspended.{plan_on, IsAlike, IsReusable, IsRooted, WaitsBelow, GoesOverTour, IsResponse, MayGoOn, Advanced, FitsStopped, FitsTour, IsAdvanced, lacking};
 
 use crate::answered::ExecutionResult;
 use crate::builder::Builder;
 use crate::output::Output;
 use crate::wanting::add_wants;
+use gq_check::Plan;
 use gq_lexer::Place;
 use load_memory::{Probe, Row};
 use load_queue::Wants;
 use plan_program::{ObjectType, collect};
+use plan_walk::again::members_again;
 use plan_walk::loading_fields::{LoadingField, Member, copy_of, members_of};
 use plan_walk::positions::{FieldPosition, Nullability, PositionKind};
 use plan_walk::sink::Sink;
 use plan_walk::waiting::Waiting;
 use plan_walk::walk::{LoadingPosition, Progress, Walk};
-use std::alloc::AllocError;
+use std::alloc::{AllocError, Global};
 use std::sync::Arc;
 
 /// Says how many levels of objects a plan has at most below its root.
@@ -51,8 +56,10 @@ pub struct Suspension {
 
 /// The root object (section 6.2.1).
 pub fn prepare_root(walk: &Walk<'_>) -> Result<RootObject, AllocError>
-    ensures { IfOk result
+    ensures rooted { IfOk result
         (IsRooted (plan_of walk.now.plan.now)) }
+    ensures made { IfOk result (λ r. AreMade [] r.groups.items
+        (root_prepared (plan_of walk.now.plan.now)) (arc_value r.members).items) }
 {
     let ty = ObjectType::Found(walk.plan.schema().root_type());
     let selections = &walk.plan.operation().selection_set.selections;
@@ -76,6 +83,25 @@ impl RootObject {
             members: Arc::try_clone(&self.members)?,
             row: self.row.clone()?,
             groups: copy_of(&self.groups)?,
+        })
+    }
+
+    /// The root of a plan that is this one's with other variables and leaves out the same. Its members are made again; what was prepared
+    /// below them is shared.
+    pub fn again(&self, alloc: Global, plan: &Plan) -> Result<RootObject, AllocError>
+        ensures { IfOk result (λ again. (first : PlanOf) → IsAlike first (plan_of plan.now)
+            → IsReusable first self.now → IsReusable (plan_of plan.now) again) }
+    {
+        let ty = ObjectType::Found(plan.schema().root_type());
+        let selections = &plan.operation().selection_set.selections;
+        let collected = collect(alloc, plan, ty.name(), selections)?;
+        let mut groups = copy_of(&self.groups)?;
+        let members = members_again(alloc, plan, &mut groups, &ty, collected, &self.members)?;
+        let row = self.row.clone()?;
+        Ok(RootObject {
+            members: Arc::new(alloc, members)?,
+            row,
+            groups,
         })
     }
 }

@@ -1,8 +1,8 @@
 //! Plans that are prepared ahead, for requests that come again.
 
-ghost use Rattle.std.specs.Prelude.{◌≡◌, IfOk, OnOk};
+ghost use Rattle.std.specs.Prelude.{◌≡◌, IfOk, IfSome, OnOk};
 ghost use Rattle.load_memory.specs.Pairs.{MemoryOf};
-ghost use Rattle.gq_check.specs.Plans.{plan_of};
+ghost use Rattle.gq_check.specs.Plans.{IsSameBut, plan_of};
 ghost use Rattle.gq_resolve.specs.Suspended.{FitsMemory};
 
 use crate::advance::{RootObject, prepare_root};
@@ -10,12 +10,14 @@ use crate::most_groups::{most_ahead_of, most_groups_of};
 use crate::root_state::RootState;
 use gq_check::Plan;
 use load_memory::Memory;
+use plan_program::agrees_on_directives;
 use plan_walk::loading_fields::prepare_below;
 use plan_walk::walk::Walk;
 use std::alloc::{AllocError, Global};
 use std::marker::Model;
 
-/// A plan, and what each execution of it would prepare anew: the fields of its root, and those of objects below.
+/// A plan, and what each execution of it would prepare anew: the fields of its root, and those of objects below, but where an argument
+/// there is given by a variable.
 ///
 /// It is executed within a limit ([`LimitedPlan`](crate::LimitedPlan)), as often as is wanted. Each execution answers as the plan itself
 /// does: it begins with a copy, of a block of memory for all groups and one for each group below which objects of several
@@ -40,7 +42,7 @@ impl Model for PreparedPlan {
     ghost use Rattle.gq_schema.specs.contracts.input.Input as input;
     ghost use Rattle.gq_check.specs.Plans.{plan_of};
     ghost use Rattle.gq_check.specs.Plans.{PlanParts};
-    ghost use Rattle.gq_resolve.specs.Suspended.{IsRooted};
+    ghost use Rattle.gq_resolve.specs.Suspended.{IsReusable};
 
     ghost Value = { PlanParts };
 
@@ -48,7 +50,7 @@ impl Model for PreparedPlan {
 
     ghost view = { λ p. p.plan };
 
-    ghost invariant = { λ p. IfSome p.rooted (IsRooted (plan_of p.plan)) };
+    ghost invariant = { λ p. IfSome p.rooted (IsReusable (plan_of p.plan)) };
 }
 
 impl Drop for PreparedPlan {
@@ -89,6 +91,28 @@ impl PreparedPlan {
         ensures { result ≡ plan }
     {
         PreparedPlan { plan, rooted: None }
+    }
+
+    /// A plan of the same operation with other values of its variables, with what was prepared of this one: only what the root asks for by
+    /// its arguments is prepared anew. Nothing where a variable is true in one of them alone, since directives may leave out something else
+    /// then.
+    ///
+    /// # Errors
+    ///
+    /// Only when out of memory.
+    pub fn again(&self, alloc: Global, plan: Plan) -> Result<Option<PreparedPlan>, AllocError>
+        requires { IsSameBut self.now plan }
+        ensures { IfOk result
+            (λ prepared. IfSome prepared (λ again. again ≡ plan)) }
+    {
+        if !agrees_on_directives(&self.plan, &plan) {
+            return Ok(None);
+        }
+        let rooted = match &self.rooted {
+            Some(rooted) => Some(rooted.again(alloc, &plan)?),
+            None => None,
+        };
+        Ok(Some(PreparedPlan { plan, rooted }))
     }
 
     /// Returns the plan.

@@ -3,12 +3,12 @@ use Rattle.std.proofs.Common.{◌≡◌, ◌≢◌, ◌∙◌, ℕ, List, Option
 use Rattle.std.specs.Prelude.{MatchOption, Result, IfErr, IsErrAnd, option_map, slice_get}
 use Rattle.std.specs.Global.{Vec}
 use Rattle.std.proofs.lemmas.Option.{slice_get-map}
-use Rattle.flat_rows.specs.Keyed.{AreAsked, AreRows, ByOf, KeyedReplyFault, LaidRows, keyed_items, rows_laid}
+use Rattle.flat_rows.specs.Keyed.{ByOf, IsKeyedReply, KeyedReplyFault, LaidRows, replied_items}
 use Rattle.flat_rows.specs.declared.keyed.KeyedFault.{KeyedFault}
 use Rattle.load_memory.specs.Keys.{KeyOf}
 use Rattle.load_memory.specs.Outcomes.{item_of}
 use Rattle.load_memory.specs.declared.outcome.Item.{Item}
-use Rattle.load_queue.specs.Orders.{OrderOf}
+use Rattle.load_queue.specs.Orders.{CutOf, OrderOf, asks}
 use Rattle.plan_requests.specs.Servers.{ServerOf}
 use Rattle.rounds_by_hand.specs.Pending.{order_in}
 use Rattle.rounds_by_hand.specs.declared.handed_in.HandedIn.{HandedIn}
@@ -28,10 +28,10 @@ use Rattle.host_clients.proofs.Refusals.{orders-of}
 -- ---- the order that waits
 
 -- what is so of the order's keys, and of its loader's line
-pub of-waiting : (client : HostClient) (number : ℕ) (server : ServerOf) (order : OrderOf) → MatchOption (client_in client) ⊥ (λ (c : ClientOf HandedIn). c.server ≡ server)
+pub of-waiting : (client : HostClient) (number : ℕ) (server : ServerOf) (order : CutOf) → MatchOption (client_in client) ⊥ (λ (c : ClientOf HandedIn). c.server ≡ server)
     → slice_get (pending_of client) number ≡ Some (Out order) → (P : ByOf → List KeyOf → Type 0) → P (keyed_by (by_at server order.loader)) order.keys → OfOrder client number P
 of-waiting client number server order is-server at P holds = go (client_in client) is-server where
-  there : slice_get (orders_in client) number ≡ Some order
+  there : slice_get (orders_in client) number ≡ Some (asks order)
   there = ap (λ os. slice_get os number) (orders-of client) ∙ slice_get-map order_in (pending_of client) number ∙ ap (option_map order_in) at
 
   go : (o : Option (ClientOf HandedIn)) → MatchOption o ⊥ (λ (c : ClientOf HandedIn). c.server ≡ server)
@@ -40,7 +40,7 @@ of-waiting client number server order is-server at P holds = go (client_in clien
   go (Some c) is = rw (there, is) holds
 
 -- says the same of the keys as they are read, and of the columns as they are found
-pub of-read : (client : HostClient) (number : ℕ) (server : ServerOf) (order : OrderOf) → MatchOption (client_in client) ⊥ (λ (c : ClientOf HandedIn). c.server ≡ server)
+pub of-read : (client : HostClient) (number : ℕ) (server : ServerOf) (order : CutOf) → MatchOption (client_in client) ⊥ (λ (c : ClientOf HandedIn). c.server ≡ server)
     → slice_get (pending_of client) number ≡ Some (Out order) → (by : ByOf) → by ≡ keyed_by (by_at server order.loader) → (keys : List KeyOf) → keys ≡ order.keys
     → (P : ByOf → List KeyOf → Type 0) → P by keys → OfOrder client number P
 of-read client number server order is-server at by by-is keys keys-are P holds =
@@ -59,12 +59,12 @@ of-both client number P Q R both = go (client_in client) where
   go None p q = p
   go (Some c) p q = at c.server (slice_get (orders_in client) number) p q
 
-pub taken-by-key : (number : ℕ) (r : LaidRows) (old new : HostClient) (items : Vec Item) → OfOrder old number (λ by keys. map item_of items.items ≡ keyed_items by keys (rows_laid r))
-    → OfOrder old number (λ by keys. AreRows r × AreAsked by keys (rows_laid r)) → TakesAnswerTo number (Ok items) old new → TakesKeyed number r old new
-taken-by-key number r old new items are asked takes =
-    of-both old number (λ by keys. map item_of items.items ≡ keyed_items by keys (rows_laid r)) (λ by keys. AreRows r × AreAsked by keys (rows_laid r))
-    (λ by keys. AreRows r × AreAsked by keys (rows_laid r) × TakesReply number (keyed_items by keys (rows_laid r)) old new)
-    (λ by keys is rows. (rows.0, rows.1, record { items = items; are_said = is; takes = takes })) are asked
+pub taken-by-key : (number : ℕ) (r : LaidRows) (old new : HostClient) (items : Vec Item) → OfOrder old number (λ by keys. map item_of items.items ≡ replied_items by keys r)
+    → OfOrder old number (λ by keys. IsKeyedReply by keys r) → TakesAnswerTo number (Ok items) old new → TakesKeyed number r old new
+taken-by-key number r old new items are taken takes =
+    of-both old number (λ by keys. map item_of items.items ≡ replied_items by keys r) (λ by keys. IsKeyedReply by keys r)
+    (λ by keys. IsKeyedReply by keys r × TakesReply number (replied_items by keys r) old new)
+    (λ by keys is reply. (reply, record { items = items; are_said = is; takes = takes })) are taken
 
 -- ---- why they aren't taken
 

@@ -39,7 +39,7 @@ pub so-none : (limits : List ℕ) (lines : List LoaderLine) → SoFar limits lim
 so-none limits lines = λ more are. are
 
 pub so-next : (limits left rest : List ℕ) (lines : List LoaderLine) (i : ℕ) (line : LoaderLine) → i < length lines → line ≡ get_or lines i line → (done : List (LoaderOf HandedIn))
-    (loader : LoaderOf HandedIn) → SoFar limits left lines i done → loader ≡ new_loader (limit_at left) (loader_of line) handed_in → rest ≡ limits_after left
+    (loader : LoaderOf HandedIn) → SoFar limits left lines i done → loader ≡ new_loader loader.identity (limit_at left) (loader_of line) handed_in → rest ≡ limits_after left
     → SoFar limits rest lines (i + 1) (done ++ loader ∷ [])
 so-next limits left rest lines i line lt is done loader so made e = λ more are.
     let cons : drop i lines ≡ line ∷ drop (i + 1) lines = drop_more lines i line lt ∙ ap (λ x. x ∷ drop (i + 1) lines) (sym is) in

@@ -57,7 +57,8 @@ abbrev pub AreNewLoaders : {S : Type 0} → S → List ℕ
 AreNewLoaders source limits [] [] = Unit {0}
 AreNewLoaders source limits [] (l ∷ ls) = ⊥
 AreNewLoaders source limits (line ∷ lines) [] = ⊥
-AreNewLoaders source limits (line ∷ lines) (l ∷ ls) = (l ≡ new_loader (limit_at limits) line source)
+AreNewLoaders source limits (line ∷ lines) (l ∷ ls) =
+    (l ≡ new_loader l.identity (limit_at limits) line source)
     × AreNewLoaders source (limits_after limits) lines ls
 
 -- the source of every loader, which is never asked

@@ -55,6 +55,8 @@ pub enum Fault {
     NoKeyColumn,
     /// A row has a key that wasn't asked for.
     NotAsked,
+    /// A fault is of no key of the order, or its key doesn't come after that of the fault before.
+    BadFaults,
 }
 
 impl Fault {
@@ -84,6 +86,7 @@ impl Fault {
             Fault::TooManyRows => -19,
             Fault::NoKeyColumn => -20,
             Fault::NotAsked => -21,
+            Fault::BadFaults => -22,
         }
     }
 
@@ -116,6 +119,7 @@ impl Fault {
             -19 => Some(Fault::TooManyRows),
             -20 => Some(Fault::NoKeyColumn),
             -21 => Some(Fault::NotAsked),
+            -22 => Some(Fault::BadFaults),
             _ => None,
         }
     }
@@ -144,6 +148,7 @@ impl Fault {
             Fault::TooManyRows => "RZ_TOO_MANY_ROWS",
             Fault::NoKeyColumn => "RZ_NO_KEY_COLUMN",
             Fault::NotAsked => "RZ_NOT_ASKED",
+            Fault::BadFaults => "RZ_BAD_FAULTS",
         }
     }
 
@@ -173,6 +178,9 @@ impl Fault {
             Fault::TooManyRows => "more than 4,294,967,295 rows in one reply",
             Fault::NoKeyColumn => "rows in any order lack a column that their loader is by",
             Fault::NotAsked => "a row has a key that wasn't asked for",
+            Fault::BadFaults => {
+                "a fault is of no key of the order, or its key doesn't come after that of the fault before"
+            }
         }
     }
 }

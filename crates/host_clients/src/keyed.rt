@@ -1,6 +1,6 @@
-//! Rows in any order: each goes to the key that it has in the columns of the order's loader.
+//! Rows in any order: each goes to the key that it has in the columns of the order's loader, unless that key has a fault.
 ghost use Rattle.std.specs.Prelude.{◌≡◌, ◌≢◌, ◌≤◌, MatchOption, Some, IfOk, IfErr, IfSome, IfNone, OnOk, length, map, option_map, slice_get};
-ghost use Rattle.flat_rows.specs.Keyed.{AreAsked, AreRows, by_of as keyed_by_of, keyed_items, laid_rows, rows_laid};
+ghost use Rattle.flat_rows.specs.Keyed.{IsKeyedReply, by_of as keyed_by_of, laid_rows, replied_items};
 ghost use Rattle.gq_bindings.specs.Seen.{by_of};
 ghost use Rattle.load_memory.specs.Keys.{borrowed_of};
 ghost use Rattle.load_memory.specs.Outcomes.{item_of};
@@ -47,6 +47,7 @@ impl From<KeyedFault> for KeyedRefusal {
 
     fn from(e: KeyedFault) -> KeyedRefusal {
         match e {
+            KeyedFault::BadFaults => KeyedRefusal::Refused(Fault::BadFaults),
             KeyedFault::Rows(e) => KeyedRefusal::Refused(Fault::from(e)),
             KeyedFault::NoKeyColumn => KeyedRefusal::Refused(Fault::NoKeyColumn),
             KeyedFault::NotAsked(row) => KeyedRefusal::NotAsked(row),
@@ -112,7 +113,7 @@ impl HostClient {
         }
     }
 
-    // What rows in any order say of the keys of an order that waits.
+    // What rows in any order, with faults of keys, say of the keys of an order that waits.
     fn keyed_items(
         &self,
         alloc: Global,
@@ -120,9 +121,9 @@ impl HostClient {
         reply: &KeyedReply<'_>,
     ) -> Result<Vec<Item>, KeyedRefusal>
         ensures items { let r = laid_rows reply.now in IfOk result (λ items. OfOrder self.now number
-            (λ by keys. map item_of items.items ≡ keyed_items by keys (rows_laid r))) }
-        ensures asked { let r = laid_rows reply.now in OnOk result (OfOrder self.now number
-            (λ by keys. AreRows r × AreAsked by keys (rows_laid r))) }
+            (λ by keys. map item_of items.items ≡ replied_items by keys r)) }
+        ensures taken { let r = laid_rows reply.now in OnOk result
+            (OfOrder self.now number (λ by keys. IsKeyedReply by keys r)) }
         ensures fault { IfErr result
             (KeyedRowsFault number (laid_rows reply.now) self.now) }
     {
@@ -139,13 +140,13 @@ impl HostClient {
     }
 
     /// Takes rows for the keys of an order, in any order: each key gets the rows that have it in the columns that the order's loader is by.
-    /// A key that no row has gets none.
+    /// A key that no row has gets none. A key with a fault takes the fault in place of its rows, if it has any.
     ///
     /// # Errors
     ///
-    /// The first of these that is true: [`NoOrder`](Fault::NoOrder), [`Replied`](Fault::Replied); the rows' first fault;
-    /// [`NoKeyColumn`](Fault::NoKeyColumn); [`NotAsked`](KeyedRefusal::NotAsked) with the first row whose key wasn't asked for. Nothing has
-    /// changed then. [`NoMemory`](Fault::NoMemory) as that of [`take_rows`](HostClient::take_rows).
+    /// The first of these that is true: [`NoOrder`](Fault::NoOrder), [`Replied`](Fault::Replied), [`BadFaults`](Fault::BadFaults); the
+    /// rows' first fault; [`NoKeyColumn`](Fault::NoKeyColumn); [`NotAsked`](KeyedRefusal::NotAsked) with the first row whose key wasn't
+    /// asked for. Nothing has changed then. [`NoMemory`](Fault::NoMemory) as that of [`take_rows`](HostClient::take_rows).
     pub fn take_keyed_rows(
         &mut self,
         alloc: Global,

@@ -1,3 +1,4 @@
+pub mod IdentityLaws
 pub mod MarkLaws
 pub mod PieceLaws
 pub mod ReplyLaws

@@ -5,7 +5,7 @@ use Rattle.std.proofs.Math.Nat.{le_refl}
 use Rattle.std.proofs.lemmas.List.{append-nil, take-append-drop, length-take, take-map, drop-map, length-map}
 use Rattle.std.proofs.lemmas.Bool.{cases_lt}
 use Rattle.load_memory.specs.Keys.{KeyOf}
-use Rattle.load_queue.specs.Orders.{OrderOf, order_of}
+use Rattle.load_queue.specs.Orders.{CutOf, cut_of}
 use Rattle.load_queue.specs.Batches.{pieces, batches, joined, AreFull, AreBatches}
 
 pub pieces-enough : {K : Type 0} (n f g : ℕ) (keys : List K) → length keys ≤ f → length keys ≤ g → 0 < n → pieces f n keys ≡ pieces g n keys
@@ -97,9 +97,9 @@ are-batches None (k ∷ keys) positive = record { in_order = append-nil (k ∷ k
 are-batches (Some n) (k ∷ keys) positive =
     record { in_order = joined-pieces n (positive n refl) (length (k ∷ keys)) (k ∷ keys) (le_refl _); full = full-pieces n (positive n refl) (length (k ∷ keys)) (k ∷ keys) (le_refl _) }
 
-pub keys-of-orders : (loader : ℕ) (cut : List (List KeyOf)) → map (λ (o : OrderOf). o.keys) (map (order_of loader) cut) ≡ cut
-keys-of-orders loader [] = refl
-keys-of-orders loader (p ∷ ps) = ap (λ qs. p ∷ qs) (keys-of-orders loader ps)
+pub keys-of-orders : (identity loader : ℕ) (cut : List (List KeyOf)) → map (λ (o : CutOf). o.keys) (map (cut_of identity loader) cut) ≡ cut
+keys-of-orders identity loader [] = refl
+keys-of-orders identity loader (p ∷ ps) = ap (λ qs. p ∷ qs) (keys-of-orders identity loader ps)
 
 -- Keys that fit into one piece are one.
 pub all-fit : {X K : Type 0} (v : X → K) (n : ℕ) → 0 < n → (keys : List X) → 0 < length keys → length keys ≤ n → left v n keys ≡ map v keys ∷ []

@@ -22,16 +22,19 @@ pub record LoaderOf (S : Type 0) : Type 0 where
   pub log : List AskedOf
   -- says how many orders were ever made of it, which nothing resets
   pub orders : ℕ
+  -- says which loader it is: no call changes it, and no clause says that of two loaders it is the same
+  pub identity : ℕ
 
 -- the loader that is made of these: nothing was asked of it
-abbrev pub made_of : {S : Type 0} → List ℕ → S → KeyMode → Option ℕ → LoaderOf S
-made_of name source mode limit = record {
+abbrev pub made_of : {S : Type 0} → ℕ → List ℕ → S → KeyMode → Option ℕ → LoaderOf S
+made_of identity name source mode limit = record {
   name = name;
   source = source;
   mode = mode;
   limit = limit;
   log = [];
   orders = 0;
+  identity = identity;
 }
 
 -- the loader once these keys are asked in this round: its log has gained an entry for each batch, and each is counted
@@ -53,13 +56,14 @@ stored_in l round = record l { log = map (marked round) l.log }
 abbrev pub unasked : {S : Type 0} → LoaderOf S → LoaderOf S
 unasked l = record l { log = [] }
 
--- the loader as it was made
+-- the loader as it was made, whichever it is
 abbrev pub as_made : {S : Type 0} → LoaderOf S → LoaderOf S
-as_made l = record l { log = []; orders = 0 }
+as_made l = record l { log = []; orders = 0; identity = 0 }
 
--- every order that was made of the loader in between stands in its log: the count of orders, which nothing resets, grew by as many as the
--- log did
+-- It is the same loader, and every order that it cut in between stands in its log: the count of its orders, which nothing resets, grew by
+-- as many as the log did.
 pub record IsOnRecord {S : Type 0} (old new : LoaderOf S) : Type 0 where
+  pub same : new.identity ≡ old.identity
   pub made : ℕ
   pub orders : new.orders ≡ old.orders + made
   pub entries : length new.log ≡ length old.log + made

@@ -2,10 +2,11 @@
 ghost use Rattle.std.specs.Prelude.{◌≡◌, ◌<◌, ◌++◌, ℕ, Some, IfOk, OnOk, OnErr, map, length, take};
 ghost use Rattle.load_memory.specs.Keys.{key_of};
 ghost use Rattle.load_queue.specs.Batches.{pieces, batches};
-ghost use Rattle.load_queue.specs.Orders.{order_of};
+ghost use Rattle.load_queue.specs.Orders.{cut_of};
 ghost use Rattle.load_queue.specs.Loaders.{entered};
 ghost use Rattle.load_queue.specs.Logs.{asked_of};
 
+use crate::identity::Identity;
 use crate::loader::LogEntry;
 use crate::order::Order;
 use load_memory::{Key, Keys};
@@ -27,22 +28,23 @@ pub(crate) fn piece_length(limit: Option<u32>, keys: &[Key]) -> usize
 /// An order of each piece. All of them share one list of keys, which is the one that was handed over.
 pub(crate) fn cut_orders(
     alloc: Global,
+    identity: &Identity,
     loader: usize,
     keys: Vec<Key>,
     most: usize,
 ) -> Result<Vec<Order>, AllocError>
     requires { 0 < most }
-    ensures { IfOk result (λ orders. orders.items
-        ≡ map (order_of loader) (pieces (length keys.items) most (map key_of keys.items))) }
+    ensures { IfOk result (λ orders. orders.items ≡ map (cut_of identity.now loader)
+        (pieces (length keys.items) most (map key_of keys.items))) }
 {
     let mut rest = Keys::from_vec(keys)?;
     let mut orders = Vec::new(alloc);
     while rest.len() > most {
         let piece = rest.split_to(most)?;
-        orders.push(Order::new(loader, piece))?;
+        orders.push(Order::new(identity, loader, piece))?;
     }
     if !rest.is_empty() {
-        orders.push(Order::new(loader, rest))?;
+        orders.push(Order::new(identity, loader, rest))?;
     }
     Ok(orders)
 }

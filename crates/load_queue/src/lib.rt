@@ -6,13 +6,17 @@
 //! - Only [`Loader::cut`], which [`Loader::cut_owned`] does by value, makes an [`Order`]. It enters
 //!   each in the loader's log and counts it, and nothing resets the count.
 //! - A source is private to its loader (no clause says it). An order reaches it by [`Order::run`]
-//!   alone; [`Order::reply_with`] reaches none. Both spend the order.
-//! - So a call over which a loader's count grew by as many as its log made no other order; where it
-//!   was handed none either, it asked the source nothing else.
+//!   alone, which requires that the loader of the order's number is the one that cut it;
+//!   [`Order::reply_with`] reaches none. Both spend the order.
+//! - Which loader is which stands in contracts alone: each has an identity, which no call changes, and
+//!   of which no clause says more. So nobody can run an order of one loader on another.
+//! - So a call over which a loader's count grew by as many as its log made no other order of it; where
+//!   it was handed none either, it asked the source nothing else.
 //! - A reply of `run` has, place by place, an answer that the source may give for the order's keys.
 #![tactic(auto)]
 
 mod cut;
+mod identity;
 pub mod loader;
 pub mod order;
 mod outcomes;

@@ -7,6 +7,7 @@ ghost use Rattle.load_queue.specs.Logs.{asked_of};
 ghost use Rattle.load_queue.specs.Orders.{orders_of};
 
 use crate::cut::{copy_of, cut_orders, enter, piece_length};
+use crate::identity::Identity;
 use crate::order::Order;
 use load_memory::{Key, KeyMode, Keys};
 use std::alloc::{AllocError, Global};
@@ -63,10 +64,10 @@ impl Drop for LogEntry {
     }
 }
 
-/// A source with its name, the way its keys are compared, its batch limit, the log of what was asked, and the count of its
-/// orders.
+/// A source with its name, the way its keys are compared, its batch limit, the log of what was asked, the count of its
+/// orders, and which loader it is.
 ///
-/// A contract sees these six.
+/// A contract sees these seven.
 #[derive(Drop)]
 pub struct Loader<S> {
     name: String,
@@ -79,6 +80,7 @@ pub struct Loader<S> {
     earlier: usize,
     // says how many orders were ever made of it; nothing resets it
     orders: u64,
+    identity: Identity,
 }
 
 impl<S> Model for Loader<S> {
@@ -95,6 +97,7 @@ impl<S> Model for Loader<S> {
       limit = l.limit;
       log = map asked_of l.log.items;
       orders = l.orders;
+      identity = l.identity;
     } };
 
     ghost invariant = { λ l. IsLoader l.limit l.latest l.earlier (map asked_of l.log.items) };
@@ -162,7 +165,7 @@ impl<S> Loader<S> {
     /// would overflow, the loader and its log are as they were.
     pub fn cut(&mut self, loader: usize, round: u32, keys: &[Key]) -> Result<Vec<Order>, AllocError>
         ensures orders { IfOk result (λ orders. orders.items
-            ≡ orders_of loader self.old.limit (map key_of keys.now)) }
+            ≡ orders_of self.old.identity loader self.old.limit (map key_of keys.now)) }
         ensures pieces { IfOk result (λ orders.
             AreBatches self.old.limit (map key_of keys.now) (map (λ o. o.keys) orders.items)) }
         ensures entered { OnOk result (self.new ≡ asked_in self.old round (map key_of keys.now)) }
@@ -182,7 +185,7 @@ impl<S> Loader<S> {
         keys: Vec<Key>,
     ) -> Result<Vec<Order>, AllocError>
         ensures orders { IfOk result (λ orders. orders.items
-            ≡ orders_of loader self.old.limit (map key_of keys.items)) }
+            ≡ orders_of self.old.identity loader self.old.limit (map key_of keys.items)) }
         ensures pieces { IfOk result (λ orders.
             AreBatches self.old.limit (map key_of keys.items) (map (λ o. o.keys) orders.items)) }
         ensures entered { OnOk result (self.new ≡ asked_in self.old round (map key_of keys.items)) }
@@ -191,7 +194,7 @@ impl<S> Loader<S> {
     {
         let alloc = *self.log.allocator();
         let most = piece_length(self.limit, &keys);
-        let orders = cut_orders(alloc, loader, keys, most)?;
+        let orders = cut_orders(alloc, &self.identity, loader, keys, most)?;
         let count = self
             .orders
             .checked_add(orders.len() as u64)
@@ -241,7 +244,8 @@ impl<S: Drop> Loader<S> {
     ghost use Rattle.load_queue.specs.Loaders.{IsBadLimit, made_of};
 
     /// A new loader with an empty log, of which no order was made yet. It asks its source for at most `max` keys at
-    /// once, 1 to 65,535; `None` is no limit.
+    /// once, 1 to 65,535; `None` is no limit. No clause says which loader it is, so nobody can show that it is one made
+    /// elsewhere.
     pub fn new(
         alloc: Global,
         name: &str,
@@ -250,7 +254,7 @@ impl<S: Drop> Loader<S> {
         max: Option<u32>,
     ) -> Result<Loader<S>, QueueFault>
         ensures made { IfOk result
-            (λ l. l ≡ made_of name.now source mode max) }
+            (λ l. l ≡ made_of l.identity name.now source mode max) }
         ensures refused { IsErrOf result QueueFault.BadLimit
             ↔ IsBadLimit max }
     {
@@ -269,6 +273,7 @@ impl<S: Drop> Loader<S> {
             latest: 0,
             earlier: 0,
             orders: 0,
+            identity: Identity::new(),
         })
     }
 }

@@ -1,8 +1,9 @@
 //! An order: keys that are to be asked together of one loader.
-ghost use Rattle.std.specs.Prelude.{◌≡◌, ◌<◌, IfOk, length, map};
+ghost use Rattle.std.specs.Prelude.{◌≡◌, IfOk, length, map};
 ghost use Rattle.load_memory.specs.Keys.{key_of};
 ghost use Rattle.load_queue.specs.Fetched.{Follow};
 
+use crate::identity::Identity;
 use crate::loader::Loader;
 use crate::outcomes::outcomes_of_answer;
 use crate::source::{FetchFault, LocalSource};
@@ -14,20 +15,21 @@ use std::marker::Model;
 /// [`Loader::cut`](crate::Loader::cut) makes one, and [`run`](Order::run) or [`reply_with`](Order::reply_with)
 /// spends it.
 ///
-/// A contract sees its loader's number and its keys.
+/// A contract sees its loader's number, its keys, and which loader cut it.
 pub struct Order {
     loader: usize,
     keys: Keys,
+    identity: Identity,
 }
 
 impl Model for Order {
     ghost use Rattle.std.specs.Prelude.{map};
     ghost use Rattle.load_memory.specs.Keys.{key_of};
-    ghost use Rattle.load_queue.specs.Orders.{OrderOf, order_of};
+    ghost use Rattle.load_queue.specs.Orders.{CutOf, cut_of};
 
-    ghost Value = { OrderOf };
+    ghost Value = { CutOf };
 
-    ghost view = { λ o. order_of o.loader (map key_of o.keys) };
+    ghost view = { λ o. cut_of o.identity o.loader (map key_of o.keys) };
 }
 
 impl Drop for Order {
@@ -35,20 +37,25 @@ impl Drop for Order {
         let Order {
             loader: _,
             keys: _keys,
+            identity: _identity,
         } = self;
     }
 }
 
 impl Order {
-    ghost use Rattle.load_queue.specs.Orders.{order_of};
+    ghost use Rattle.load_queue.specs.Orders.{cut_of, asks, IsCutBy};
     ghost use Rattle.load_queue.specs.Runs.{IsReplyTo};
     ghost use Rattle.load_memory.specs.Replies.{reply_of};
 
-    pub(crate) fn new(loader: usize, keys: Keys) -> Order
-        ensures { result ≡ order_of loader
+    pub(crate) fn new(identity: &Identity, loader: usize, keys: Keys) -> Order
+        ensures { result ≡ cut_of identity.now loader
             (map key_of keys) }
     {
-        Order { loader, keys }
+        Order {
+            loader,
+            keys,
+            identity: identity.same(),
+        }
     }
 
     /// Its keys once more, in the list that it shares.
@@ -76,7 +83,8 @@ impl Order {
     /// Asks the source of the order's loader once, and returns an outcome for each key, in order: the
     /// items of the source's list if it has one for each key. If the source failed, each key gets a
     /// batch fault with the source's message; if it returned N items for M keys, one with the text
-    /// `the source answered N results for M keys`.
+    /// `the source answered N results for M keys`. The loaders are those from which the order was cut:
+    /// an order of another loader can't be run.
     ///
     /// When out of memory, here or in the source, the order is spent and there is no reply.
     pub fn run<S: LocalSource>(
@@ -84,11 +92,15 @@ impl Order {
         alloc: Global,
         loaders: &[Loader<S>],
     ) -> Result<Reply, AllocError>
-        requires { self.loader < length loaders.now }
+        requires { IsCutBy loaders.now self }
         ensures { IfOk result (λ reply. IsReplyTo
-            S.may_tell loaders.now self (reply_of reply)) }
+            S.may_tell loaders.now (asks self) (reply_of reply)) }
     {
-        let Order { loader, keys } = self;
+        let Order {
+            loader,
+            keys,
+            identity: _identity,
+        } = self;
         let answer = loaders[loader].source().ask(alloc, keys.as_slice());
         let outcomes = outcomes_of_answer(alloc, answer, keys.len())?;
         Ok(Reply {
@@ -116,7 +128,11 @@ impl Order {
         ensures outcomes { IfOk result (λ reply.
             Follow (reply_of reply).outcomes answer (length self.keys)) }
     {
-        let Order { loader, keys } = self;
+        let Order {
+            loader,
+            keys,
+            identity: _identity,
+        } = self;
         let outcomes = outcomes_of_answer(alloc, answer, keys.len())?;
         Ok(Reply {
             loader,

@@ -1,12 +1,14 @@
 -- Loader by loader, the batches of what is wanted are entered.
 use Rattle.std.proofs.Common.{◌≡◌, ◌≢◌, ℕ, zero, suc, ◌<◌, ◌≤◌, ◌+◌, Bool, true, false, List, [], ◌∷◌, ◌++◌, map, length, get_or, refl, ap, ◌∙◌, sym, arith, append_assoc, ltb-false, ◌⊎◌, inl, inr}
+use Rattle.std.proofs.lemmas.List.Elements.{All-map}
+use Rattle.std.proofs.lemmas.Option.{slice_get-map, slice_get_read}
 use Rattle.std.proofs.lemmas.List.{append-nil, length-map, get_or-map, set-get_or}
 use Rattle.std.proofs.lemmas.Bool.{lt-ltb, ltb-true}
-use Rattle.std.specs.Prelude.{slice_set, nat_lt}
+use Rattle.std.specs.Prelude.{slice_set, slice_get, nat_lt, Some, option_map}
 use Rattle.load_memory.specs.Keys.{KeyOf}
 use Rattle.load_queue.specs.Batches.{batches}
 use Rattle.load_queue.specs.Loaders.{LoaderOf, asked_in}
-use Rattle.load_queue.specs.Orders.{OrderOf, order_of, orders_of}
+use Rattle.load_queue.specs.Orders.{OrderOf, CutOf, order_of, cut_of, orders_of, asks, identities, IsCutBy, AreCutBy}
 use Rattle.execution.specs.Rounds.{RuleOf, rule_of}
 use Rattle.load_rounds.specs.Sessions.{logged, logged_from, made}
 use Rattle.load_rounds.specs.Rounds.{orders_by, first_keys, Enters}
@@ -27,6 +29,15 @@ pub made-more : (os more : List OrderOf) → more ≢ [] → made (os ++ more) �
 made-more [] [] ne = absurd (ne refl)
 made-more [] (m ∷ ms) ne = refl
 made-more (o ∷ os) more ne = refl
+
+-- an order asks the same, whichever loader cut it
+pub asks-cut : (identity n : ℕ) (bs : List (List KeyOf)) → map asks (map (cut_of identity n) bs) ≡ map (order_of n) bs
+asks-cut identity n [] = refl
+asks-cut identity n (b ∷ bs) = ap (λ os. order_of n b ∷ os) (asks-cut identity n bs)
+
+none-asked : (os : List CutOf) → map asks os ≡ [] → os ≡ []
+none-asked [] e = refl
+none-asked (o ∷ os) e = absurd (cc e)
 
 module _ {S : Type 0} where
   pub logged-none : (stored : Bool) (round : ℕ) (l : LoaderOf S) → logged stored round [] l ≡ l
@@ -50,6 +61,11 @@ module _ {S : Type 0} where
   pub rules-logged : (stored : Bool) (round n : ℕ) (keys : ℕ → List KeyOf) (ls : List (LoaderOf S)) → map rule_of (logged_from n stored round keys ls) ≡ map rule_of ls
   rules-logged stored round n keys [] = refl
   rules-logged stored round n keys (l ∷ ls) = ap (λ rs. rule_of l ∷ rs) (rules-logged stored round (suc n) keys ls)
+
+  -- they are the same loaders
+  pub identities-logged : (stored : Bool) (round n : ℕ) (keys : ℕ → List KeyOf) (ls : List (LoaderOf S)) → identities (logged_from n stored round keys ls) ≡ identities ls
+  identities-logged stored round n keys [] = refl
+  identities-logged stored round n keys (l ∷ ls) = ap (λ is. l.identity ∷ is) (identities-logged stored round (suc n) keys ls)
 
   pub length-logged : (stored : Bool) (round n : ℕ) (keys : ℕ → List KeyOf) (ls : List (LoaderOf S)) → length (logged_from n stored round keys ls) ≡ length ls
   length-logged stored round n keys [] = refl
@@ -99,6 +115,14 @@ module _ {S : Type 0} (round i : ℕ) (keys : ℕ → List KeyOf) (old cur : Lis
   pub rule-at : rule_of d ≡ get_or (map rule_of old) i (rule_of d)
   rule-at = ap rule_of at ∙ sym (get_or-map rule_of cur i d (rule_of d) lt) ∙ ap (λ rs. get_or rs i (rule_of d)) (ap (map rule_of) is ∙ rules-logged false round 0 keys old)
 
+  -- what it cuts under its number is its own
+  pub cut-here : (bs : List (List KeyOf)) → AreCutBy old (map (cut_of d.identity i) bs)
+  cut-here bs =
+      let same : identities old ≡ identities cur = sym (ap identities is ∙ identities-logged false round 0 keys old) in
+      let there : slice_get (identities old) i ≡ Some d.identity =
+      ap (λ ids. slice_get ids i) same ∙ slice_get-map (λ (l : LoaderOf S). l.identity) cur i ∙ ap (option_map (λ (l : LoaderOf S). l.identity)) (slice_get_read cur (length cur) i d refl lt at) in
+      All-map (IsCutBy old) (cut_of d.identity i) bs (λ k e below. there)
+
   pub within : i < length old
   within = omega (arith, lt, ap length is, length-logged false round 0 keys old)
 
@@ -127,16 +151,16 @@ module _ {S : Type 0} (round i : ℕ) (keys : ℕ → List KeyOf) (old cur : Lis
 
 -- shows the same, by what the loader's cut gave
 pub enters-cut : {S : Type 0} (round i : ℕ) (keys : ℕ → List KeyOf) (old cur : List (LoaderOf S)) (before rounds after : ℕ) → Enters round (first_keys i keys) old cur before rounds → (d x : LoaderOf S) → i < length cur → d ≡ get_or cur i d
-    → (ks : List KeyOf) → ks ≡ keys i → x ≡ asked_in d round ks → (more : List OrderOf) → more ≡ orders_of i d.limit ks → ((more ≢ []) × (after ≡ round)) ⊎ ((more ≡ []) × (after ≡ rounds)) → round ≡ before + 1
+    → (ks : List KeyOf) → ks ≡ keys i → x ≡ asked_in d round ks → (more : List CutOf) → more ≡ orders_of d.identity i d.limit ks → ((more ≢ []) × (after ≡ round)) ⊎ ((more ≡ []) × (after ≡ rounds)) → round ≡ before + 1
     → Enters round (first_keys (i + 1) keys) old (slice_set cur i x) before after
 enters-cut round i keys old cur before rounds after was d x lt at ks same is more orders (inl some) next =
     let entered : x ≡ logged false round (keys i) d = rw same at is in
-    let own : more ≡ map (order_of i) (batches d.limit (keys i)) = rw same at orders in
-    enters-more round i keys old cur before rounds was d x lt at entered (λ e. some.0 (own ∙ e)) after (some.1 ∙ next)
+    let own : map asks more ≡ map (order_of i) (batches d.limit (keys i)) = ap (map asks) (rw same at orders) ∙ asks-cut d.identity i (batches d.limit (keys i)) in
+    enters-more round i keys old cur before rounds was d x lt at entered (λ e. some.0 (none-asked more (own ∙ e))) after (some.1 ∙ next)
 enters-cut round i keys old cur before rounds after was d x lt at ks same is more orders (inr none) next =
     let entered : x ≡ logged false round (keys i) d = rw same at is in
-    let own : more ≡ map (order_of i) (batches d.limit (keys i)) = rw same at orders in
-    rw none.1 (enters-none round i keys old cur before rounds was d x lt at entered (sym own ∙ none.0))
+    let own : map asks more ≡ map (order_of i) (batches d.limit (keys i)) = ap (map asks) (rw same at orders) ∙ asks-cut d.identity i (batches d.limit (keys i)) in
+    rw none.1 (enters-none round i keys old cur before rounds was d x lt at entered (sym own ∙ ap (map asks) none.0))
 
 -- a loader that stays
 pub enters-kept : {S : Type 0} (round i : ℕ) (keys : ℕ → List KeyOf) (old cur : List (LoaderOf S)) (before rounds : ℕ) (d x : LoaderOf S) → Enters round keys old cur before rounds → d ≡ get_or cur i d → x ≡ d → Enters round keys old (slice_set cur i x) before rounds

@@ -159,7 +159,7 @@ module _ {S : Type 0} where
 
   received-recorded : (round : ℕ) (ls : List (LoaderOf S)) → AreOnRecord ls (map (λ l. stored_in l round) ls)
   received-recorded round [] = tt
-  received-recorded round (l ∷ ls) = (record { made = 0; orders = omega arith; entries = omega (arith, length-map l.log (marked round)) }, received-recorded round ls)
+  received-recorded round (l ∷ ls) = (record { same = refl; made = 0; orders = omega arith; entries = omega (arith, length-map l.log (marked round)) }, received-recorded round ls)
 
   pub end-recorded : (old new : StateOf S) (replies : List ReplyOf) → new ≡ received old replies → AreOnRecord old.loaders new.loaders
   end-recorded old new replies e = rw e (received-recorded old.rounds old.loaders)

@@ -11,7 +11,7 @@ use Rattle.load_memory.specs.Replies.{ReplyOf, pairs_of}
 use Rattle.load_queue.specs.Answers.{AnswerOf}
 use Rattle.load_queue.specs.Batches.{batches}
 use Rattle.load_queue.specs.Loaders.{LoaderOf, AskedOf, marked, stored_in}
-use Rattle.load_queue.specs.Orders.{OrderOf, order_of}
+use Rattle.load_queue.specs.Orders.{CutOf, order_of, asks}
 use Rattle.execution.specs.Loads.{Load, Memory, IsOneOf, read}
 use Rattle.execution.specs.Program.{Program}
 use Rattle.execution.specs.Completion.{AnsweredOf}
@@ -125,21 +125,14 @@ module _ {S : Type 0} where
   lost-rules b loads = rules-logged false (b.rounds + 1) 0 (λ n. keys_for n loads) b.loaders
 
   -- the orders of a round that is out are still the batches of all that is needed and missing
-  pub round-orders : (p : Program) (old new : StateOf S) (orders : List OrderOf) → IsRound p old new orders → orders_in new p ≡ orders
+  pub round-orders : (p : Program) (old new : StateOf S) (orders : List CutOf) → IsRound p old new orders → orders_in new p ≡ map asks orders
   round-orders p old new orders is =
       let loads : List Load = front_in old p in
       ap (λ (t : StateOf S). orders_in t p) is.entered ∙ ap (λ rs. round_orders rs (front (modes_of rs) p old.memory)) (lost-rules old loads) ∙ sym is.batches
 
   -- the session is as that round left it
-  pub round-asked : (p : Program) (old new : StateOf S) (orders : List OrderOf) → IsRound p old new orders → IsAsked p new
+  pub round-asked : (p : Program) (old new : StateOf S) (orders : List CutOf) → IsRound p old new orders → IsAsked p new
   round-asked p old new orders is = record { before = old; lacks = is.lacks; entered = is.entered; counted = is.counted; numbered = is.numbered }
-
-  -- and each is of one of the loaders
-  pub round-below : (p : Program) (old new : StateOf S) (orders : List OrderOf) → IsRound p old new orders → All (λ (o : OrderOf). o.loader < length new.loaders) orders
-  round-below p old new orders is =
-      let rules : List RuleOf = rules_of new in
-      let below = orders-below 0 (length new.loaders) rules (λ m. keys_for m (front_in new p)) (omega (arith, length-map new.loaders rule_of)) in
-      rw (← round-orders p old new orders is, ← orders-loads 0 rules (front_in new p)) below
 
   -- marks change no rule and no number
   pub marked-rules : (round : ℕ) (ls : List (LoaderOf S)) → map rule_of (map (λ l. stored_in l round) ls) ≡ map rule_of ls

@@ -88,10 +88,10 @@ module _ {S : Type 0} where
 module _ {S : Type 0} where
   pub record-same : (ls : List (LoaderOf S)) → AreOnRecord ls ls
   record-same [] = tt
-  record-same (l ∷ ls) = (record { made = 0; orders = omega arith; entries = omega arith }, record-same ls)
+  record-same (l ∷ ls) = (record { same = refl; made = 0; orders = omega arith; entries = omega arith }, record-same ls)
 
   one-then : (a b c : LoaderOf S) → IsOnRecord a b → IsOnRecord b c → IsOnRecord a c
-  one-then a b c h k = record { made = h.made + k.made; orders = omega (arith, h.orders, k.orders); entries = omega (arith, h.entries, k.entries) }
+  one-then a b c h k = record { same = k.same ∙ h.same; made = h.made + k.made; orders = omega (arith, h.orders, k.orders); entries = omega (arith, h.entries, k.entries) }
 
   pub record-then : (xs ys zs : List (LoaderOf S)) → AreOnRecord xs ys → AreOnRecord ys zs → AreOnRecord xs zs
   record-then [] [] [] h k = tt
@@ -105,7 +105,7 @@ module _ {S : Type 0} where
   record-logged stored round n keys [] = tt
   record-logged stored round n keys (l ∷ ls) =
       let bs = batches l.limit (keys n) in
-      (record { made = length bs; orders = refl; entries = omega (arith, length-append l.log (map (entry stored round) bs), length-map bs (entry stored round)) }, record-logged stored round (suc n) keys ls)
+      (record { same = refl; made = length bs; orders = refl; entries = omega (arith, length-append l.log (map (entry stored round) bs), length-map bs (entry stored round)) }, record-logged stored round (suc n) keys ls)
 
   -- rounds alone, stored or lost
   pub record-asking : (s : StateOf S) (steps : List Step) → AreAsking steps → AreOnRecord s.loaders (after_steps s steps).loaders

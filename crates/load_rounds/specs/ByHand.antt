@@ -8,7 +8,7 @@ use Rattle.load_memory.specs.declared.shelf.Receipt.{Receipt}
 use Rattle.load_memory.specs.declared.shelf.Shelf.{Shelf}
 use Rattle.load_queue.specs.Answers.{AnswerOf}
 use Rattle.load_queue.specs.Loaders.{stored_in}
-use Rattle.load_queue.specs.Orders.{OrderOf}
+use Rattle.load_queue.specs.Orders.{OrderOf, CutOf, asks, AreCutBy}
 use Rattle.execution.specs.Loads.{Load, read}
 use Rattle.execution.specs.Program.{Program}
 use Rattle.execution.specs.Completion.{AnsweredOf}
@@ -109,11 +109,12 @@ module _ {S : Type 0} where
     pub answered : IsTextOf text_of p (read (session_modes old) old.memory) text
     pub same : new ≡ old
 
-  -- Something is missing: the orders are the batches of all that is, entered under the number of the session's next round and
-  -- not stored. This round is counted.
-  pub record IsRound (p : Program) (old new : StateOf S) (orders : List OrderOf) : Type 0 where
+  -- Something is missing: the orders are the batches of all that is, each cut by the session's own loader, entered under the number of
+  -- the session's next round and not stored. This round is counted.
+  pub record IsRound (p : Program) (old new : StateOf S) (orders : List CutOf) : Type 0 where
     pub lacks : front_in old p ≢ []
-    pub batches : orders ≡ orders_in old p
+    pub batches : map asks orders ≡ orders_in old p
+    pub cut : AreCutBy new.loaders orders
     pub entered : new ≡ after_step old (Lost (front_in old p))
     pub counted : new.rounds ≡ old.rounds + 1
     pub numbered : AreNumbered old.rounds old.loaders

@@ -6,7 +6,7 @@ use Rattle.load_memory.specs.Outcomes.{outcome_of}
 use Rattle.load_memory.specs.Replies.{ReplyOf}
 use Rattle.load_memory.specs.declared.outcome.Outcome.{Outcome}
 use Rattle.load_queue.specs.Answers.{AnswerOf}
-use Rattle.load_queue.specs.Orders.{OrderOf}
+use Rattle.load_queue.specs.Orders.{OrderOf, asks, AreCutBy}
 use Rattle.load_queue.specs.Wanted.{WantedOf}
 use Rattle.execution.specs.Loads.{Load}
 use Rattle.execution.specs.Rounds.{round_orders, may_at, AreReplies}
@@ -51,7 +51,8 @@ module _ {S : Type 0} where
     BeginsLoad old new loader keys (next.Loaded outcomes) =
         IsLoaded may old new loader keys (map outcome_of outcomes.items)
     BeginsLoad old new loader keys (next.Round orders) = IsLoading old new loader keys
-        × (orders.items ≡ orders_at new loader keys)
+        × (map asks orders.items ≡ orders_at new loader keys)
+        × AreCutBy new.loaders orders.items
 
     -- one reply to each order of the round that is out, in order, as its source may answer it
     abbrev pub AreToldAt : StateOf S → ℕ → List KeyOf → List ReplyOf → Type 0

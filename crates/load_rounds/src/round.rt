@@ -2,12 +2,12 @@
 //!
 //! A round counts as soon as it has an order. A lost round keeps its number, and the batches that it entered
 //! are those of the first loaders.
-ghost use Rattle.std.specs.Prelude.{◌≡◌, ◌<◌, ◌+◌, ◌++◌, ℕ, All, map, length, IfOk, OnOk, OnErr};
+ghost use Rattle.std.specs.Prelude.{◌≡◌, ◌+◌, ◌++◌, ℕ, map, length, IfOk, OnOk, OnErr};
 ghost use Rattle.load_memory.specs.Pairs.{IsSameMap};
 ghost use Rattle.load_memory.specs.Replies.{reply_of};
 ghost use Rattle.load_queue.specs.Loaders.{stored_in};
 ghost use Rattle.load_queue.specs.Wanted.{keys_wanted};
-ghost use Rattle.load_queue.specs.Orders.{OrderOf};
+ghost use Rattle.load_queue.specs.Orders.{asks, AreCutBy};
 ghost use Rattle.execution.specs.Rounds.{rule_of, may_at, AreReplies};
 ghost use Rattle.load_rounds.specs.Rounds.{orders_by, first_keys, Enters, KeepsReplies};
 
@@ -28,8 +28,10 @@ pub(crate) fn cut_all<S>(
     requires lined_up { length wants.old
         ≡ length loaders.old.items }
     requires next { round ≡ rounds.old + 1 }
-    ensures orders { IfOk result (λ orders. orders.items
+    ensures orders { IfOk result (λ orders. map asks orders.items
         ≡ orders_by 0 (map rule_of loaders.old.items) (keys_wanted wants.old)) }
+    ensures cut { IfOk result (λ orders. AreCutBy
+        loaders.new.items orders.items) }
     ensures entered { OnOk result (Enters round (keys_wanted wants.old)
         loaders.old.items loaders.new.items rounds.old rounds.new) }
     ensures lost { OnErr result ((n : ℕ) × Enters round (first_keys n (keys_wanted wants.old))
@@ -70,10 +72,9 @@ pub(crate) fn run_all<S: LocalSource>(
     orders: Vec<Order>,
     loaders: &[Loader<S>],
 ) -> Result<Vec<Reply>, AllocError>
-    requires { All (λ (o : OrderOf).
-        o.loader < length loaders.now) orders.items }
-    ensures { IfOk result (λ replies.
-        AreReplies (may_at S.may_tell loaders.now) orders.items (map reply_of replies.items)) }
+    requires { AreCutBy loaders.now orders.items }
+    ensures { IfOk result (λ replies. AreReplies (may_at S.may_tell loaders.now)
+        (map asks orders.items) (map reply_of replies.items)) }
 {
     let mut replies = Vec::with_capacity(alloc, orders.len())?;
     for order in orders {
@@ -90,12 +91,11 @@ pub(crate) fn run_and_keep<S: LocalSource>(
     orders: Vec<Order>,
     memory: &mut Memory,
 ) -> Result<(), AllocError>
-    requires loaders { All (λ (o : OrderOf).
-        o.loader < length loaders.now) orders.items }
+    requires loaders { AreCutBy loaders.now orders.items }
     requires modes { length loaders.now
         ≡ length memory.old.modes }
     ensures kept { OnOk result (KeepsReplies (may_at S.may_tell loaders.now)
-        orders.items memory.old memory.new) }
+        (map asks orders.items) memory.old memory.new) }
     ensures modes { memory.new.modes ≡ memory.old.modes }
     ensures lost { OnErr result
         (IsSameMap memory.new.pairs memory.old.pairs) }

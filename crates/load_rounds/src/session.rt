@@ -7,6 +7,7 @@ ghost use Rattle.load_memory.specs.Replies.{reply_of};
 ghost use Rattle.load_memory.specs.Shelves.{IsOn, shown};
 ghost use Rattle.load_queue.specs.Loaders.{AreOnRecord};
 ghost use Rattle.load_queue.specs.Logs.{asked_of};
+ghost use Rattle.load_queue.specs.Orders.{asks, AreCutBy};
 ghost use Rattle.load_queue.specs.Wanted.{nothing_wanted};
 ghost use Rattle.execution.specs.Loads.{Load, read};
 ghost use Rattle.execution.specs.Rounds.{AreLimited, round_orders, without_failed};
@@ -90,7 +91,9 @@ impl<S> Session<S> {
         requires { length wants
             ≡ length self.old.loaders }
         ensures orders { (loads : List Load) → AreWanted wants loads → IfOk result
-            (λ orders. orders.items ≡ round_orders (rules_of (state_of self.old)) loads) }
+            (λ orders. map asks orders.items ≡ round_orders (rules_of (state_of self.old)) loads) }
+        ensures cut { IfOk result (λ orders. AreCutBy
+            self.new.loaders orders.items) }
         ensures entered { (loads : List Load) → AreWanted wants loads
             → OnOk result (state_of self.new ≡ after_step (state_of self.old) (Lost loads)) }
         ensures lost { (loads : List Load) → AreWanted wants loads

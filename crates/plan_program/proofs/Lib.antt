@@ -1,3 +1,4 @@
 pub mod Grouping
 pub mod Rests
 pub mod Preparing
+pub mod OtherVariables

@@ -12,3 +12,5 @@ pub mod Coercing
 pub mod FieldValues
 pub mod Prepared
 pub mod PlanPrograms
+pub mod OtherVariables
+pub mod RowUses

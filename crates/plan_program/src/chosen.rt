@@ -25,7 +25,8 @@ fn is_true_input(input: &Input) -> bool
     }
 }
 
-fn is_true_variable(plan: &Plan, name: &str) -> bool
+/// Tells whether the variable of this name is true.
+pub fn is_true_variable(plan: &Plan, name: &str) -> bool
     ensures { result ≡ is_true_input
         (value_in (plan_of plan.now).variables name.now) }
 {

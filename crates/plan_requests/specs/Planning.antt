@@ -3,7 +3,7 @@ use Rattle.std.specs.Prelude.{◌≡◌, ℕ, false, List, [], ◌∷◌, ◌++�
 use Rattle.text_place.specs.declared.place.Place.{Place}
 use Rattle.serde_json.specs.Data.{Data, null}
 use Rattle.gq_schema.specs.Types.{tree_of}
-use Rattle.gq_check.specs.Plans.{PlanOf, plan_of}
+use Rattle.gq_check.specs.Plans.{PlanOf, PlanParts, IsSameBut, plan_of}
 use Rattle.answer_json.specs.Answer.{json_text, refusal_json}
 use Rattle.request_line.specs.Requests.{RequestOf, IsRequest, IsNoRequest}
 use Rattle.plan_requests.specs.declared.fault.RequestFault.{RequestFault}
@@ -55,6 +55,20 @@ pub record IsRefusal (s : ServerOf) (request : RequestOf) (text : List ℕ) : Ty
 abbrev pub PlansRequest : ServerOf → RequestOf → RequestPlan → Type 0
 PlansRequest s asked (request_plan.Refused text) = IsRefusal s asked (string_bytes text)
 PlansRequest s asked (request_plan.Planned plan) = IsPlanned s asked (plan_of plan)
+
+-- ---- one operation for many requests
+
+-- The plan is that of some request with the same query and the same name of its operation, of whatever variables.
+pub record HasOperation (s : ServerOf) (request : RequestOf) (plan : PlanOf) : Type 0 where
+  pub first : RequestOf
+  pub planned : IsPlanned s first plan
+  pub query : first.query ≡ request.query
+  pub name : first.operation_name ≡ request.operation_name
+
+-- where a request has a plan, it is the given one but for its variables
+abbrev pub IsPlanAgain : PlanParts → RequestPlan → Type 0
+IsPlanAgain given (request_plan.Refused text) = Unit {0}
+IsPlanAgain given (request_plan.Planned plan) = IsSameBut given plan
 
 -- ---- the values of an array
 

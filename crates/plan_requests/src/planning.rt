@@ -4,11 +4,15 @@ ghost use Rattle.std.specs.Prelude.{◌≡◌, ◌≤◌, ℕ, List, IfOk, IfSom
 ghost use Rattle.std.specs.List.{Contains};
 ghost use Rattle.request_line.specs.Seen.{request_of, requests_of};
 ghost use Rattle.plan_requests.specs.DocumentCaches.{longest, AreBounded, HasRoom};
-ghost use Rattle.plan_requests.specs.Planning.{IsRefusal, PlansRequest, PlansValue, PlansArray};
+ghost use Rattle.plan_requests.specs.Planning.{HasOperation, IsPlanAgain, IsRefusal, PlansRequest, PlansValue, PlansArray};
+ghost use Rattle.plan_requests.specs.Servers.{ServerOf};
+ghost use Rattle.gq_check.specs.Plans.{plan_of};
 
 use crate::document_cache::DocumentCache;
+use crate::fault::RequestFault;
 use crate::plans::{ArrayPlan, RequestPlan};
 use crate::refusal::{not_a_request, refusal};
+use gq_check::Plan;
 use request_line::Request;
 use serde_json::Value;
 use std::alloc::{AllocError, Global};
@@ -108,5 +112,31 @@ impl DocumentCache {
             array.push(plan)?;
         }
         Ok(array)
+    }
+}
+
+/// Returns what a request asks, by a plan of its operation for another request with the same query and the same name: that plan
+/// with the values of the request's own variables. Nothing is parsed or checked, but for the variables.
+///
+/// # Errors
+///
+/// Only when out of memory.
+pub fn plan_again(
+    alloc: Global,
+    plan: &Plan,
+    request: &Request<'_>,
+) -> Result<RequestPlan, AllocError>
+    ensures plans { (s : ServerOf) → HasOperation s (request_of request.now) (plan_of plan.now)
+        → IfOk result (PlansRequest s (request_of request.now)) }
+    ensures same { IfOk result (IsPlanAgain plan.now) }
+{
+    let none = Value::Null;
+    let given = request.variables.unwrap_or(&none);
+    match plan.again(alloc, given) {
+        Ok(plan) => Ok(RequestPlan::Planned(plan)),
+        Err(fault) => match refusal(alloc, &RequestFault::Prepare(fault)) {
+            Ok(text) => Ok(RequestPlan::Refused(text)),
+            Err(_) => Err(AllocError),
+        },
     }
 }

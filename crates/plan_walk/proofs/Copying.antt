@@ -8,7 +8,8 @@ use Rattle.std.proofs.lemmas.List.Elements.{AllZip-get_or}
 use Rattle.gq_check.specs.Plans.{PlanOf}
 use Rattle.plan_program.specs.FieldValues.{ChildrenOf}
 use Rattle.plan_program.specs.Prepared.{children_seen}
-use Rattle.plan_walk.specs.Groups.{children_in, children_at, First, use_seen, nowhere, Covers, IsShape, Grows}
+use Rattle.plan_program.specs.RowUses.{First}
+use Rattle.plan_walk.specs.Groups.{children_in, children_at, use_seen, nowhere, Covers, IsShape, Grows}
 use Rattle.plan_walk.specs.Puts.{View}
 use Rattle.plan_walk.specs.declared.loading_fields.LoadingField.{LoadingField}
 use Rattle.plan_walk.specs.declared.loading_fields.TypePositions.{TypePositions}

@@ -1,6 +1,6 @@
 -- Groups that are more and more, and shapes that are kept.
 use Rattle.std.specs.Arc.{arc_value}
-use Rattle.std.proofs.Common.{◌≡◌, ℕ, zero, suc, ◌<◌, ◌≤◌, ◌+◌, true, List, [], ◌∷◌, ◌++◌, take, length, map, get_or, set, refl, sym, ap, subst, ◌∙◌, arith, length-append, length-set, Some, None}
+use Rattle.std.proofs.Common.{◌≡◌, ℕ, zero, suc, ◌<◌, ◌≤◌, ◌+◌, Bool, true, Option, Vec, Global, List, [], ◌∷◌, ◌++◌, take, length, map, get_or, set, refl, sym, ap, subst, ◌∙◌, arith, length-append, length-set, Some, None}
 use Rattle.std.specs.List.{All, slice_get}
 use Rattle.std.specs.Option.{option_map_or}
 use Rattle.std.proofs.lemmas.Option.{slice_get-get_or, slice_get_within, get_or_from_slice_get}
@@ -8,17 +8,21 @@ use Rattle.std.proofs.lemmas.List.Elements.{All-push, All-set}
 use Rattle.std.proofs.lemmas.List.{map-append, take_all, take_at, take-take, length-take}
 use Rattle.schema_syntax.specs.Tree.{Definition}
 use Rattle.load_memory.specs.Rows.{RowOf}
-use Rattle.execution.specs.Program.{Program, Programs, End, With}
+use Rattle.execution.specs.Program.{Program, Under, ListOf, Programs, End, With}
 use Rattle.gq_check.specs.Plans.{PlanOf}
-use Rattle.plan_program.specs.FieldValues.{ChildrenOf, ValueFrom, PreparedOf, prepared, all_prepared}
-use Rattle.plan_program.specs.Prepared.{key_from_seen}
+use Rattle.load_memory.specs.declared.key.Key.{Key}
+use Rattle.plan_program.specs.FieldValues.{ChildrenOf, ValueFrom, each_row, PreparedOf, prepared, all_prepared}
+use Rattle.plan_program.specs.Prepared.{key_from_seen, keys_seen}
 use Rattle.plan_program.specs.Seen.{group_of, groups_of}
 use Rattle.plan_program.specs.declared.group.Group.{Group}
-use Rattle.plan_program.specs.PlanPrograms.{fields_of, read_from, asked_program, object_program}
+use Rattle.plan_program.specs.PlanPrograms.{fields_of, places, read_from, read_if, first_object, asked_program, object_program}
 use Rattle.plan_program.specs.declared.prepared.KeyFrom.{KeyFrom}
 use Rattle.plan_walk.specs.Puts.{OnwardOf, View}
-use Rattle.plan_walk.specs.Groups.{children_in, nowhere, children_at, UseOf, First, use_seen, then_at, then_rows, next_rows, after_at, Covers, type_prepared, IsAsked, asks_seen, members_seen, Makes, IsShape, IsRight, AreRight, Grows, IsNew, IsAsking, AreMade, AreMadeOf, AreKept, IsOnly, IsShaped, view_of}
-use Rattle.plan_walk.specs.Positions.{member_position}
+use Rattle.plan_program.specs.RowUses.{UseOf, First, BelowOf, below_in}
+use Rattle.plan_walk.specs.Groups.{children_in, nowhere, children_at, use_seen, then_at, then_rows, next_rows, after_at, Covers, type_prepared, IsAsked, asks_seen, members_seen, Makes, IsShape, IsRight, AreRight, Grows, IsNew, Serves, ServesLoad, IsServed, AreServed, IsAskingOver, IsAsking, AreMadeOver, AreMade, AreMadeOf, AreKept, IsOnly, IsShaped, view_of}
+use Rattle.plan_walk.specs.Positions.{is_non_null, member_position}
+use Rattle.plan_walk.specs.declared.positions.Items.{Items}
+use Rattle.text_place.specs.declared.place.Place.{Place}
 use Rattle.plan_walk.specs.declared.loading_fields.FieldResolver.{FieldResolver}
 use Rattle.plan_walk.specs.declared.loading_fields.FieldResolver.TheVariants as asks
 use Rattle.plan_walk.specs.declared.loading_fields.Member.{Member}
@@ -187,49 +191,135 @@ fields-append f (p ∷ ps) qs = ap (With p.position (f p.asked)) (fields-append 
 pub front-then : {X : Type 0} (a b c : List X) → length a ≤ length b → take (length a) b ≡ a → take (length b) c ≡ b → take (length a) c ≡ a
 front-then a b c le f g = sym (take-take (length a) (length b) c le) ∙ ap (take (length a)) g ∙ f
 
--- one member more
+-- ---- groups that serve
+
+serves-more : (plan : PlanOf) (old new : List LoadingField) (n : ℕ) (below : BelowOf) → Grows plan old new → Serves plan old n below → Serves plan new n below
+serves-more plan old new n below g h = record { within = omega (arith, g.longer, h.within); after = λ v c levels. h.after v (g.covers v c) levels }
+
+serves-load-more : (plan : PlanOf) (old new : List LoadingField) (n : ℕ) (below : Option BelowOf) → Grows plan old new → ServesLoad plan old n below → ServesLoad plan new n below
+serves-load-more plan old new n None g h = h
+serves-load-more plan old new n (Some below) g h = serves-more plan old new n below g h
+
+pub served-one-more : (plan : PlanOf) (old new : List LoadingField) (asked : ValueFrom) (a : FieldResolver) → Grows plan old new → IsServed plan old asked a → IsServed plan new asked a
+served-one-more plan old new asked (asks.Known leaf_value) g h = h
+served-one-more plan old new asked (asks.Cell column ty) g h = h
+served-one-more plan old new asked (asks.Load loader key group) g h = serves-load-more plan old new group (below_in asked) g h
+served-one-more plan old new asked (asks.Each loader keys items group) g h = serves-load-more plan old new group (below_in asked) g h
+
+pub served-more : (plan : PlanOf) (old new : List LoadingField) (ps : List PreparedOf) (ms : List Member) → Grows plan old new → AreServed plan old ps ms → AreServed plan new ps ms
+served-more plan old new [] [] g h = tt
+served-more plan old new [] (m ∷ ms) g h = absurd h
+served-more plan old new (p ∷ ps) [] g h = absurd h
+served-more plan old new (p ∷ ps) (m ∷ ms) g h = (served-one-more plan old new p.asked m.asks g h.0, served-more plan old new ps ms g h.1)
+
+served-push : (plan : PlanOf) (gs : List LoadingField) (ps : List PreparedOf) (ms : List Member) (p : PreparedOf) (m : Member) → AreServed plan gs ps ms → IsServed plan gs p.asked m.asks → AreServed plan gs (ps ++ p ∷ []) (ms ++ m ∷ [])
+served-push plan gs [] [] p m h is = (is, tt)
+served-push plan gs [] (n ∷ ms) p m h is = absurd h
+served-push plan gs (q ∷ ps) [] p m h is = absurd h
+served-push plan gs (q ∷ ps) (n ∷ ms) p m h is = (h.0, served-push plan gs ps ms p m h.1 is)
+
+-- a group more serves what it is for
+pub serves-new : (plan : PlanOf) (old new : List LoadingField) (next : UseOf) (children : ChildrenOf) (group : ℕ) → IsNew old new next children group → Serves plan new group (record { next = next; children = children })
+serves-new plan old new next children group h = record {
+  within = h.within;
+  after = λ v cov levels. cov.tells (record { group = group; later = None; levels = levels }) h.within ∙ ap (λ n. then_rows plan levels n (children_at new group)) h.does ∙ ap (λ b. then_rows plan levels next b) h.stands;
+}
+
+-- ---- members
+
+-- one member more, over a plan
+pub made-more-over : (plan : PlanOf) (old mid new : List LoadingField) (ps : List PreparedOf) (p : PreparedOf) (ms : List Member) (m : Member) → AreMadeOver plan old mid ps ms → IsAskingOver plan mid new p.asked m.asks → member_position m.position ≡ p.position
+    → AreMadeOver plan old new (ps ++ p ∷ []) (ms ++ m ∷ [])
+made-more-over plan old mid new ps p ms m h a same =
+    let made : Makes plan new ms ps = makes-more plan mid new ms ps a.grows h.makes in record {
+      grows = grows-then plan old mid new h.grows a.grows;
+      makes = record {
+        known = All-push (λ (x : Member). IsAsked (length new) x.asks) ms m made.known a.known;
+        members = λ v c levels row.
+            let f : ValueFrom → Program = asked_program plan.definitions (object_program plan levels) row in
+            members-append plan.definitions v levels row ms (m ∷ [])
+            ∙ ap (λ qs. chained qs (With (member_position m.position) (asks_seen plan.definitions v levels row m.asks) End)) (made.members v c levels row)
+            ∙ ap (λ q. chained (fields_of f ps) (With (member_position m.position) q End)) (a.same v c levels row)
+            ∙ ap (λ position. chained (fields_of f ps) (With position (f p.asked) End)) same
+            ∙ sym (fields-append f ps (p ∷ []));
+      };
+      served = served-push plan new ps ms p m (served-more plan mid new ps ms a.grows h.served) a.served;
+    }
+
 pub made-more : (old mid new : List LoadingField) (ps : List PreparedOf) (p : PreparedOf) (ms : List Member) (m : Member) → AreMade old mid ps ms → IsAsking mid new p.asked m.asks → member_position m.position ≡ p.position
     → AreMade old new (ps ++ p ∷ []) (ms ++ m ∷ [])
 made-more old mid new ps p ms m h a same = record {
-  grows = λ plan. grows-then plan old mid new (h.grows plan) (a.grows plan);
   front = front-then old mid new (omega (arith, length-take (length old) mid, ap length h.front)) h.front a.front;
-  makes = λ plan. let made : Makes plan new ms ps = makes-more plan mid new ms ps (a.grows plan) (h.makes plan) in record {
-    known = All-push (λ (x : Member). IsAsked (length new) x.asks) ms m made.known a.known;
-    members = λ v c levels row.
-        let f : ValueFrom → Program = asked_program plan.definitions (object_program plan levels) row in
-        members-append plan.definitions v levels row ms (m ∷ [])
-        ∙ ap (λ qs. chained qs (With (member_position m.position) (asks_seen plan.definitions v levels row m.asks) End)) (made.members v c levels row)
-        ∙ ap (λ q. chained (fields_of f ps) (With (member_position m.position) q End)) (a.same plan v c levels row)
-        ∙ ap (λ position. chained (fields_of f ps) (With position (f p.asked) End)) same
-        ∙ sym (fields-append f ps (p ∷ []));
-  };
+  over = λ plan. made-more-over plan old mid new ps p ms m (h.over plan) (a.over plan) same;
 }
+
+-- the groups of a type with one collected group more
+pub prepared-more : (plan : PlanOf) (ty : List ℕ) (gs : List Group) (g : Group) (p : PreparedOf) → p ≡ prepared plan ty (group_of g) → all_prepared plan ty (groups_of (gs ++ g ∷ [])) ≡ all_prepared plan ty (groups_of gs) ++ p ∷ []
+prepared-more plan ty gs g p is =
+    let f = prepared plan ty in
+    ap (map f) (map-append group_of gs (g ∷ [])) ∙ (map-append f (groups_of gs) (group_of g ∷ []) ∙ ap (λ (q : PreparedOf). all_prepared plan ty (groups_of gs) ++ q ∷ []) (sym is))
 
 -- one collected group more
 pub made-of-more : (plan : PlanOf) (ty : List ℕ) (old mid new : List LoadingField) (gs : List Group) (g : Group) (p : PreparedOf) (ms : List Member) (m : Member) → AreMadeOf plan ty (groups_of gs) old mid ms → p ≡ prepared plan ty (group_of g) → IsAsking mid new p.asked m.asks
     → member_position m.position ≡ p.position → AreMadeOf plan ty (groups_of (gs ++ g ∷ [])) old new (ms ++ m ∷ [])
 made-of-more plan ty old mid new gs g p ms m h is a same =
-    let f = prepared plan ty in
-    let more : all_prepared plan ty (groups_of (gs ++ g ∷ [])) ≡ all_prepared plan ty (groups_of gs) ++ p ∷ [] =
-    ap (map f) (map-append group_of gs (g ∷ [])) ∙ (map-append f (groups_of gs) (group_of g ∷ []) ∙ ap (λ (q : PreparedOf). all_prepared plan ty (groups_of gs) ++ q ∷ []) (sym is)) in
-    subst (λ (qs : List PreparedOf). AreMade old new qs (ms ++ m ∷ [])) (sym more) (made-more old mid new (all_prepared plan ty (groups_of gs)) p ms m h a same)
+    subst (λ (qs : List PreparedOf). AreMade old new qs (ms ++ m ∷ [])) (sym (prepared-more plan ty gs g p is)) (made-more old mid new (all_prepared plan ty (groups_of gs)) p ms m h a same)
+
+pub made-none-over : (plan : PlanOf) (gs : List LoadingField) → AreMadeOver plan gs gs [] []
+made-none-over plan gs = record { grows = grows-self plan gs; makes = record { known = λ k d lt. absurd (omega (arith, lt)); members = λ v c levels row. refl }; served = tt }
 
 pub made-none : (gs : List LoadingField) → AreMade gs gs [] []
-made-none gs = record { grows = λ plan. grows-self plan gs; front = take_all (length gs) gs (omega arith); makes = λ plan. record { known = λ k d lt. absurd (omega (arith, lt)); members = λ v c levels row. refl } }
+made-none gs = record { front = take_all (length gs) gs (omega arith); over = λ plan. made-none-over plan gs }
 
--- the program that a load with a group more asks for
-pub load-asking : (old new : List LoadingField) (next : UseOf) (children : ChildrenOf) (loader : ℕ) (key : KeyFrom) (group : ℕ) (asked : ValueFrom) → IsNew old new next children group
-    → ((plan : PlanOf) (levels : ℕ) (row : RowOf) → read_from loader (key_from_seen key) row (then_rows plan levels next children) ≡ asked_program plan.definitions (object_program plan levels) row asked) → IsAsking old new asked (asks.Load loader key group)
-load-asking old new next children loader key group asked h is = record {
-  grows = h.grows;
-  front = h.front;
+-- the program that a load by a group asks for, which serves it
+pub load-asking-over : (plan : PlanOf) (gs : List LoadingField) (below : BelowOf) (loader : ℕ) (key : KeyFrom) (group : ℕ) (asked : ValueFrom) → Serves plan gs group below → below_in asked ≡ Some below
+    → ((levels : ℕ) (row : RowOf) → read_from loader (key_from_seen key) row (then_rows plan levels below.next below.children) ≡ asked_program plan.definitions (object_program plan levels) row asked) → IsAskingOver plan gs gs asked (asks.Load loader key group)
+load-asking-over plan gs below loader key group asked h loads is = record {
+  grows = grows-self plan gs;
   known = h.within;
-  same = λ plan v cov levels row.
-      let onward : OnwardOf = record { group = group; later = None; levels = levels } in
-      ap (λ (f : List RowOf → Program). read_from loader (key_from_seen key) row f)
-      (cov.tells onward h.within ∙ ap (λ n. then_rows plan levels n (children_at new group)) h.does ∙ ap (λ b. then_rows plan levels next b) h.stands)
-      ∙ is plan levels row;
+  same = λ v cov levels row. ap (λ (f : List RowOf → Program). read_from loader (key_from_seen key) row f) (h.after v cov levels) ∙ is levels row;
+  served = subst (ServesLoad plan gs group) (sym loads) h;
 }
+
+-- for each key its first row, by a group that serves it
+pub each-asking-over : (plan : PlanOf) (gs : List LoadingField) (children : ChildrenOf) (loader : ℕ) (keys : Vec (Option Key) Global) (items : Items) (group : ℕ) → Serves plan gs group (record { next = First; children = children })
+    → is_non_null items.nullability ≡ children.item_non_null → items.place ≡ children.place → IsAskingOver plan gs gs (each_row loader (keys_seen keys.items) children) (asks.Each loader keys items group)
+each-asking-over plan gs children loader keys items group h nullability place = record {
+  grows = grows-self plan gs;
+  known = h.within;
+  same = λ v cov levels row.
+      let next : List RowOf → Program = first_object plan.definitions (object_program plan levels) children in
+      ap (λ (f : List RowOf → Program). Under ListOf (places (is_non_null items.nullability) items.place 0 (map (read_if loader f) (keys_seen keys.items)))) (h.after v cov levels)
+      ∙ ap (λ (b : Bool). Under ListOf (places b items.place 0 (map (read_if loader next) (keys_seen keys.items)))) nullability
+      ∙ ap (λ (p : Place). Under ListOf (places children.item_non_null p 0 (map (read_if loader next) (keys_seen keys.items)))) place;
+  served = h;
+}
+
+-- what asks over the groups that there are, asks so with more of them
+pub asking-grown : (plan : PlanOf) (old new : List LoadingField) (asked : ValueFrom) (a : FieldResolver) → Grows plan old new → IsAskingOver plan new new asked a → IsAskingOver plan old new asked a
+asking-grown plan old new asked a g h = record { grows = g; known = h.known; same = h.same; served = h.served }
+
+pub settled-asking-over : (plan : PlanOf) (gs : List LoadingField) (asked : ValueFrom) (a : FieldResolver) → IsAsked (length gs) a → IsServed plan gs asked a → ((v : View) (levels : ℕ) (row : RowOf) → asks_seen plan.definitions v levels row a ≡ asked_program plan.definitions (object_program plan levels) row asked) → IsAskingOver plan gs gs asked a
+settled-asking-over plan gs asked a known served is = record { grows = grows-self plan gs; known = known; same = λ v cov levels row. is v levels row; served = served }
+
+-- with a group more
+pub load-asking : (old new : List LoadingField) (next : UseOf) (children : ChildrenOf) (loader : ℕ) (key : KeyFrom) (group : ℕ) (asked : ValueFrom) → IsNew old new next children group → below_in asked ≡ Some (record { next = next; children = children })
+    → ((plan : PlanOf) (levels : ℕ) (row : RowOf) → read_from loader (key_from_seen key) row (then_rows plan levels next children) ≡ asked_program plan.definitions (object_program plan levels) row asked) → IsAsking old new asked (asks.Load loader key group)
+load-asking old new next children loader key group asked h loads is = record {
+  front = h.front;
+  over = λ plan. asking-grown plan old new asked (asks.Load loader key group) (h.grows plan) (load-asking-over plan new (record { next = next; children = children }) loader key group asked (serves-new plan old new next children group h) loads (is plan));
+}
+
+pub each-asking : (old new : List LoadingField) (children : ChildrenOf) (loader : ℕ) (keys : Vec (Option Key) Global) (items : Items) (group : ℕ) → IsNew old new First children group
+    → is_non_null items.nullability ≡ children.item_non_null → items.place ≡ children.place → IsAsking old new (each_row loader (keys_seen keys.items) children) (asks.Each loader keys items group)
+each-asking old new children loader keys items group h nullability place = record {
+  front = h.front;
+  over = λ plan. asking-grown plan old new (each_row loader (keys_seen keys.items) children) (asks.Each loader keys items group) (h.grows plan) (each-asking-over plan new children loader keys items group (serves-new plan old new First children group h) nullability place);
+}
+
+-- without one
+pub settled-asking : (gs : List LoadingField) (asked : ValueFrom) (a : FieldResolver) → IsAsked (length gs) a → ((plan : PlanOf) → IsServed plan gs asked a) → ((plan : PlanOf) (v : View) (levels : ℕ) (row : RowOf) → asks_seen plan.definitions v levels row a ≡ asked_program plan.definitions (object_program plan levels) row asked) → IsAsking gs gs asked a
+settled-asking gs asked a known served is = record { front = take_all (length gs) gs (omega arith); over = λ plan. settled-asking-over plan gs asked a known (served plan) (is plan) }
 
 -- ---- the members of a type
 
@@ -240,17 +330,17 @@ shaped-kept plan most gs group ty ms h = record { grows = grows-self plan gs; fr
 pub shaped-then : (plan : PlanOf) (most : ℕ) (old mid new : List LoadingField) (count group : ℕ) (ty : List ℕ) (s : TypePositions) (ms : List Member) → count ≡ length old → s.ty ≡ ty → (arc_value s.members).items ≡ ms
     → (s.only ≡ true → IsOnly plan.definitions (children_at old group) ty) → AreMade old mid (type_prepared plan (children_at old group) ty) ms → ((p : PlanOf) → (group < count → IsShape p mid (children_at mid group) s) → Grows p mid new) → (most ≤ count → new ≡ mid) → IsShaped plan most old new group ty ms
 shaped-then plan most old mid new count group ty s ms counted name same only h kept full =
-    let made : Makes plan mid ms (type_prepared plan (children_at old group) ty) = h.makes plan in
+    let made : Makes plan mid ms (type_prepared plan (children_at old group) ty) = (h.over plan).makes in
     let here : IsShape plan mid (children_at old group) s = record {
       makes = subst (λ (xs : List Member). Makes plan mid xs (type_prepared plan (children_at old group) s.ty)) (sym same)
           (subst (λ (t : List ℕ). Makes plan mid ms (type_prepared plan (children_at old group) t)) (sym name) made);
       only = λ e. subst (λ (t : List ℕ). IsOnly plan.definitions (children_at old group) t) (sym name) (only e);
     } in
     let shape : group < count → IsShape plan mid (children_at mid group) s =
-    λ lt. subst (λ (b : ChildrenOf). IsShape plan mid b s) (sym ((h.grows plan).stand group (omega (arith, lt, counted)))) here in
+    λ lt. subst (λ (b : ChildrenOf). IsShape plan mid b s) (sym ((h.over plan).grows.stand group (omega (arith, lt, counted)))) here in
     let grown : Grows plan mid new = kept plan shape in
     record {
-      grows = grows-then plan old mid new (h.grows plan) grown;
+      grows = grows-then plan old mid new (h.over plan).grows grown;
       front = λ le. ap (take (length old)) (full (omega (arith, le, counted))) ∙ h.front;
       makes = λ r. makes-more plan mid new ms (type_prepared plan (children_at old group) ty) grown made;
     }

@@ -4,3 +4,4 @@ pub mod Copying
 pub mod Stepping
 pub mod Touring
 pub mod Noting
+pub mod MadeAgain

@@ -11,10 +11,11 @@ use Rattle.execution.specs.Loads.{Reader}
 use Rattle.execution.specs.Program.{Kind, ListOf, ObjectOf, Item, Null, Program, Is, Under, Programs, End, With}
 use Rattle.gq_check.specs.Plans.{PlanOf}
 use Rattle.plan_program.specs.FieldValues.{ChildrenOf}
+use Rattle.plan_program.specs.RowUses.{UseOf, First, Each, Joined}
 use Rattle.plan_program.specs.PlanPrograms.{object_type, type_of_row, places, list_of, first_of, typed_object, row_object, joined_object, joined_objects, object_program}
 use Rattle.plan_walk.specs.Puts.{Put, Begins, Ends, Enters, OnwardOf, View, puts, all_puts}
 use Rattle.plan_walk.specs.Positions.{is_non_null, member_position, later_of}
-use Rattle.plan_walk.specs.Groups.{children_at, UseOf, First, Each, Joined, then_at, taken_by, then_rows, next_rows, steps_in, Covers, IsAsked, AreKnown, asks_seen, members_seen, Grows, IsWhole, AreOnly, IsShaped, view_of}
+use Rattle.plan_walk.specs.Groups.{children_at, then_at, taken_by, then_rows, next_rows, steps_in, Covers, IsAsked, AreKnown, asks_seen, members_seen, Grows, IsWhole, AreOnly, IsShaped, view_of}
 use Rattle.plan_walk.specs.Steps.{last_steps}
 use Rattle.plan_walk.specs.Following.{FollowsTo, followed_puts}
 use Rattle.plan_walk.specs.declared.following.ViaRows.{ViaRows}

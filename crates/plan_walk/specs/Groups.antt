@@ -1,7 +1,7 @@
 -- Definitions of what is kept of the groups that load, by their numbers.
-use Rattle.std.specs.Prelude.{◌≡◌, ◌<◌, ◌≤◌, ℕ, true, false, List, [], ◌∷◌, length, map, take, Option, Some, None}
-use Rattle.std.specs.List.{All, slice_get}
-use Rattle.std.specs.Option.{option_map_or}
+use Rattle.std.specs.Prelude.{◌≡◌, ◌<◌, ◌≤◌, ℕ, true, false, List, [], ◌∷◌, length, map, take, Option, Some, None, IfSome}
+use Rattle.std.specs.List.{All, AllZip, slice_get}
+use Rattle.std.specs.Option.{option_and_then, option_map_or}
 use Rattle.std.specs.Arc.{arc_value}
 use Rattle.std.specs.declared.sync.Arc.{Arc}
 use Rattle.std.specs.declared.alloc.Global.{Global}
@@ -13,11 +13,14 @@ use Rattle.gq_bindings.specs.Seen.{step_of}
 use Rattle.load_memory.specs.Rows.{RowOf, cell_of}
 use Rattle.execution.specs.Program.{Program, Is, Under, Programs, End, With, ListOf}
 use Rattle.gq_check.specs.Plans.{PlanOf}
+use Rattle.gq_variables.specs.Variables.{VariableOf}
 use Rattle.plan_program.specs.Groups.{GroupOf, nothing_collected, collect_subfields}
 use Rattle.plan_program.specs.FieldValues.{ChildrenOf, ValueFrom, PreparedOf, all_prepared}
 use Rattle.plan_program.specs.Prepared.{leaf_value_seen, key_from_seen, keys_seen, children_seen}
 use Rattle.plan_program.specs.PlanPrograms.{cell_value, places, fields_of, read_from, read_if, first_object, all_objects, first_of, joined_object, joined_objects, asked_program, object_program}
 use Rattle.plan_program.specs.ObjectTypes.{name_in, is_found, IsOf}
+use Rattle.plan_program.specs.OtherVariables.{AgreesOnDirectives, with_variables}
+use Rattle.plan_program.specs.RowUses.{UseOf, First, Each, Joined, BelowOf, below_in}
 use Rattle.plan_program.specs.declared.object_type.ObjectType.{ObjectType}
 use Rattle.plan_program.specs.declared.prepared.Children.{Children}
 use Rattle.plan_walk.specs.Steps.{last_steps}
@@ -37,12 +40,6 @@ abbrev pub children_in : Arc Children Global → ChildrenOf
 children_in children = children_seen (arc_value children)
 
 -- ---- what a group does with the rows of its load
-
--- it takes the first of them, or all, or for each of them the first row of each later loader in turn, by a column of the row before
-pub data UseOf : Type 0 where
-  First : UseOf
-  Each : UseOf
-  Joined : List StepOf → UseOf
 
 abbrev pub use_seen : rust-use.RowUse → UseOf
 use_seen rust-uses.First = First
@@ -187,6 +184,43 @@ abbrev pub GrowsByShape : ℕ → ℕ → TypePositions → List LoadingField �
 GrowsByShape count group shape old new = (plan : PlanOf)
     → (group < count → IsShape plan old (children_at old group) shape) → Grows plan old new
 
+-- ---- groups that serve what is asked for
+
+-- over each view of the groups one of them goes on with the rows of its load as this says
+pub record Serves (plan : PlanOf) (gs : List LoadingField) (number : ℕ) (below : BelowOf)
+    : Type 0 where
+  pub within : number < length gs
+  pub after : (v : View) → Covers plan gs v → (levels : ℕ)
+      → v.after (record { group = number; later = None; levels = levels })
+      ≡ then_rows plan levels below.next below.children
+
+-- the group serves what is loaded, and something is
+abbrev pub ServesLoad : PlanOf → List LoadingField → ℕ → Option BelowOf → Type 0
+ServesLoad plan gs number None = ⊥
+ServesLoad plan gs number (Some below) = Serves plan gs number below
+
+-- the group would serve what is loaded, if something is
+abbrev pub MayServe : PlanOf → List LoadingField → ℕ → Option BelowOf → Type 0
+MayServe plan gs number None = Unit {0}
+MayServe plan gs number (Some below) = Serves plan gs number below
+
+-- the group of what a position asks for, if it has one
+abbrev pub group_in : FieldResolver → Option ℕ
+group_in (asks.Known leaf_value) = None
+group_in (asks.Cell column ty) = None
+group_in (asks.Load loader key group) = Some group
+group_in (asks.Each loader keys items group) = Some group
+
+-- the group of what a position asks for serves what this value loads
+abbrev pub IsServed : PlanOf → List LoadingField → ValueFrom → FieldResolver → Type 0
+IsServed plan gs asked asks = IfSome (group_in asks)
+    (λ number. ServesLoad plan gs number (below_in asked))
+
+-- the groups of members serve what these groups of fields load, each in its place
+abbrev pub AreServed : PlanOf → List LoadingField → List PreparedOf → List Member → Type 0
+AreServed plan gs ps ms =
+    AllZip (λ (p : PreparedOf) (m : Member). IsServed plan gs p.asked m.asks) ps ms
+
 -- ---- what is made
 
 -- a group more, of this number
@@ -198,31 +232,38 @@ pub record IsNew (old new : List LoadingField) (next : UseOf) (children : Childr
   pub does : then_at new number ≡ next
   pub stands : children_at new number ≡ children
 
--- with the groups that it needs it asks for this
-pub record IsAsking (old new : List LoadingField) (asked : ValueFrom)
+-- with the groups that it needs it asks for this, over a plan
+pub record IsAskingOver (plan : PlanOf) (old new : List LoadingField) (asked : ValueFrom)
     (asks : FieldResolver) : Type 0 where
-  pub grows : (plan : PlanOf) → Grows plan old new
-  pub front : take (length old) new ≡ old
+  pub grows : Grows plan old new
   pub known : IsAsked (length new) asks
-  pub same : (plan : PlanOf) (v : View) → Covers plan new v → (levels : ℕ) (row : RowOf)
+  pub same : (v : View) → Covers plan new v → (levels : ℕ) (row : RowOf)
       → asks_seen plan.definitions v levels row asks
       ≡ asked_program plan.definitions (object_program plan levels) row asked
+  pub served : IsServed plan new asked asks
+
+-- the same over each plan, with groups that come behind those that there were
+pub record IsAsking (old new : List LoadingField) (asked : ValueFrom)
+    (asks : FieldResolver) : Type 0 where
+  pub front : take (length old) new ≡ old
+  pub over : (plan : PlanOf) → IsAskingOver plan old new asked asks
+
+-- the members ask what these groups of fields ask, over a plan
+pub record AreMadeOver (plan : PlanOf) (old new : List LoadingField) (ps : List PreparedOf)
+    (ms : List Member) : Type 0 where
+  pub grows : Grows plan old new
+  pub makes : Makes plan new ms ps
+  pub served : AreServed plan new ps ms
 
 pub record AreMade (old new : List LoadingField) (ps : List PreparedOf)
     (ms : List Member) : Type 0 where
-  pub grows : (plan : PlanOf) → Grows plan old new
   pub front : take (length old) new ≡ old
-  pub makes : (plan : PlanOf) → Makes plan new ms ps
+  pub over : (plan : PlanOf) → AreMadeOver plan old new ps ms
 
 -- the members are made of what these groups of an object type ask for
 abbrev pub AreMadeOf : PlanOf → List ℕ → List GroupOf
     → List LoadingField → List LoadingField → List Member → Type 0
 AreMadeOf plan ty gs old new ms = AreMade old new (all_prepared plan ty gs) ms
-
--- says what the plan asks of an object of this type below a group was prepared, with the groups that it needs
-abbrev pub Meets : PlanOf → ChildrenOf → List ℕ
-    → List LoadingField → List LoadingField → List Member → Type 0
-Meets plan children ty old new ms = AreMade old new (type_prepared plan children ty) ms
 
 -- these are the members of a type below a group, where the groups are right
 abbrev pub AreKept : List LoadingField → ℕ → List ℕ → List Member → Type 0
@@ -238,9 +279,54 @@ pub record IsWhole (plan : PlanOf) (gs : List LoadingField) (children : Children
 abbrev pub AreOnly : List LoadingField → ℕ → List Member → Type 0
 AreOnly gs group ms = (plan : PlanOf) → AreRight plan gs → IsWhole plan gs (children_at gs group) ms
 
+-- the group of the member at a place, if it has one
+abbrev pub group_at : List Member → ℕ → Option ℕ
+group_at ms place = option_and_then (λ (m : Member). group_in m.asks) (slice_get ms place)
+
+-- this asks for a value by a group, over each plan by which the group serves it
+abbrev pub AsksAt : ValueFrom → ℕ → FieldResolver → Type 0
+AsksAt asked number asks = (plan : PlanOf) (gs : List LoadingField)
+    → MayServe plan gs number (below_in asked) → IsAskingOver plan gs gs asked asks
+
+-- this asks for a value by a group, or with one more
+abbrev pub AsksAgain : ValueFrom → Option ℕ → List LoadingField → List LoadingField
+    → FieldResolver → Type 0
+AsksAgain asked group old new asks = (plan : PlanOf)
+    → IfSome group (λ number. MayServe plan old number (below_in asked))
+    → IsAskingOver plan old new asked asks
+
+-- the plan is that one with other variables
+abbrev pub IsOtherwise : PlanOf → PlanOf → Type 0
+IsOtherwise first plan = plan ≡ with_variables first plan.variables
+
+-- The members ask what these groups of fields ask, over a plan by which the groups of `before` serve what the same groups of fields ask
+-- with other variables.
+abbrev pub AreMadeAgain : PlanOf → List ℕ → List GroupOf → List Member
+    → List LoadingField → List LoadingField → List Member → Type 0
+AreMadeAgain plan ty gs before old new ms = (first over : PlanOf) → IsOtherwise first plan
+    → AreServed over old (all_prepared first ty gs) before
+    → AreMadeOver over old new (all_prepared plan ty gs) ms
+
+-- these groups of fields of a type below a group ask the same over another plan
+pub record AsksAlike (over plan : PlanOf) (children : ChildrenOf) (ty : List ℕ)
+    (gs : List GroupOf) : Type 0 where
+  pub definitions : over.definitions ≡ plan.definitions
+  pub same : type_prepared over children ty ≡ all_prepared plan ty gs
+
+-- The groups grow, over each plan that is this one with other variables and leaves out the same.
+abbrev pub GrowsAlike : PlanOf → List LoadingField → List LoadingField → Type 0
+GrowsAlike plan old new = (vs : List VariableOf) → AgreesOnDirectives plan vs
+    → Grows (with_variables plan vs) old new
+
 -- The members of a type below a group. They are kept from then on, unless there are `most` groups.
 pub record IsShaped (plan : PlanOf) (most : ℕ) (old new : List LoadingField) (group : ℕ)
     (ty : List ℕ) (ms : List Member) : Type 0 where
   pub grows : Grows plan old new
   pub front : most ≤ length old → take (length old) new ≡ old
   pub makes : AreRight plan old → Makes plan new ms (type_prepared plan (children_at old group) ty)
+
+-- The members of a type below a group were made of these groups of fields, for each plan by which they ask the same there.
+abbrev pub MakesShape : PlanOf → ℕ → ℕ → List ℕ → List GroupOf
+    → List LoadingField → List LoadingField → List Member → Type 0
+MakesShape plan most group ty gs old new ms = (over : PlanOf)
+    → AsksAlike over plan (children_at old group) ty gs → IsShaped over most old new group ty ms

@@ -7,6 +7,7 @@
 //! keeps each of them once.
 #![tactic(auto)]
 
+pub mod again;
 pub mod cells;
 mod following;
 mod keys;

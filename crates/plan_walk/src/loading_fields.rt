@@ -10,7 +10,8 @@ ghost use Rattle.plan_program.specs.ObjectTypes.{name_in, IsOf};
 ghost use Rattle.plan_program.specs.Seen.{groups_of};
 ghost use Rattle.plan_program.specs.FieldValues.{position_of};
 ghost use Rattle.plan_walk.specs.Positions.{is_non_null, member_position};
-ghost use Rattle.plan_walk.specs.Groups.{children_in, children_at, use_seen, then_at, taken_by, steps_in, GrowsByShape, IsNew, IsAsking, AreMadeOf, Meets, AreKept, IsBelow, AreOnly, IsShaped, Grows};
+ghost use Rattle.plan_program.specs.OtherVariables.{are_fixed};
+ghost use Rattle.plan_walk.specs.Groups.{children_in, children_at, use_seen, then_at, taken_by, steps_in, GrowsByShape, IsNew, IsAsking, AreMadeOf, MakesShape, AreKept, IsBelow, AreOnly, IsShaped, Grows, GrowsAlike};
 
 use crate::leaf_type::LeafType;
 use crate::positions::{Items, MemberPosition, Nullability, Onward};
@@ -23,7 +24,7 @@ use gq_schema::TypeKind;
 use load_memory::{Key, Text};
 use plan_program::{
     Children, Group, KeyFrom, LeafValue, ObjectType, PreparedField, ValueFrom, collect_subfields,
-    prepare_group,
+    is_fixed, prepare_group,
 };
 use short_list::ShortList;
 use std::alloc::{AllocError, Global};
@@ -170,7 +171,7 @@ pub fn steps_of(groups: &[LoadingField], group: usize) -> &[ViaLoader]
 }
 
 // The items of a list with these children.
-fn child_items(children: &Children) -> Items
+pub(crate) fn child_items(children: &Children) -> Items
     ensures nullability { is_non_null result.nullability
         ≡ (children_seen children.now).item_non_null }
     ensures place { result.place
@@ -242,7 +243,7 @@ fn asks_for_each(
 }
 
 // Returns what is asked for, with a group more where it loads.
-fn asks_of(groups: &mut Vec<LoadingField>, asked: ValueFrom) -> Result<FieldResolver, AllocError>
+pub(crate) fn asks_of(groups: &mut Vec<LoadingField>, asked: ValueFrom) -> Result<FieldResolver, AllocError>
     ensures { IfOk result
         (IsAsking groups.old.items groups.new.items (value_from_seen asked)) }
 {
@@ -286,7 +287,7 @@ fn asks_of(groups: &mut Vec<LoadingField>, asked: ValueFrom) -> Result<FieldReso
 }
 
 // The position of a field.
-fn position_of(key: Text, place: Place, non_null: bool) -> MemberPosition
+pub(crate) fn position_of(key: Text, place: Place, non_null: bool) -> MemberPosition
     ensures { member_position result
         ≡ position_of key place non_null }
 {
@@ -380,23 +381,6 @@ fn type_below<'p, 'a>(plan: &'p Plan, children: &'p Children, name: &'a str) -> 
     }
 }
 
-// Prepares what is asked of the objects of a type.
-fn meet(
-    walk: &Walk<'_>,
-    groups: &mut Vec<LoadingField>,
-    children: &Children,
-    ty: &ObjectType<'_, '_>,
-) -> Result<Arc<Vec<Member>>, AllocError>
-    requires { IsOf (plan_of walk.now.plan.now) ty.now }
-    ensures { IfOk result (λ members. Meets (plan_of walk.now.plan.now) (children_seen children.now)
-        (name_in ty.now) groups.old.items groups.new.items (arc_value members).items) }
-{
-    let below = children.below.as_slice();
-    let collected = collect_subfields(walk.alloc, walk.plan, ty.name(), below)?;
-    let members = members_of(walk, groups, ty, collected)?;
-    Ok(Arc::new(walk.alloc, members)?)
-}
-
 // Keeps the members of a type below a group that is one of the first `count`, fewer than `most`.
 fn keep(
     alloc: Global,
@@ -438,6 +422,30 @@ pub fn children_of(
     Ok(Arc::new(alloc, nowhere)?)
 }
 
+// The members that collected groups of an object type make below a group. They are kept, unless there are too many groups.
+fn made_shape(
+    walk: &Walk<'_>,
+    groups: &mut Vec<LoadingField>,
+    group: usize,
+    ty: &ObjectType<'_, '_>,
+    collected: Vec<Group<'_>>,
+) -> Result<Arc<Vec<Member>>, AllocError>
+    requires { IsBelow (plan_of walk.now.plan.now)
+        (children_at groups.old.items group) ty.now }
+    ensures { IfOk result (λ members. MakesShape (plan_of walk.now.plan.now) walk.now.most group (name_in ty.now)
+        (groups_of collected.entry.items) groups.old.items groups.new.items (arc_value members).items) }
+{
+    let count = groups.len();
+    let members = Arc::new(walk.alloc, members_of(walk, groups, &*ty, collected)?)?;
+    let shape = TypePositions {
+        ty: Text::from_str(walk.alloc, ty.name())?,
+        only: ty.is_found(),
+        members: Arc::try_clone(&members)?,
+    };
+    keep(walk.alloc, groups, count, walk.most, group, shape)?;
+    Ok(members)
+}
+
 // The members of the objects of a type below a group, of which no object was met. They are kept, unless there are too many groups.
 fn new_shape(
     walk: &Walk<'_>,
@@ -452,16 +460,9 @@ fn new_shape(
     ensures { IfOk result (λ members. IsShaped (plan_of walk.now.plan.now) walk.now.most
         groups.old.items groups.new.items group (name_in ty.now) (arc_value members).items) }
 {
-    let count = groups.len();
-    let only = ty.is_found();
-    let members = meet(walk, groups, children, ty)?;
-    let shape = TypePositions {
-        ty: Text::from_str(walk.alloc, ty.name())?,
-        only,
-        members: Arc::try_clone(&members)?,
-    };
-    keep(walk.alloc, groups, count, walk.most, group, shape)?;
-    Ok(members)
+    let below = children.below.as_slice();
+    let collected = collect_subfields(walk.alloc, walk.plan, ty.name(), below)?;
+    made_shape(walk, groups, group, ty, collected)
 }
 
 /// The members of the objects of a type below a group.
@@ -492,14 +493,15 @@ pub fn copy_of(groups: &Vec<LoadingField>) -> Result<Vec<LoadingField>, AllocErr
 }
 
 /// Prepares what is asked of the objects below groups of one object type: below the first `most` groups, until there are as many
-/// members.
+/// members. What is asked for by variables isn't prepared, so what is serves each plan that is this one with other variables, if it leaves
+/// out the same.
 pub fn prepare_below(
     walk: &Walk<'_>,
     groups: &mut Vec<LoadingField>,
     most: usize,
 ) -> Result<(), AllocError>
     ensures { OnOk result
-        (Grows (plan_of walk.now.plan.now) groups.old.items groups.new.items) }
+        (GrowsAlike (plan_of walk.now.plan.now) groups.old.items groups.new.items) }
 {
     let mut room = most;
     for group in 0..most {
@@ -512,14 +514,22 @@ pub fn prepare_below(
     Ok(())
 }
 
-// Prepares what is asked of the objects below a group, if they have one object type. Returns how many members there are.
+// Tells whether no argument of these groups is given by a variable.
+fn are_fixed(collected: &[Group<'_>]) -> bool
+    ensures { result ≡ are_fixed (groups_of collected.now) }
+{
+    collected.iter().all(|group| is_fixed(group))
+}
+
+// Prepares what is asked of the objects below a group, if they have one object type and nothing is asked for by variables. Returns how
+// many members there are.
 fn prepare_only(
     walk: &Walk<'_>,
     groups: &mut Vec<LoadingField>,
     group: usize,
 ) -> Result<usize, AllocError>
     ensures { OnOk result
-        (Grows (plan_of walk.now.plan.now) groups.old.items groups.new.items) }
+        (GrowsAlike (plan_of walk.now.plan.now) groups.old.items groups.new.items) }
 {
     let children = children_of(walk.alloc, groups, group)?;
     let name = children.type_name.as_str();
@@ -530,7 +540,12 @@ fn prepare_only(
     if !ty.is_found() {
         return Ok(0);
     }
-    let members = new_shape(walk, groups, group, &children, &ty)?;
+    let below = children.below.as_slice();
+    let collected = collect_subfields(walk.alloc, walk.plan, ty.name(), below)?;
+    if !are_fixed(&collected) {
+        return Ok(0);
+    }
+    let members = made_shape(walk, groups, group, &ty, collected)?;
     Ok(members.len())
 }
 

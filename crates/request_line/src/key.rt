@@ -1,53 +1,15 @@
-//! Texts that determine requests.
+//! Texts that determine the operations of requests.
 
-ghost use Rattle.std.specs.Prelude.{◌≡◌, ◌≤◌, ◌++◌, ◌∷◌, ℕ, List, [], IfOk, IfSome, IsTrue, IsFalse, OnOk, option_map, string_bytes};
-ghost use Rattle.serde_json.specs.Data.{depth, members_depth};
-ghost use Rattle.serde_json.specs.Read.{max_depth, read};
-ghost use Rattle.serde_json.specs.View.{view, members_view};
-ghost use Rattle.request_line.specs.Keys.{IsKey, IsLine, SaysName, SaysVariables};
+ghost use Rattle.std.specs.Prelude.{◌≡◌, ◌++◌, ◌∷◌, IfOk, IfSome, IsTrue, OnOk, option_map, string_bytes};
+ghost use Rattle.request_line.specs.Keys.{IsKey, IsLine, SaysName};
 ghost use Rattle.request_line.specs.Seen.{request_of};
 
 use crate::request::Request;
-use serde_json::{Map, Value};
-use std::alloc::{AllocError, Global};
+use serde_json::Value;
+use std::alloc::AllocError;
 
-/// Number of bytes of the longest variables, as JSON, that a key has.
-const LONGEST_VARIABLES: usize = 512;
-
-// Tells whether a value is neither an array nor an object.
-fn is_leaf(value: &Value) -> bool
-    ensures { IsTrue result → depth (view value.now) ≡ 0 }
-{
-    match value {
-        Value::Array(_) => false,
-        Value::Object(_) => false,
-        _ => true,
-    }
-}
-
-// Tells whether no member is an array or an object.
-fn are_leaves(members: &Map<String, Value>) -> bool
-    ensures { IsTrue result
-        → members_depth (members_view members.now.entries) ≡ 0 }
-{
-    for (_, member) in members.iter() {
-        if !is_leaf(member) {
-            return false;
-        }
-    }
-    true
-}
-
-// Tells whether a value is an object of members that are no arrays or objects, or neither itself.
-fn is_flat(value: &Value) -> bool
-    ensures { IsTrue result → depth (view value.now) ≤ max_depth }
-{
-    match value {
-        Value::Array(_) => false,
-        Value::Object(members) => are_leaves(members),
-        _ => true,
-    }
-}
+/// Number of bytes of the longest first line that a key has.
+const LONGEST_FLAGS: usize = 512;
 
 // Tells whether a text is within one line.
 fn is_line(text: &str) -> bool
@@ -56,23 +18,28 @@ fn is_line(text: &str) -> bool
     !text.as_bytes().contains(&b'\n')
 }
 
-// The first line of a key: the variables as JSON, or nothing where none are given. What is nested or long has no key.
-fn variables_line(alloc: Global, variables: Option<&Value>) -> Result<Option<String>, AllocError>
-    ensures line { IfOk result (λ line. IfSome line (λ text. IsLine (string_bytes text))) }
-    ensures says { IfOk result (λ line. IfSome line (λ text.
-        SaysVariables (string_bytes text) (option_map (λ v. view v.now) variables.entry))) }
-{
-    let Some(variables) = variables else {
-        return Ok(Some(String::new(alloc)));
+// Writes the names of the variables that are true, each with a space behind it.
+fn write_flags(key: &mut String, variables: Option<&Value>) -> Result<(), AllocError> {
+    let Some(Value::Object(members)) = variables else {
+        return Ok(());
     };
-    if !is_flat(variables) {
-        return Ok(None);
+    for (name, member) in members.iter() {
+        if matches!(member, Value::Bool(true)) {
+            key.push_str(name)?;
+            key.push(' ')?;
+        }
     }
-    let text = variables.to_string(alloc)?;
-    if text.is_empty() || text.len() > LONGEST_VARIABLES || !is_line(&text) {
-        return Ok(None);
-    }
-    Ok(Some(text))
+    Ok(())
+}
+
+// Writes the first line of a key: the names of the variables that are true. Where a name has a line's end, or they are long, it is none.
+fn write_first(key: &mut String, variables: Option<&Value>) -> Result<bool, AllocError>
+    ensures { IfOk result (λ written.
+        IsTrue written → IsLine (string_bytes key.new)) }
+{
+    key.clear();
+    write_flags(key, variables)?;
+    Ok(key.len() <= LONGEST_FLAGS && is_line(key))
 }
 
 // The second line of a key: the operation's name, or nothing where none is given.
@@ -90,13 +57,11 @@ fn name_line(name: Option<&str>) -> Option<&str>
     Some(name)
 }
 
-// Writes the lines of a key.
-fn write_lines(key: &mut String, variables: &str, name: &str, query: &str) -> Result<(), AllocError>
+// Writes what follows the first line of a key.
+fn write_rest(key: &mut String, name: &str, query: &str) -> Result<(), AllocError>
     ensures { OnOk result (string_bytes key.new
-        ≡ variables.now ++ 10 ∷ (name.now ++ 10 ∷ query.now)) }
+        ≡ string_bytes key.old ++ 10 ∷ (name.now ++ 10 ∷ query.now)) }
 {
-    key.clear();
-    key.push_str(variables)?;
     key.push('\n')?;
     key.push_str(name)?;
     key.push('\n')?;
@@ -104,23 +69,25 @@ fn write_lines(key: &mut String, variables: &str, name: &str, query: &str) -> Re
 }
 
 impl<'v> Request<'v> {
-    /// Writes a text that determines the request, its key, if it has one: the variables, as JSON without spaces, in the first line, the
-    /// operation's name in the second, and then the query. Variables have none where they are nested, or longer than 512 bytes.
+    /// Writes a text that determines the request's query and the name of its operation, its key, if it has one: the names of the
+    /// variables that are the JSON value `true` in the first line, the operation's name in the second, and then the query. So
+    /// requests that differ in what directives may look at mostly have keys of their own. There is none where the names of these
+    /// variables have a line's end, or more than 512 bytes in all.
     ///
     /// # Errors
     ///
     /// Only when out of memory.
-    pub fn write_key(&self, alloc: Global, key: &mut String) -> Result<bool, AllocError>
+    pub fn write_key(&self, key: &mut String) -> Result<bool, AllocError>
         ensures { IfOk result (λ written. IsTrue written
             → IsKey (string_bytes key.new) (request_of self.now)) }
     {
-        let Some(variables) = variables_line(alloc, self.variables)? else {
+        if !write_first(key, self.variables)? {
             return Ok(false);
-        };
+        }
         let Some(name) = name_line(self.operation_name) else {
             return Ok(false);
         };
-        write_lines(key, &variables, name, self.query)?;
+        write_rest(key, name, self.query)?;
         Ok(true)
     }
 }

@@ -10,7 +10,7 @@ use Rattle.load_memory.specs.Replies.{ReplyOf}
 use Rattle.load_memory.proofs.ReplyPairs.{All-of_map}
 use Rattle.load_queue.specs.Answers.{AnswerOf}
 use Rattle.load_queue.specs.Loaders.{LoaderOf, as_made, stored_in}
-use Rattle.load_queue.specs.Orders.{OrderOf}
+use Rattle.load_queue.specs.Orders.{OrderOf, CutOf}
 use Rattle.execution.specs.Program.{Program}
 use Rattle.execution.specs.Completion.{AnsweredOf}
 use Rattle.execution.specs.Front.{keys_for}
@@ -30,7 +30,8 @@ use Rattle.rounds_by_hand.specs.declared.hand.Advance.{Advance}
 use Rattle.rounds_by_hand.specs.declared.hand.Advance.TheVariants as did
 use Rattle.rounds_by_hand.specs.declared.pending.Pending.{Pending}
 use Rattle.rounds_by_hand.specs.declared.pending.Pending.TheVariants.{Out, In}
-use Rattle.rounds_by_hand.specs.Pending.{order_in, is_in, IsAnswered}
+use Rattle.rounds_by_hand.specs.Pending.{order_in, still_out, is_in, IsAnswered}
+use Rattle.rounds_by_hand.proofs.Orders.{out-orders, out-away, out-own}
 use Rattle.rounds_by_hand.specs.Hands.{FarOf, handed, out, over, IsOutWith, HoldsFar, HasGone, GoesFrom, StepsFrom, TellsFrom, StopsFrom}
 
 -- orders of which none is answered
@@ -93,13 +94,14 @@ module _ {S : Type 0} where
 
   module _ {P E : Type 0} (program : P → Program) (text_of : P → AnsweredOf → List ℕ) where
     -- the orders of a round that was just made
-    pub out-with : (old new : StateOf S) (plans : List P) (later : RunAllOf P E) (orders : List OrderOf) (ps : List Pending) → later.plans ≡ plans → later.stage ≡ stage.Out → IsRound (joint program text_of plans) old new orders
-        → map order_in ps ≡ orders → All (λ one. is_in one ≡ false) ps → IsOutWith program text_of new later ps
-    out-with old new plans later orders ps e stage is same none = record {
+    pub out-with : (old new : StateOf S) (plans : List P) (later : RunAllOf P E) (orders : List CutOf) (ps : List Pending) → later.plans ≡ plans → later.stage ≡ stage.Out → IsRound (joint program text_of plans) old new orders
+        → ps ≡ map still_out orders → IsOutWith program text_of new later ps
+    out-with old new plans later orders ps e stage is same = record {
       stage = stage;
       latest = subst (λ qs. IsAsked (joint program text_of qs) new) (sym e) (round-asked (joint program text_of plans) old new orders is);
-      orders = same ∙ sym (round-orders (joint program text_of plans) old new orders is) ∙ ap (λ qs. orders_in new (joint program text_of qs)) (sym e);
-      answers = none-answered any_answer ps none;
+      orders = ap (map order_in) same ∙ out-orders orders ∙ sym (round-orders (joint program text_of plans) old new orders is) ∙ ap (λ qs. orders_in new (joint program text_of qs)) (sym e);
+      own = rw same (out-own new.loaders orders is.cut);
+      answers = none-answered any_answer ps (rw same (out-away orders));
     }
 
   module _ {P : Type 0} (program : P → Program) (text_of : P → AnsweredOf → List ℕ) (may : S → List KeyOf → AnswerOf → Type 0) where

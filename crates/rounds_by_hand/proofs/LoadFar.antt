@@ -1,5 +1,5 @@
 -- Lemmas on how far a load by hand is, and what its calls make of that.
-use Rattle.std.proofs.Common.{◌≡◌, ◌<◌, ◌∙◌, ◌⊎◌, ℕ, List, map, length, false, subst, sym, arith, inl, inr}
+use Rattle.std.proofs.Common.{◌≡◌, ◌<◌, ◌∙◌, ◌⊎◌, ℕ, List, map, length, ap, subst, sym, arith, inl, inr}
 use Rattle.std.specs.Prelude.{All, Result}
 use Rattle.std.specs.Global.{Vec}
 use Rattle.load_memory.specs.Keys.{KeyOf}
@@ -9,7 +9,7 @@ use Rattle.load_memory.specs.declared.outcome.Item.{Item}
 use Rattle.load_memory.proofs.ReplyPairs.{All-of_map}
 use Rattle.load_queue.specs.Answers.{AnswerOf}
 use Rattle.load_queue.specs.Loaders.{AreOnRecord}
-use Rattle.load_queue.specs.Orders.{OrderOf}
+use Rattle.load_queue.specs.Orders.{OrderOf, CutOf, asks, AreCutBy}
 use Rattle.load_queue.specs.declared.source.FetchFault.{FetchFault}
 use Rattle.execution.specs.Rounds.{any_answer, may_at, AreReplies}
 use Rattle.load_rounds.specs.Sessions.{SessionOf, StateOf, state_of}
@@ -17,12 +17,13 @@ use Rattle.load_rounds.specs.Calls.{asked_for, IsLoaded, IsStopped}
 use Rattle.load_rounds.specs.Loadings.{IsLoading, AreToldAt, orders_at}
 use Rattle.load_rounds.proofs.Loadings.{orders-within, loading-lost, record-many}
 use Rattle.rounds_by_hand.specs.declared.pending.Pending.{Pending}
-use Rattle.rounds_by_hand.specs.Pending.{order_in, is_in, TakesAnswer}
+use Rattle.rounds_by_hand.specs.Pending.{order_in, still_out, TakesAnswer}
 use Rattle.rounds_by_hand.specs.declared.load_hand.LoadAdvance.{LoadAdvance}
 use Rattle.rounds_by_hand.specs.declared.load_hand.LoadAdvance.TheVariants.{Loaded, Round, Waiting, Over}
 use Rattle.rounds_by_hand.specs.LoadHands.{LoadFarOf, LoadHandOf, handed, out, over, IsLoadOutWith, HasGoneLoad, HoldsLoad, BegunLoadTells, LoadsKeys}
 use Rattle.rounds_by_hand.proofs.Far.{none-answered}
-use Rattle.rounds_by_hand.proofs.Taking.{taken-orders, taken-any}
+use Rattle.rounds_by_hand.proofs.Taking.{taken-orders, taken-own, taken-any}
+use Rattle.rounds_by_hand.proofs.Orders.{out-orders, out-away, out-own}
 
 module _ {S : Type 0} where
   -- each order of the round is of one of the loaders
@@ -35,13 +36,18 @@ module _ {S : Type 0} where
   load-told may s loader keys ps replies e fit = rw e at fit
 
   -- the orders of a round that was just made
-  pub load-out-with : (begun now : StateOf S) (loader : ℕ) (keys : List KeyOf) (orders : List OrderOf) (ps : List Pending) → IsLoading begun now loader keys → orders ≡ orders_at now loader keys → map order_in ps ≡ orders
-      → All (λ one. is_in one ≡ false) ps → IsLoadOutWith now loader keys ps
-  load-out-with begun now loader keys orders ps is cut same none = record { latest = (begun, is); orders = same ∙ cut; answers = none-answered any_answer ps none }
+  pub load-out-with : (begun now : StateOf S) (loader : ℕ) (keys : List KeyOf) (orders : List CutOf) (ps : List Pending) → IsLoading begun now loader keys → map asks orders ≡ orders_at now loader keys → AreCutBy now.loaders orders
+      → ps ≡ map still_out orders → IsLoadOutWith now loader keys ps
+  load-out-with begun now loader keys orders ps is batches cut same = record {
+    latest = (begun, is);
+    orders = ap (map order_in) same ∙ out-orders orders ∙ batches;
+    own = rw same (out-own now.loaders orders cut);
+    answers = none-answered any_answer ps (rw same (out-away orders));
+  }
 
   -- one of them is answered
   pub load-taken-with : (s : StateOf S) (loader : ℕ) (keys : List KeyOf) (ps : List Pending) (n : ℕ) (answer : Result (Vec Item) FetchFault) (now : List Pending) → TakesAnswer ps n answer now → IsLoadOutWith s loader keys ps → IsLoadOutWith s loader keys now
-  load-taken-with s loader keys ps n answer now t h = record { latest = h.latest; orders = taken-orders ps n answer now t ∙ h.orders; answers = taken-any ps n answer now t h.answers }
+  load-taken-with s loader keys ps n answer now t h = record { latest = h.latest; orders = taken-orders ps n answer now t ∙ h.orders; own = taken-own s.loaders ps n answer now t h.own; answers = taken-any ps n answer now t h.answers }
 
   module _ (may : S → List KeyOf → AnswerOf → Type 0) where
     -- a load whose outcomes were copied, and one whose round is lost

@@ -1,7 +1,7 @@
 -- Pending orders, one more at a time, and the replies to them.
-use Rattle.std.proofs.Common.{◌≡◌, ◌<◌, ℕ, zero, suc, List, [], ◌∷◌, ◌++◌, map, length, get_or, refl, ap, sym, ◌∙◌, append_assoc, arith, Some}
+use Rattle.std.proofs.Common.{◌≡◌, ◌<◌, ℕ, zero, suc, List, [], ◌∷◌, ◌++◌, map, length, get_or, refl, ap, sym, ◌∙◌, append_assoc, arith, Some, false}
 use Rattle.std.proofs.lemmas.List.{append-nil, map-append}
-use Rattle.std.proofs.lemmas.List.Elements.{All-head, All-tail}
+use Rattle.std.proofs.lemmas.List.Elements.{All-head, All-tail, All-map}
 use Rattle.std.specs.Prelude.{All, slice_get}
 use Rattle.std.specs.List.{slice_set}
 use Rattle.load_memory.specs.Keys.{KeyOf}
@@ -9,22 +9,32 @@ use Rattle.load_memory.specs.Replies.{ReplyOf, reply_of}
 use Rattle.load_memory.specs.declared.reply.Reply.{Reply}
 use Rattle.load_queue.specs.Answers.{AnswerOf}
 use Rattle.load_queue.specs.Loaders.{LoaderOf}
-use Rattle.load_queue.specs.Orders.{OrderOf}
+use Rattle.load_queue.specs.Orders.{OrderOf, CutOf, asks, AreCutBy, IsCutBy}
 use Rattle.load_queue.specs.Runs.{IsReplyTo}
 use Rattle.execution.specs.Rounds.{any_answer, may_at, AreReplies, IsReply}
 use Rattle.load_rounds.specs.Histories.{any_tell}
 use Rattle.rounds_by_hand.specs.declared.pending.Pending.{Pending}
 use Rattle.rounds_by_hand.specs.declared.pending.Pending.TheVariants.{Out, In}
-use Rattle.rounds_by_hand.specs.Pending.{order_in, HasAnswer}
+use Rattle.rounds_by_hand.specs.Pending.{order_in, still_out, CanAsk, is_in, HasAnswer}
 
 pub none-left : {X : Type 0} (xs : List X) → length xs ≡ 0 → xs ≡ []
 none-left [] e = refl
 none-left (x ∷ xs) e = absurd (omega (arith, e))
 
 -- one order more
-pub out-more : (was now : List Pending) (items rest all : List OrderOf) (o : OrderOf) → items ≡ o ∷ rest → now ≡ was ++ Out o ∷ [] → map order_in was ++ items ≡ all → map order_in now ++ rest ≡ all
-out-more was now items rest all o is put e =
-    ap (λ ps. map order_in ps ++ rest) put ∙ ap (λ os. os ++ rest) (map-append order_in was (Out o ∷ [])) ∙ append_assoc (map order_in was) (o ∷ []) rest ∙ ap (λ os. map order_in was ++ os) (sym is) ∙ e
+pub out-more : (was now : List Pending) (items rest : List CutOf) (all : List Pending) (o : CutOf) → items ≡ o ∷ rest → now ≡ was ++ Out o ∷ [] → was ++ map still_out items ≡ all → now ++ map still_out rest ≡ all
+out-more was now items rest all o is put e = ap (λ ps. ps ++ map still_out rest) put ∙ append_assoc was (Out o ∷ []) (map still_out rest) ∙ ap (λ os. was ++ map still_out os) (sym is) ∙ e
+
+-- orders of which none is answered yet
+pub out-orders : (orders : List CutOf) → map order_in (map still_out orders) ≡ map asks orders
+out-orders [] = refl
+out-orders (o ∷ os) = ap (λ xs. asks o ∷ xs) (out-orders os)
+
+pub out-away : (orders : List CutOf) → All (λ one. is_in one ≡ false) (map still_out orders)
+out-away orders = All-map (λ (one : Pending). is_in one ≡ false) still_out orders (λ k d lt. refl)
+
+pub out-own : {S : Type 0} (loaders : List (LoaderOf S)) (orders : List CutOf) → AreCutBy loaders orders → All (CanAsk loaders) (map still_out orders)
+out-own loaders orders cut = All-map (CanAsk loaders) still_out orders cut
 
 -- these are replies to the first of the orders: with replies to the others they are to all
 abbrev pub RepliesSoFar : (Pending → Type 0) → (ℕ → List KeyOf → AnswerOf → Type 0) → List Pending → List Pending → List Reply → Type 0

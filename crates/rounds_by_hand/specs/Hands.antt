@@ -21,7 +21,7 @@ use Rattle.rounds_by_hand.specs.declared.hand.Advance.TheVariants.{Finished, Rou
 use Rattle.rounds_by_hand.specs.declared.hand.Far.{Far}
 use Rattle.rounds_by_hand.specs.declared.hand.Far.TheVariants as rust
 use Rattle.rounds_by_hand.specs.declared.pending.Pending.{Pending}
-use Rattle.rounds_by_hand.specs.Pending.{order_in, is_in, replies_in, IsAnswered, MayAnswer}
+use Rattle.rounds_by_hand.specs.Pending.{order_in, CanAsk, is_in, replies_in, IsAnswered, MayAnswer}
 use Rattle.rounds_by_hand.specs.Stored.{ForgetsFailed, KnowsTheSame, Stores, StoresRound}
 
 -- says how far they are: nothing is done yet, or a round of a run is out with its orders, or nothing more can be done
@@ -142,13 +142,14 @@ module _ {S P E : Type 0} where
     AsksAndStores old new = StoresAskedFrom old.far old.session new.session
 
   module _ (program : P → Program) (text_of : P → AnsweredOf → List ℕ) where
-    -- A round is out, the latest of the session. Its orders are the batches of all that is needed and missing, and each that is answered
-    -- has an outcome for each key.
+    -- A round is out, the latest of the session. Its orders are the batches of all that is needed and missing, each of which the session's
+    -- own loader cut, and each that is answered has an outcome for each key.
     pub record IsOutWith (s : StateOf S) (run : RunAllOf P E)
         (pending : List Pending) : Type 0 where
       pub stage : run.stage ≡ stage.Out
       pub latest : IsAsked (joint program text_of run.plans) s
       pub orders : map order_in pending ≡ orders_in s (joint program text_of run.plans)
+      pub own : All (CanAsk s.loaders) pending
       pub answers : All (IsAnswered any_answer) pending
 
     module _ (loaders : P → ℕ) (fits : P → E → MemoryOf → Type 0) where

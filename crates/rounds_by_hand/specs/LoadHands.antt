@@ -18,7 +18,7 @@ use Rattle.rounds_by_hand.specs.declared.load_hand.LoadAdvance.TheVariants.{Load
 use Rattle.rounds_by_hand.specs.declared.load_hand.LoadFar.{LoadFar}
 use Rattle.rounds_by_hand.specs.declared.load_hand.LoadFar.TheVariants as rust
 use Rattle.rounds_by_hand.specs.declared.pending.Pending.{Pending}
-use Rattle.rounds_by_hand.specs.Pending.{order_in, is_in, replies_in, IsAnswered, MayAnswer}
+use Rattle.rounds_by_hand.specs.Pending.{order_in, CanAsk, is_in, replies_in, IsAnswered, MayAnswer}
 use Rattle.rounds_by_hand.specs.Stored.{ForgetsFailed, KnowsTheSame, Stores, StoresRound}
 
 -- says how far a load is: nothing is done yet, or its round is out with its orders, or nothing more can be done
@@ -112,12 +112,13 @@ module _ {S : Type 0} where
     pub loader : new.loader ≡ old.loader
     pub keys : new.keys ≡ old.keys
 
-  -- A load's round is out, the latest of the session. Its orders are the batches of those keys that aren't known, and each that is answered
-  -- has an outcome for each key.
+  -- A load's round is out, the latest of the session. Its orders are the batches of those keys that aren't known, each of which the session's
+  -- own loader cut, and each that is answered has an outcome for each key.
   pub record IsLoadOutWith (s : StateOf S) (loader : ℕ) (keys : List KeyOf)
       (pending : List Pending) : Type 0 where
     pub latest : IsLoadOut s loader keys
     pub orders : map order_in pending ≡ orders_at s loader keys
+    pub own : All (CanAsk s.loaders) pending
     pub answers : All (IsAnswered any_answer) pending
 
   abbrev pub HoldsLoadFar : SessionOf S → ℕ → List KeyOf → LoadFarOf → Type 0

@@ -9,7 +9,7 @@ use Rattle.load_memory.specs.declared.reply.Reply.{Reply}
 use Rattle.load_queue.specs.Answers.{AnswerOf, outcomes_of}
 use Rattle.load_queue.specs.Fetched.{Fetched, Follow}
 use Rattle.load_queue.specs.Loaders.{LoaderOf}
-use Rattle.load_queue.specs.Orders.{OrderOf, order_of}
+use Rattle.load_queue.specs.Orders.{OrderOf, CutOf, order_of, asks, IsCutBy}
 use Rattle.load_queue.specs.declared.source.FetchFault.{FetchFault}
 use Rattle.execution.specs.Rounds.{AreReplies, IsReply}
 use Rattle.rounds_by_hand.specs.declared.fault.TakeFault.{TakeFault}
@@ -17,10 +17,19 @@ use Rattle.rounds_by_hand.specs.declared.fault.TakeFault.TheVariants.{NoSuchOrde
 use Rattle.rounds_by_hand.specs.declared.pending.Pending.{Pending}
 use Rattle.rounds_by_hand.specs.declared.pending.Pending.TheVariants.{Out, In}
 
--- the order, also where it is answered
+-- what the order asks, also where it is answered
 abbrev pub order_in : Pending → OrderOf
-order_in (Out order) = order
+order_in (Out order) = asks order
 order_in (In reply) = order_of reply.loader (reply_of reply).keys
+
+-- an order that isn't answered yet
+abbrev pub still_out : CutOf → Pending
+still_out order = Out order
+
+-- an order that isn't answered was cut by the loader of its number, whose source can so be asked
+abbrev pub CanAsk : {S : Type 0} → List (LoaderOf S) → Pending → Type 0
+CanAsk loaders (Out order) = IsCutBy loaders order
+CanAsk loaders (In reply) = Unit {0}
 
 abbrev pub is_in : Pending → Bool
 is_in (Out order) = false
@@ -39,7 +48,7 @@ replies_in (In reply ∷ rest) = reply_of reply ∷ replies_in rest
 
 -- an order that was answered has the reply that it was given, as it is; one that wasn't has a reply with an answer that may be given
 abbrev pub IsReplyFor : (ℕ → List KeyOf → AnswerOf → Type 0) → Pending → ReplyOf → Type 0
-IsReplyFor may (Out order) reply = IsReply may order reply
+IsReplyFor may (Out order) reply = IsReply may (asks order) reply
 IsReplyFor may (In given) reply = reply ≡ reply_of given
 
 -- one such reply for each order, in order
@@ -75,7 +84,7 @@ AreRepliesIfAnswered may pending replies = All (IsAnswered may) pending
 -- the order of this number, which was out, has got the reply that follows from an answer; the others are as they were
 pub record TakesAnswer (old : List Pending) (number : ℕ) (answer : Result (Vec Item) FetchFault)
     (new : List Pending) : Type 0 where
-  pub order : OrderOf
+  pub order : CutOf
   pub reply : Reply
   pub was : slice_get old number ≡ Some (Out order)
   pub loader : reply.loader ≡ order.loader

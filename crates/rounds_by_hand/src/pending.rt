@@ -1,10 +1,10 @@
 //! The orders of a round that is out.
-ghost use Rattle.std.specs.Prelude.{◌≡◌, ◌≤◌, ◌<◌, ◌↔◌, All, IfOk, OnOk, IsErrOf, length, map, slice_get, true, false};
+ghost use Rattle.std.specs.Prelude.{◌≡◌, ◌≤◌, ◌<◌, ◌↔◌, All, IfOk, OnOk, IsErrOf, length, map, slice_get, true};
 ghost use Rattle.std.specs.List.{list_all};
 ghost use Rattle.load_memory.specs.Replies.{reply_of};
 ghost use Rattle.execution.specs.Rounds.{any_answer, may_at, IsReply};
 ghost use Rattle.load_rounds.specs.Histories.{any_tell};
-ghost use Rattle.rounds_by_hand.specs.Pending.{order_in, is_in, is_in_at, IsAnswered, IsReplyFor, AreRepliesFor, AreRepliesTo, AreRepliesIfAnswered, TakesAnswer};
+ghost use Rattle.rounds_by_hand.specs.Pending.{order_in, still_out, CanAsk, is_in, is_in_at, IsAnswered, IsReplyFor, AreRepliesFor, AreRepliesTo, AreRepliesIfAnswered, TakesAnswer};
 
 use crate::fault::TakeFault;
 use load_memory::{Item, Keys, Reply};
@@ -23,10 +23,8 @@ pub enum Pending {
 
 /// The orders of a round, none of which is answered yet.
 pub(crate) fn all_out(orders: Vec<Order>) -> Result<Vec<Pending>, AllocError>
-    ensures orders { IfOk result (λ pending.
-        map order_in pending.items ≡ orders.items) }
-    ensures out { IfOk result (λ pending.
-        All (λ one. is_in one ≡ false) pending.items) }
+    ensures { IfOk result (λ pending.
+        pending.items ≡ map still_out orders.items) }
 {
     let mut pending = Vec::with_capacity(*orders.allocator(), orders.len())?;
     for order in orders {
@@ -53,7 +51,9 @@ fn reply_to<S: LocalSource>(
     one: Pending,
     loaders: &[Loader<S>],
 ) -> Result<Reply, AllocError>
-    requires { (order_in one).loader < length loaders.now }
+    requires loader { (order_in one).loader
+        < length loaders.now }
+    requires own { CanAsk loaders.now one }
     ensures any { IsAnswered any_answer one
         → IfOk result (λ r. IsReply (may_at any_tell loaders.now) (order_in one) (reply_of r)) }
     ensures told { IsAnswered (may_at S.may_tell loaders.now) one
@@ -72,8 +72,9 @@ pub(crate) fn replies_to<S: LocalSource>(
     pending: Vec<Pending>,
     loaders: &[Loader<S>],
 ) -> Result<Vec<Reply>, AllocError>
-    requires { All (λ one. (order_in one).loader
+    requires loaders { All (λ one. (order_in one).loader
         < length loaders.now) pending.items }
+    requires own { All (CanAsk loaders.now) pending.items }
     ensures any { All (IsAnswered any_answer) pending.items
         → IfOk result (λ rs. AreRepliesTo (may_at any_tell loaders.now) pending.items rs.items) }
     ensures told { IfOk result (λ rs.

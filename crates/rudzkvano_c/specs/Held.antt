@@ -139,16 +139,16 @@ abbrev pub TakesFailed : ℕ → List ℕ → HostClient → HostClient → Resu
 TakesFailed order text old new done = OnOk done (IsUtf8 text × TakesFailure order text old new)
     × IfErr done (KeepsIfRefused order old new) × IfErr done (FailureFault order text old)
 
-abbrev pub rows_at : ℕ → ℕ → List ℕ → List ℕ → LaidRows
-rows_at columns count ends bytes =
-    record { columns = columns; count = count; ends = ends; bytes = bytes }
+abbrev pub rows_at : ℕ → ℕ → List ℕ → List ℕ → List ℕ → LaidRows
+rows_at columns count faults ends bytes =
+    record { columns = columns; count = count; faults = faults; ends = ends; bytes = bytes }
 
 abbrev pub KeepsByKey : ℕ → HostClient → HostClient → KeyedRefusal → Type 0
 KeepsByKey order old new refusal = (refusal ≢ keyed.Refused fault.NoMemory → new ≡ old)
     × (refusal ≡ keyed.Refused fault.NoMemory → KeepsOrStops order old new)
 
--- Rows in any order are taken for an order, or they are refused for that fault. For a row whose key wasn't asked for its number is told, and
--- else nothing.
+-- Rows in any order are taken for an order, with faults of its keys, or they are refused for that fault. For a row whose key wasn't asked
+-- for its number is told, and else nothing.
 abbrev pub TakesRowsByKey : ℕ → LaidRows → ℕ → ℕ
     → HostClient → HostClient → Result (Unit {0}) Fault → Type 0
 TakesRowsByKey order r was told old new done = (taken : Result (Unit {0}) KeyedRefusal)

@@ -1,10 +1,11 @@
 -- Definitions of what a call tells, as numbers.
-use Rattle.std.specs.Prelude.{◌≡◌, ℕ, Bool, Result, Ok, Err, if◌then◌else◌}
+use Rattle.std.specs.Prelude.{◌≡◌, ◌==◌, not, ℕ, Bool, Result, Ok, Err, if◌then◌else◌}
 use Rattle.host_clients.specs.declared.opening.FaultPlace.{FaultPlace}
 use Rattle.host_clients.specs.declared.fault.Fault.{Fault}
 use Rattle.host_clients.specs.declared.fault.Fault.TheVariants as fault
 use Rattle.host_clients.specs.declared.keyed.KeyedRefusal.{KeyedRefusal}
 use Rattle.host_clients.specs.declared.keyed.KeyedRefusal.TheVariants.{NotAsked, Refused}
+use Rattle.fault_sentences.specs.declared.told.FaultAt.{FaultAt}
 use Rattle.rudzkvano_c.specs.declared.servers.SchemaFault.{SchemaFault}
 
 abbrev pub number_of : Bool → ℕ
@@ -22,6 +23,15 @@ fault_told place = record {
   column = place.column;
   number = place.number;
   in_bindings = number_of place.in_bindings;
+}
+
+-- the fault that was told
+abbrev pub fault_at : SchemaFault → FaultAt
+fault_at fault = record {
+  number = fault.number;
+  line = fault.line;
+  column = fault.column;
+  in_bindings = not (fault.in_bindings == 0);
 }
 
 -- the number of a row that is refused is written, and nothing else

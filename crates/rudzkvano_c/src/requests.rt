@@ -367,14 +367,14 @@ fn take_keyed_rows(
     }
 }
 
-/// Takes rows for the keys of an order, in any order.
+/// Takes rows for the keys of an order, in any order, and faults of keys.
 ///
 /// # Promise
 ///
-/// Where it gives 0, each key of the order of that number takes the rows that have it in the columns of the order's
-/// loader, in the order given (`keyed_items`), no row has another key (`AreAsked`), and no other order changes.
-/// Refused, it is as `rz_take_rows`; for a row whose key wasn't asked for `row` has the number of the first, from 1
-/// (`TakesRowsByKey`, `KeyedRowsFault`)
+/// Where it gives 0, each key of the order of that number takes its fault, if it has one, and else the rows that have
+/// it in the columns of the order's loader, in the order given (`replied_items`), no row has another key
+/// (`IsKeyedReply`), and no other order changes. Refused, it is as `rz_take_rows`; for a row whose key wasn't asked
+/// for `row` has the number of the first, from 1 (`TakesRowsByKey`, `KeyedRowsFault`)
 #[unsafe(no_mangle)]
 pub extern "C" fn rz_take_keyed_rows(
     alloc: Global,
@@ -382,11 +382,12 @@ pub extern "C" fn rz_take_keyed_rows(
     order: usize,
     columns: usize,
     rows: u32,
+    faults: &[u32],
     ends: &[u32],
     bytes: &[u8],
     row: &mut u32,
 ) -> i32
-    ensures { let r = rows_at columns rows ends.now bytes.now in Makes
+    ensures { let r = rows_at columns rows faults.now ends.now bytes.now in Makes
         (TakesRowsByKey order r row.old row.new) client.old.held client.new.held result }
 {
     let Some(mut object) = client.take(alloc) else {
@@ -395,6 +396,7 @@ pub extern "C" fn rz_take_keyed_rows(
     let reply = KeyedReply {
         columns,
         rows,
+        faults,
         ends,
         bytes,
     };

@@ -4,10 +4,12 @@ ghost use Rattle.load_memory.specs.Cells.{cut};
 ghost use Rattle.host_clients.specs.Objects.{Shares};
 ghost use Rattle.rudzkvano_c.specs.Held.{CopiesOfServer, CopiesServer, Gives, IsMadeOf, Opens, OpensAs};
 ghost use Rattle.rudzkvano_c.specs.Loaders.{CopiesLoaders, HasLoaderSizes, TellsLoaderSizes};
-ghost use Rattle.rudzkvano_c.specs.Told.{fault_told};
+ghost use Rattle.fault_sentences.specs.Told.{Tells};
+ghost use Rattle.rudzkvano_c.specs.Told.{fault_told, fault_at};
 
 use crate::codes::code_of;
 use crate::handle::Handle;
+use fault_sentences::{FaultAt, copy_sentence};
 use host_clients::{Fault, FaultPlace, LoaderTexts, Object, OpenFault, Server, open_server};
 use std::alloc::Global;
 
@@ -81,6 +83,39 @@ pub extern "C" fn rz_open(
 {
     let opened = server_object(alloc, schema, bindings, fault);
     code_of(server.put_made(alloc, opened))
+}
+
+fn fault_at(fault: &SchemaFault) -> FaultAt
+    ensures { result ≡ fault_at fault.now }
+{
+    FaultAt {
+        number: fault.number,
+        line: fault.line,
+        column: fault.column,
+        in_bindings: fault.in_bindings != 0,
+    }
+}
+
+/// Copies what is wrong with a schema or its bindings, in a sentence.
+///
+/// # Promise
+///
+/// Nothing where it gives 0; else the buffer begins with the sentence, as far as there is room, of a complaint
+/// that is true of the texts (`Says`): it is one of the fault's number, its token, if it has one, stands at the fault's place, a type or a
+/// loader that it misses isn't there, one that it finds twice is there before the line. Which complaint comes is tested, by
+/// `clients/schema_faults.txt`: no clause keeps a body from one that says no more than that the texts are refused
+#[unsafe(no_mangle)]
+pub extern "C" fn rz_fault_text(
+    alloc: Global,
+    fault: &SchemaFault,
+    schema: &[u8],
+    bindings: &[u8],
+    bytes: &mut [u8],
+) -> usize
+    ensures { Tells (fault_at fault.now) schema.now bindings.now
+        bytes.old bytes.new result }
+{
+    copy_sentence(alloc, &fault_at(fault), schema, bindings, bytes)
 }
 
 // The server of a handle once more.

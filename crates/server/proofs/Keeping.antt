@@ -14,8 +14,8 @@ use Rattle.load_rounds.specs.Sessions.{SessionOf}
 use Rattle.load_rounds.specs.declared.answer.Answer.{Answer}
 use Rattle.request_line.specs.Keys.{IsKey}
 use Rattle.request_line.specs.Requests.{RequestOf}
-use Rattle.request_line.proofs.Keys.{one-request}
-use Rattle.plan_requests.specs.Planning.{IsPlanned, IsRefusal, PlanValues}
+use Rattle.request_line.proofs.Keys.{one-operation}
+use Rattle.plan_requests.specs.Planning.{HasOperation, IsPlanned, IsRefusal, PlanValues}
 use Rattle.plan_requests.specs.Servers.{ServerOf}
 use Rattle.plan_requests.proofs.Requests.{planned-valid}
 use Rattle.plan_requests.proofs.Values.{refused-more, planned-more}
@@ -32,9 +32,11 @@ use Rattle.server.proofs.Loaders.{plan-many}
 
 -- ---- plans that are kept
 
--- a plan that is kept under the key of a request is the request's
-pub kept-planned : (s : ServerOf) (q : List ℕ) (request : RequestOf) (plan : PlanParts) → IsKey q request → IsPlanAt s q plan → IsPlanned s request (plan_of plan)
-kept-planned s q request plan key h = subst (λ (r : RequestOf). IsPlanned s r (plan_of plan)) (one-request q h.request request h.has_key key) h.planned
+-- a plan that is kept under the key of a request is one of the operation that it asks for
+pub kept-operation : (s : ServerOf) (q : List ℕ) (request : RequestOf) (plan : PlanParts) → IsKey q request → IsPlanAt s q plan → HasOperation s request (plan_of plan)
+kept-operation s q request plan key h =
+    let same = one-operation q h.request request h.has_key key in
+    record { first = h.request; planned = h.planned; query = same.0; name = same.1 }
 
 -- ---- what requests ask
 

@@ -16,10 +16,10 @@ module _ {S F : Type 0} (g : Mut F (Bor LoaderLine × Unit {0}) S) (limit : Opti
   OpenedTo f [] (l ∷ ls) h = ⊥
   OpenedTo f (line ∷ lines) [] h = ⊥
   OpenedTo f (line ∷ lines) (l ∷ ls) h = (shown : Bor LoaderLine) × (source : S) × (later : F) × (loader_of shown.now ≡ line)
-      × Called g f (shown, tt) source later × (l ≡ new_loader limit line source) × OpenedTo later lines ls h
+      × Called g f (shown, tt) source later × (l ≡ new_loader l.identity limit line source) × OpenedTo later lines ls h
 
   pub opened-more : (lines : List bindings.LoaderOf) (ls : List (LoaderOf S)) (f h k : F) (shown : Bor LoaderLine) (source : S) (l : LoaderOf S) → OpenedTo f lines ls h → Called g h (shown, tt) source k
-      → l ≡ new_loader limit (loader_of shown.now) source → OpenedTo f (lines ++ loader_of shown.now ∷ []) (ls ++ l ∷ []) k
+      → l ≡ new_loader l.identity limit (loader_of shown.now) source → OpenedTo f (lines ++ loader_of shown.now ∷ []) (ls ++ l ∷ []) k
   opened-more [] [] f h k shown source l e call is = (shown, source, k, refl, subst (λ x. Called g x (shown, tt) source k) e call, is, refl)
   opened-more [] (m ∷ ms) f h k shown source l done call is = absurd done
   opened-more (x ∷ xs) [] f h k shown source l done call is = absurd done

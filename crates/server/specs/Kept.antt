@@ -1,13 +1,13 @@
 -- Definitions of what is kept of a client's requests, and of what requests ask, prepared.
-use Rattle.std.specs.Prelude.{◌≡◌, ◌≤◌, ℕ, List, [], ◌∷◌, ◌++◌, Option, Some, None, IfSome, length, string_bytes}
+use Rattle.std.specs.Prelude.{◌≡◌, ◌≤◌, ℕ, List, [], ◌∷◌, Option, Some, None, IfSome, length, string_bytes}
 use Rattle.std.specs.Arc.{arc_value}
 use Rattle.std.specs.declared.alloc.Global.{Global}
 use Rattle.std.specs.declared.sync.Arc.{Arc}
-use Rattle.gq_check.specs.Plans.{PlanOf, PlanParts, plan_of}
+use Rattle.gq_check.specs.Plans.{PlanParts, plan_of}
 use Rattle.gq_resolve.specs.PreparedPlans.{LimitedPlanOf, within}
 use Rattle.request_line.specs.Keys.{IsKey}
 use Rattle.request_line.specs.Requests.{RequestOf}
-use Rattle.plan_requests.specs.Planning.{HasPlan, IsPlanned, IsRefusal, IsRefused}
+use Rattle.plan_requests.specs.Planning.{HasOperation, HasPlan, IsPlanned, IsRefusal, IsRefused}
 use Rattle.plan_requests.specs.Servers.{ServerOf}
 use Rattle.text_cache.specs.TextCaches.{TextCacheOf, AreBounded, find, texts_of}
 use Rattle.text_cache.specs.declared.cache.CacheLimits.{CacheLimits}
@@ -24,7 +24,7 @@ pub record RequestCacheOf : Type 0 where
 abbrev pub plan_limits : CacheLimits
 plan_limits = record { texts = 2048; bytes = 262144 }
 
--- the plan is that of the request that has this key
+-- the plan is that of a request that has this key
 pub record IsPlanAt (s : ServerOf) (key : List ℕ) (plan : PlanParts) : Type 0 where
   pub request : RequestOf
   pub has_key : IsKey key request
@@ -34,20 +34,20 @@ pub record IsPlanAt (s : ServerOf) (key : List ℕ) (plan : PlanParts) : Type 0 
 abbrev pub SharedPlan : Type 0
 SharedPlan = Arc PlanParts Global
 
--- each plan is that of the request that has its key
+-- each plan is that of a request that has its key
 abbrev pub AreKept : ServerOf → (List ℕ → Option SharedPlan) → Type 0
 AreKept s plans = (key : List ℕ) → IfSome (plans key) (λ plan. IsPlanAt s key (arc_value plan))
 
--- The plans that are kept are few, and each is that of the request that has its key.
+-- The plans that are kept are few, and each is that of a request that has its key.
 pub record KeepsPlans (s : ServerOf) (plans : TextCacheOf SharedPlan) : Type 0 where
   pub each : AreKept s (find plans)
   pub limits : plans.limits ≡ plan_limits
   pub bounded : AreBounded plan_limits (texts_of plans)
 
--- what was found under a key is the plan of each request that has it
+-- what was found under a key is a plan of the operation that each request with this key asks for
 abbrev pub IsFoundFor : RequestCacheOf → Option SharedPlan → Type 0
 IsFoundFor kept found = (request : RequestOf) → IsKey kept.key request
-    → IfSome found (λ plan. IsPlanned kept.server request (plan_of (arc_value plan)))
+    → IfSome found (λ plan. HasOperation kept.server request (plan_of (arc_value plan)))
 
 -- a request is refused by this text, or has this plan
 abbrev pub PreparesRequest : ServerOf → RequestOf → PreparedRequest → Type 0

@@ -16,14 +16,15 @@ mode_of None = Exact
 mode_of (Some by) = if by.fold then FoldAscii else Exact
 
 -- a new loader of a line, over this source
-abbrev pub new_loader : {S : Type 0} → Option ℕ → bindings.LoaderOf → S → LoaderOf S
-new_loader limit line source = record {
+abbrev pub new_loader : {S : Type 0} → ℕ → Option ℕ → bindings.LoaderOf → S → LoaderOf S
+new_loader identity limit line source = record {
   name = line.name;
   source = source;
   mode = mode_of line.by;
   limit = limit;
   log = [];
   orders = 0;
+  identity = identity;
 }
 
 -- The loaders are new ones of these lines, in order, and a call of f at each line, in order, gave its source.
@@ -34,5 +35,5 @@ AreOpened g f limit [] (l ∷ ls) = ⊥
 AreOpened g f limit (line ∷ lines) [] = ⊥
 AreOpened {S} {F} g f limit (line ∷ lines) (l ∷ ls) = (shown : Bor LoaderLine)
     × (source : S) × (later : F) × (loader_of shown.now ≡ line)
-    × Called g f (shown, tt) source later × (l ≡ new_loader limit line source)
+    × Called g f (shown, tt) source later × (l ≡ new_loader l.identity limit line source)
     × AreOpened g later limit lines ls

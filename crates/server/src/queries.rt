@@ -15,10 +15,10 @@ use request_line::{Line, LineReader};
 use std::alloc::{AllocError, Global};
 use std::marker::Model;
 
-/// What requests ask of a server, kept for those that come again: documents that keep every rule, by their texts (at most 1,024, of 262,144
-/// bytes together), and plans, prepared, by queries, operations' names and variables (at most 2,048, of 262,144 bytes of these
-/// together, of queries of up to 32,768 bytes and of variables that are short). No clause says which are kept, and no answer depends
-/// on it.
+/// What requests ask of a server, kept for those that come again, with whatever variables: documents that keep every rule, by their
+/// texts (at most 1,024, of 262,144 bytes together), and plans, prepared, by queries, operations' names and the names of variables that
+/// are true (at most 2,048, of 262,144 bytes of these together, of queries of up to 32,768 bytes). No clause says which are kept, and
+/// no answer depends on it.
 ///
 /// A client has its own. A host whose clients come and go has one for many: it plans what is asked of any of them, and the client
 /// answers what was planned ([`by_hand`](crate::ClientSession::by_hand), [`into_answering`](crate::ClientSession::into_answering)).

@@ -1,16 +1,19 @@
-//! What is kept of a client's requests: their plans, by texts that determine the requests, and documents of their queries.
+//! What is kept of a client's requests: what was prepared of their operations, by texts that determine these, and documents.
 
 ghost use Rattle.std.specs.Prelude.{◌≡◌, IfOk, IfSome, IsTrue, option_map, string_bytes};
 ghost use Rattle.std.specs.Arc.{arc_value};
 ghost use Rattle.text_cache.specs.TextCaches.{AreBounded};
-ghost use Rattle.plan_requests.specs.Planning.{IsRefusal, PlansRequest, PlansArray};
+ghost use Rattle.gq_check.specs.Plans.{IsSameBut, plan_of};
+ghost use Rattle.plan_requests.specs.Planning.{HasOperation, IsRefusal, PlansRequest, PlansArray};
 ghost use Rattle.request_line.specs.Keys.{IsKey};
 ghost use Rattle.request_line.specs.Seen.{request_of, requests_of};
 ghost use Rattle.server.specs.Kept.{IsFoundFor, IsPlanAt, PreparesRequest, PreparesValue, plan_limits};
 
 use gq_check::Plan;
 use gq_resolve::PreparedPlan;
-use plan_requests::{ArrayPlan, DocumentCache, Request, RequestPlan, Server, not_a_request};
+use plan_requests::{
+    ArrayPlan, DocumentCache, Request, RequestPlan, Server, not_a_request, plan_again,
+};
 use std::alloc::{AllocError, Global};
 use std::marker::Model;
 use std::sync::Arc;
@@ -43,8 +46,10 @@ enum PlanUse {
     Kept,
 }
 
-/// Plans of requests, kept by the requests' keys; and documents of requests that name an operation or have variables, so that all that
-/// differ in these share one, and of requests whose plans aren't kept.
+/// The plan of one request for each key, with what was prepared of it: all requests with the key ask for the same operation, and each
+/// is planned from this plan by the values of its own variables. What was prepared serves it as well, unless directives leave out
+/// other fields. And documents of requests that name an operation, so that the other operations of a query share one, and of
+/// requests that what is kept by their keys doesn't serve.
 ///
 /// The plans are at most 2,048, and their keys have at most 262,144 bytes together: where one more doesn't fit, all are let go. That
 /// of a query of more than 32,768 bytes isn't kept, nor that of a request without a key. A plan that is let go while it is executed lives
@@ -91,12 +96,12 @@ impl Drop for RequestCache {
     }
 }
 
-// Tells whether the document of a request's query may be of use again. Where the plan is kept, that is to requests with another operation's
-// name or other variables; one with neither is taken to be the only one of its query.
+// Tells whether the document of a request's query may be of use again. Where the plan is kept, that is to requests with another
+// operation's name; an operation that isn't named is the only one of its query.
 fn keeps_document(request: &Request<'_>, plan_use: PlanUse) -> bool {
     match plan_use {
         PlanUse::Once => true,
-        PlanUse::Kept => request.operation_name.is_some() || request.variables.is_some(),
+        PlanUse::Kept => request.operation_name.is_some(),
     }
 }
 
@@ -111,6 +116,26 @@ fn shared_plan(
     match plan_use {
         PlanUse::Once => Ok(Arc::new(alloc, PreparedPlan::for_one_use(plan))?),
         PlanUse::Kept => Ok(Arc::new(alloc, PreparedPlan::new(alloc, plan)?)?),
+    }
+}
+
+// A plan of the operation whose plan is kept, with what was prepared of that one; where neither has a variable, they are one. Nothing
+// where what was prepared doesn't serve it.
+fn shared_again(
+    alloc: Global,
+    kept: Arc<PreparedPlan>,
+    plan: Plan,
+) -> Result<Option<Arc<PreparedPlan>>, AllocError>
+    requires { IsSameBut (arc_value kept) plan }
+    ensures { IfOk result (λ found. IfSome found
+        (λ shared. arc_value shared ≡ plan)) }
+{
+    if plan.variables().is_empty() && kept.plan().variables().is_empty() {
+        return Ok(Some(kept));
+    }
+    match kept.again(alloc, plan)? {
+        Some(prepared) => Ok(Some(Arc::new(alloc, prepared)?)),
+        None => Ok(None),
     }
 }
 
@@ -175,7 +200,7 @@ impl RequestCache {
     }
 
     // Notes the key of a request, if it has one and its query isn't too long for its plan to be kept.
-    fn note_key(&mut self, alloc: Global, request: &Request<'_>) -> Result<bool, AllocError>
+    fn note_key(&mut self, request: &Request<'_>) -> Result<bool, AllocError>
         ensures server { self.new.server ≡ self.old.server }
         ensures key { IfOk result (λ noted. IsTrue noted
             → IsKey self.new.key (request_of request.now)) }
@@ -183,10 +208,10 @@ impl RequestCache {
         if request.query.len() > LONGEST {
             return Ok(false);
         }
-        request.write_key(alloc, &mut self.key)
+        request.write_key(&mut self.key)
     }
 
-    // The plan of the request whose key was noted, if it is kept.
+    // The plan of the operation that the request asks for whose key was noted, if one is kept.
     fn find(&self) -> Result<Option<Arc<PreparedPlan>>, AllocError>
         ensures { IfOk result (IsFoundFor self.now) }
     {
@@ -248,8 +273,31 @@ impl RequestCache {
         Ok(prepared)
     }
 
-    /// Returns what a request asks: the plan that is kept under its key, if there is one, or else what is planned of it now, which is kept
-    /// if the request has a key.
+    // Returns what a request asks, whose operation has this plan of another request.
+    fn prepare_again(
+        &mut self,
+        alloc: Global,
+        request: &Request<'_>,
+        kept: Arc<PreparedPlan>,
+    ) -> Result<PreparedRequest, AllocError>
+        requires { HasOperation self.old.server
+            (request_of request.now) (plan_of (arc_value kept)) }
+        ensures prepared { IfOk result
+            (PreparesRequest self.old.server (request_of request.now)) }
+        ensures server { self.new.server ≡ self.old.server }
+    {
+        let plan = match plan_again(alloc, kept.plan(), request)? {
+            RequestPlan::Refused(text) => return Ok(PreparedRequest::Refused(text)),
+            RequestPlan::Planned(plan) => plan,
+        };
+        match shared_again(alloc, kept, plan)? {
+            Some(plan) => Ok(PreparedRequest::Planned(plan)),
+            None => self.prepare_anew(alloc, request, PlanUse::Once),
+        }
+    }
+
+    /// Returns what a request asks: by the plan that is kept under its key, if there is one, or else what is planned of it now, which is
+    /// kept if the request has a key.
     pub(crate) fn prepare(
         &mut self,
         alloc: Global,
@@ -259,11 +307,11 @@ impl RequestCache {
             (PreparesRequest self.old.server (request_of request.now)) }
         ensures server { self.new.server ≡ self.old.server }
     {
-        if !self.note_key(alloc, request)? {
+        if !self.note_key(request)? {
             return self.prepare_anew(alloc, request, PlanUse::Once);
         }
         match self.find()? {
-            Some(plan) => Ok(PreparedRequest::Planned(plan)),
+            Some(kept) => self.prepare_again(alloc, request, kept),
             None => self.prepare_first(alloc, request),
         }
     }

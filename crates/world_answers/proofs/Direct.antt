@@ -34,7 +34,7 @@ module _ (limit : Option ℕ) where
   compare-alike [] sources = All-nil (λ (l : LoaderOf SourceOf). l.mode ≡ l.source.mode)
   compare-alike (line ∷ lines) [] = All-nil (λ (l : LoaderOf SourceOf). l.mode ≡ l.source.mode)
   compare-alike (line ∷ lines) (source ∷ sources) =
-      All-cons (λ (l : LoaderOf SourceOf). l.mode ≡ l.source.mode) (loader_over limit line.name source) (loaders_over limit lines sources) refl (compare-alike lines sources)
+      All-cons (λ (l : LoaderOf SourceOf). l.mode ≡ l.source.mode) (loader_over 0 limit line.name source) (loaders_over limit lines sources) refl (compare-alike lines sources)
 
   -- the items of the loaders are those of the sources
   items-over : (lines : List bindings.LoaderOf) (sources : List SourceOf) (loader : ℕ) (key : KeyOf) → length sources ≡ length lines → item_over item_of_key (loaders_over limit lines sources) loader key ≡ item_at sources loader key

@@ -4,7 +4,7 @@ ghost use Rattle.std.specs.Prelude.{◌≡◌, ◌<◌, IfOk, OnOk, get_or, leng
 ghost use Rattle.csv_source.specs.Tables.{SourceOf};
 ghost use Rattle.world_answers.specs.Lines.{IsClientOf};
 ghost use Rattle.world_answers.specs.Services.{service_of};
-ghost use Rattle.world_answers.specs.Sessions.{loader_over, session_over};
+ghost use Rattle.world_answers.specs.Sessions.{loader_over, session_over, over_whichever};
 
 use crate::service::Service;
 use csv_source::CsvSource;
@@ -20,7 +20,7 @@ fn session_over_world<'w>(
     world: &'w World,
 ) -> Result<Session<CsvSource<'w>>, AllocError>
     ensures opened { IfOk result
-        (λ session. session ≡ session_over world.now) }
+        (λ session. over_whichever session ≡ session_over world.now) }
     // Each loader of the bindings is there.
     ensures each { OnOk result (length world.now.sources
         ≡ length world.now.bindings.loaders) }
@@ -40,8 +40,8 @@ fn loader_of<'w>(
     name: &str,
 ) -> Result<Loader<CsvSource<'w>>, AllocError>
     requires { number < length world.now.sources }
-    ensures { (d : SourceOf) → IfOk result (λ l.
-        l ≡ loader_over world.now.limit name.now (get_or world.now.sources number d)) }
+    ensures { (d : SourceOf) → IfOk result (λ l. l ≡ loader_over l.identity
+        world.now.limit name.now (get_or world.now.sources number d)) }
 {
     let source = world.source(number);
     let mode = source.mode();

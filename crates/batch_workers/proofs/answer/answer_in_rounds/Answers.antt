@@ -53,7 +53,7 @@ make_round-requires-clause-orders g c = λ κs l.
     let next = rw c.in-Round.is at c.in_ok-answer.ensures.next in
     let same : c.resume.new.self.plan ≡ c.loop-progress.run.plan = ap (λ (r : RunOf _). r.plan) next.1 in
     let orders = round-orders p (state_of c.loop-progress.session) (state_of c.resume.new.session) c.in-Round.orders.items next.0 in
-    rw same (sym orders)
+    rw same (record { batches = sym orders; cut = next.0.cut })
 
 pub returns-in_err-make_round-in-Round-clause-stopped : goal.returns-in_err-make_round-in-Round-clause-stopped
 returns-in_err-make_round-in-Round-clause-stopped g c =

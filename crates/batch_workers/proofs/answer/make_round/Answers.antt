@@ -8,7 +8,7 @@ use Rattle.load_rounds.specs.declared.by_hand.Stage.TheVariants.{Out, Failed}
 use Rattle.load_rounds.proofs.Growing.{received-grows}
 use Rattle.load_rounds.proofs.Runs.{out-stops, on-ok}
 use Rattle.load_rounds.proofs.States.{on-err}
-use Rattle.batch_workers.proofs.Receipts.{received, have-loaders, err-run}
+use Rattle.batch_workers.proofs.Receipts.{received, err-run}
 use Rattle.batch_workers.proofs.answer.make_round.Goals as goal
 
 pub returns-in_err-shelf-clause-lost : goal.returns-in_err-shelf-clause-lost
@@ -17,9 +17,7 @@ returns-in_err-shelf-clause-lost g c =
     on-err c.from_residual.result (λ begun out. out-stops g.S.Source.may_answer p begun (state_of c.args.session.now) c.args.run.now.rounds out)
 
 pub run_round-requires-clause-loaders : goal.run_round-requires-clause-loaders
-run_round-requires-clause-loaders g c =
-    let p : Program = g.P.Execute.program c.args.run.now.plan in
-    λ κs l. rw (c.loaders.ensures, c.requires.orders) (have-loaders (state_of c.args.session.now) p)
+run_round-requires-clause-loaders g c = λ κs l. rw c.loaders.ensures c.requires.orders.cut
 
 pub returns-in_err-receipts-clause-lost : goal.returns-in_err-receipts-clause-lost
 returns-in_err-receipts-clause-lost g c =
@@ -32,7 +30,7 @@ take-requires g c =
     let s = state_of c.args.session.now in
     let answered = rw c.loaders.ensures at c.in_ok-receipts.ensures.answered in
     let round = received may s.loaders c.in_ok-shelf.shelf c.args.orders.items c.in_ok-receipts.receipts.items answered in
-    record { out = c.requires.out; round = record { on = rw c.as_slice.ensures.value c.in_ok-receipts.ensures.shelved; round = rw (c.as_slice.ensures.value, ← c.requires.orders) round } }
+    record { out = c.requires.out; round = record { on = rw c.as_slice.ensures.value c.in_ok-receipts.ensures.shelved; round = rw (c.as_slice.ensures.value, ← c.requires.orders.batches) round } }
 
 pub returns-clause-made : goal.returns-clause-made
 returns-clause-made g c =

@@ -68,7 +68,7 @@ make_round-requires-clause-orders g c = λ κs l.
     let next = rw c.in-Round.is at c.in_ok-answers.ensures.next in
     let p : Program = together (requests g.P.Execute.program g.P.Execute.text_of c.loop-run.run.plans) in
     let orders = round-orders p (state_of c.loop-run.session) (state_of c.next_round.new.session) c.in-Round.orders.items next.0 in
-    rw c.in_ok-answers.ensures.left.plans (sym orders)
+    rw c.in_ok-answers.ensures.left.plans (record { batches = sym orders; cut = next.0.cut })
 
 pub make_round-requires-clause-fits : goal.make_round-requires-clause-fits
 make_round-requires-clause-fits g c = λ κs l.

@@ -1,4 +1,4 @@
-use Rattle.std.proofs.Common.{[], get_or, arith}
+use Rattle.std.proofs.Common.{[], get_or}
 use Rattle.load_memory.specs.Keys.{borrowed_of}
 use Rattle.flat_rows.proofs.KeyedLaws.{columns-found, key-found, places-within}
 use Rattle.flat_rows.proofs.keyed.key_places.Goals as goal

@@ -1,5 +1,5 @@
 use Rattle.std.specs.Arc.{arc_value}
-use Rattle.std.proofs.Common.{◌≡◌, ℕ, ◌∙◌, ap, sym, subst, List, Vec, Global}
+use Rattle.std.proofs.Common.{◌≡◌, ℕ, ◌∙◌, ap, sym, subst, refl, List, [], Vec, Global}
 use Rattle.gq_parser.specs.declared.tree.SelectionSet.{SelectionSet}
 use Rattle.gq_parser.specs.declared.tree.Operation.{Operation}
 use Rattle.gq_parser.specs.Tree.{Selections, set_of, map_selections}
@@ -12,12 +12,13 @@ use Rattle.plan_program.specs.Groups.{selections_in, collect}
 use Rattle.plan_program.specs.Seen.{groups_of}
 use Rattle.plan_program.specs.PlanPrograms.{root_prepared}
 use Rattle.plan_walk.specs.Groups.{AreMade}
+use Rattle.plan_walk.specs.declared.loading_fields.LoadingField.{LoadingField}
 use Rattle.plan_walk.specs.declared.loading_fields.Member.{Member}
 use Rattle.gq_resolve.proofs.Advancing.{begun-rooted}
 use Rattle.gq_resolve.proofs.advance.prepare_root.Goals as goal
 
-pub returns : goal.returns
-returns c =
+pub returns-clause-made : goal.returns-clause-made
+returns-clause-made c =
     let plan : PlanOf = plan_of c.args.walk.now.plan.now in
     let set : SelectionSet = c.args.walk.now.plan.now.operation.selection_set in
     let chosen : Selections = selections_in (set_of set) in
@@ -32,5 +33,8 @@ returns c =
     let made : AreMade c.new-groups.result.items c.members_of.new.groups.items (root_prepared plan) c.in_ok-members.members.items =
     subst (λ (qs : List PreparedOf). AreMade c.new-groups.result.items c.members_of.new.groups.items qs c.in_ok-members.members.items) ps c.in_ok-members.ensures in
     let shared : arc_value c.in_ok-new.field-0 ≡ c.in_ok-members.members = c.in_ok-new.ensures.ok in
-    begun-rooted plan _ c.new-groups.result.items c.new-groups.ensures.items
-    (subst (λ (v : Vec Member Global). AreMade c.new-groups.result.items c.members_of.new.groups.items (root_prepared plan) v.items) (sym shared) made) c.in_ok-new-2.ensures
+    subst (λ (gs : List LoadingField). AreMade gs c.members_of.new.groups.items (root_prepared plan) (arc_value c.in_ok-new.field-0).items) c.new-groups.ensures.items
+    (subst (λ (v : Vec Member Global). AreMade c.new-groups.result.items c.members_of.new.groups.items (root_prepared plan) v.items) (sym shared) made)
+
+pub returns-clause-rooted : goal.returns-clause-rooted
+returns-clause-rooted c = begun-rooted (plan_of c.args.walk.now.plan.now) _ [] refl (returns-clause-made c) c.in_ok-new-2.ensures

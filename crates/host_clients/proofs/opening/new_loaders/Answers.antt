@@ -11,7 +11,7 @@ pub loop-line-preserved : goal.loop-line-preserved
 loop-line-preserved c =
     let lines = c.args.lines.now in let line = c.line-item.result in let loader = c.in_ok-loader.loader in
     let pushed : c.push.new.self.items ≡ c.loop-line.loaders.items ++ loader ∷ [] = rw c.if-is_err.ensures.negation at c.push.ensures.items in
-    let made : loader ≡ new_loader (limit_at c.loop-line.left.now) (loader_of line) handed_in =
+    let made : loader ≡ new_loader loader.identity (limit_at c.loop-line.left.now) (loader_of line) handed_in =
     c.in_ok-loader.ensures.made ∙ rw (c.as_str.ensures.value, c.mode_of.ensures, c.first_limit-limit.ensures.limit) refl in
     record {
       so = rw pushed (so-next c.args.limits.now c.loop-line.left.now _ lines c.loop-line.line-index line c.loop-line-test.true c.line-item.is c.loop-line.loaders.items loader

@@ -9,9 +9,12 @@ use Rattle.load_rounds.proofs.Stepping.{record-same}
 use Rattle.rounds_by_hand.proofs.LoadFar.{load-orders-have, load-told, loading-stops}
 use Rattle.rounds_by_hand.proofs.load_steps.finish_keys.Goals as goal
 
-pub replies_to-requires : goal.replies_to-requires
-replies_to-requires g c =
+pub replies_to-requires-clause-loaders : goal.replies_to-requires-clause-loaders
+replies_to-requires-clause-loaders g c =
     rw c.loaders.ensures (load-orders-have (state_of c.args.session.now) c.args.loader (map key_of c.args.keys.now) c.args.pending.items c.requires.out.orders)
+
+pub replies_to-requires-clause-own : goal.replies_to-requires-clause-own
+replies_to-requires-clause-own g c = rw c.loaders.ensures c.requires.out.own
 
 pub returns-in_err-replies-clause-stopped : goal.returns-in_err-replies-clause-stopped
 returns-in_err-replies-clause-stopped g c =

@@ -3,7 +3,7 @@ use Rattle.std.proofs.lemmas.List.Elements.{All-tail}
 use Rattle.execution.specs.Rounds.{any_answer, may_at}
 use Rattle.load_rounds.specs.Histories.{any_tell}
 use Rattle.rounds_by_hand.specs.declared.pending.Pending.{Pending}
-use Rattle.rounds_by_hand.specs.Pending.{order_in, IsAnswered}
+use Rattle.rounds_by_hand.specs.Pending.{order_in, CanAsk, IsAnswered}
 use Rattle.rounds_by_hand.proofs.Orders.{none-left, replies-one, replies-all}
 use Rattle.rounds_by_hand.proofs.Storing.{given-one, given-all}
 use Rattle.rounds_by_hand.proofs.pending.replies_to.Goals as goal
@@ -22,6 +22,7 @@ loop-one-preserved g c =
     let all = c.args.pending.items in
     record {
       below = All-tail (λ (o : Pending). (order_in o).loader < length ls) one rest (rw is at c.loop-one.invariant.below);
+      own = All-tail (CanAsk ls) one rest (rw is at c.loop-one.invariant.own);
       any = replies-one (IsAnswered any_answer) (may_at any_tell ls) all items rest one was now reply is put c.in_ok-reply_to.ensures.any c.loop-one.invariant.any;
       told = replies-one (IsAnswered (may_at g.S.LocalSource.may_tell ls)) (may_at g.S.LocalSource.may_tell ls) all items rest one was now reply is put c.in_ok-reply_to.ensures.told c.loop-one.invariant.told;
       as_given = given-one (may_at g.S.LocalSource.may_tell ls) all items rest one was now reply is put c.in_ok-reply_to.ensures.as_given c.loop-one.invariant.as_given;

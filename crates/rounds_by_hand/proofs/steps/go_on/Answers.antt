@@ -1,4 +1,7 @@
-use Rattle.std.proofs.Common.{refl, ap}
+use Rattle.std.specs.Prelude.{All}
+use Rattle.std.proofs.Common.{◌≡◌, false, refl, ap}
+use Rattle.rounds_by_hand.specs.Pending.{is_in}
+use Rattle.rounds_by_hand.proofs.Orders.{out-away}
 use Rattle.execution.specs.Rounds.{may_at}
 use Rattle.load_rounds.specs.ByHand.{front_in}
 use Rattle.load_rounds.specs.Sessions.{StateOf, state_of}
@@ -40,12 +43,13 @@ returns-in_ok-all_out-in-Round-clause-gone g c =
     let later = c.next_round.new.self in
     let same = c.next_round.ensures.left.plans in
     let pending = c.in_ok-all_out-in-Round.field-0.items in
-    let with' = out-with g.P.Execute.program g.P.Execute.text_of s (state_of c.next_round.new.session) c.args.run.plans later c.in-Round.orders.items pending same next.2 next.0 c.in_ok-all_out-in-Round.ensures.orders c.in_ok-all_out-in-Round.ensures.out in
+    let with' = out-with g.P.Execute.program g.P.Execute.text_of s (state_of c.next_round.new.session) c.args.run.plans later c.in-Round.orders.items pending same next.2 next.0 c.in_ok-all_out-in-Round.ensures in
+    let away : All (λ one. is_in one ≡ false) pending = rw c.in_ok-all_out-in-Round.ensures (out-away c.in-Round.orders.items) in
     let fits = c.next_round.ensures.left.fitting next.2 in
-    let none = none-answered (may_at g.S.LocalSource.may_tell c.next_round.new.session.loaders) pending c.in_ok-all_out-in-Round.ensures.out in
+    let none = none-answered (may_at g.S.LocalSource.may_tell c.next_round.new.session.loaders) pending away in
     record {
       holds = (rw (← c.run.view_is) at same, rw (← c.run.view_is) at with', rw (← c.run.view_is) at fits);
-      step = c.in_ok-all_out-in-Round.ensures.out;
+      step = away;
       went = λ begun is. (rw (← c.run.view_is) at same, rw (← c.run.view_is) at c.next_round.ensures.run.since (state_of begun) is, none);
       tells = tt;
     }

@@ -7,10 +7,13 @@ use Rattle.load_rounds.specs.SharedRounds.{joint}
 use Rattle.rounds_by_hand.proofs.Far.{orders-have, received-in}
 use Rattle.rounds_by_hand.proofs.steps.store.Goals as goal
 
-pub replies_to-requires : goal.replies_to-requires
-replies_to-requires g c =
+pub replies_to-requires-clause-loaders : goal.replies_to-requires-clause-loaders
+replies_to-requires-clause-loaders g c =
     let p : Program = joint g.P.Execute.program g.P.Execute.text_of c.args.run.plans in
     rw c.loaders.ensures (orders-have (state_of c.args.session.now) p c.args.pending.items c.requires.orders)
+
+pub replies_to-requires-clause-own : goal.replies_to-requires-clause-own
+replies_to-requires-clause-own g c = rw c.loaders.ensures c.requires.own
 
 pub take_owned-requires : goal.take_owned-requires
 take_owned-requires g c =

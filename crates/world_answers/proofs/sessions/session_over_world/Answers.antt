@@ -1,10 +1,11 @@
-use Rattle.std.proofs.Common.{◌≡◌, ◌∙◌, List, [], All, sym, ap, subst, arith}
+use Rattle.std.proofs.Common.{◌≡◌, ◌∙◌, List, [], All, map, sym, ap, subst, arith}
 use Rattle.std.proofs.lemmas.Result.{IfOk-weaker}
 use Rattle.gq_bindings.specs.Seen.{loader_of}
 use Rattle.csv_source.specs.Tables.{SourceOf, source_of_all}
+use Rattle.load_memory.proofs.ReplyPairs.{All-of_map}
 use Rattle.load_queue.specs.Loaders.{LoaderOf}
 use Rattle.load_rounds.specs.Sessions.{SessionOf}
-use Rattle.world_answers.specs.Sessions.{loaders_over}
+use Rattle.world_answers.specs.Sessions.{loaders_over, whichever, over_whichever}
 use Rattle.world_answers.proofs.Loading.{built-more, built-all, quiet-over}
 use Rattle.world_answers.proofs.sessions.session_over_world.Goals as goal
 
@@ -21,17 +22,18 @@ loop-number-preserved c =
 pub new-requires : goal.new-requires
 new-requires c =
     let w = c.args.world.now in
-    let all : c.loop-number.loaders.items ≡ loaders_over w.limit w.bindings.loaders w.sources =
+    let all : map whichever c.loop-number.loaders.items ≡ loaders_over w.limit w.bindings.loaders w.sources =
     built-all w.limit loader_of c.loaders-line-items.result.now w.bindings.loaders w.sources c.loop-number.number c.loop-number.loaders.items c.loop-number.invariant.lines (sym c.loaders.ensures.sources ∙ c.loaders.ensures.bindings) (omega arith) c.loop-number.invariant.built in
-    subst (λ (ls : List (LoaderOf SourceOf)). All (λ (l : LoaderOf SourceOf). l.log ≡ []) ls) (sym all) (quiet-over w.limit w.bindings.loaders w.sources)
+    let quiet = subst (λ (ls : List (LoaderOf SourceOf)). All (λ (l : LoaderOf SourceOf). l.log ≡ []) ls) (sym all) (quiet-over w.limit w.bindings.loaders w.sources) in
+    All-of_map whichever (λ (l : LoaderOf SourceOf). l.log ≡ []) c.loop-number.loaders.items quiet
 
 pub returns-clause-opened : goal.returns-clause-opened
 returns-clause-opened c =
     let w = c.args.world.now in
-    let all : c.loop-number.loaders.items ≡ loaders_over w.limit w.bindings.loaders w.sources =
+    let all : map whichever c.loop-number.loaders.items ≡ loaders_over w.limit w.bindings.loaders w.sources =
     built-all w.limit loader_of c.loaders-line-items.result.now w.bindings.loaders w.sources c.loop-number.number c.loop-number.loaders.items c.loop-number.invariant.lines (sym c.loaders.ensures.sources ∙ c.loaders.ensures.bindings) (omega arith) c.loop-number.invariant.built in
     let with : List (LoaderOf SourceOf) → SessionOf SourceOf = λ ls. record { loaders = ls; pairs = []; rounds = 0 } in
-    IfOk-weaker c.new.result _ _ (λ s is. is ∙ ap with all) c.new.ensures
+    IfOk-weaker c.new.result _ _ (λ s is. ap over_whichever is ∙ ap with all) c.new.ensures
 
 pub returns-clause-each : goal.returns-clause-each
 returns-clause-each c = IfOk-weaker c.new.result _ _ (λ s is. sym c.loaders.ensures.sources ∙ c.loaders.ensures.bindings) c.new.ensures

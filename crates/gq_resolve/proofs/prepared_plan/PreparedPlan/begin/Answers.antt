@@ -2,12 +2,12 @@ use Rattle.std.proofs.Common.{subst}
 use Rattle.std.proofs.lemmas.Result.{on_ok_weaker}
 use Rattle.std.specs.Prelude.{Option, IfSome}
 use Rattle.gq_check.specs.Plans.{PlanOf, PlanParts, plan_of}
-use Rattle.gq_resolve.specs.Suspended.{IsRooted}
+use Rattle.gq_resolve.specs.Suspended.{IsReusable, IsRooted}
 use Rattle.gq_resolve.specs.declared.advance.RootObject.{RootObject}
 use Rattle.gq_resolve.proofs.prepared_plan.PreparedPlan.begin.Goals as goal
 
 pub returns-in-Some : goal.returns-in-Some
 returns-in-Some c =
     let plan : PlanOf = plan_of c.args.self.now in
-    let own : IsRooted (plan_of c.self.inside.plan) c.in-Some.rooted = subst (λ (rooted : Option RootObject). IfSome rooted (IsRooted (plan_of c.self.inside.plan))) c.in-Some.is c.self.invariant in
-    on_ok_weaker c.begin_prepared.result (λ begun. begun (subst (λ (p : PlanParts). IsRooted (plan_of p) c.in-Some.rooted) c.self.view_is own)) (c.begin_prepared.ensures plan)
+    let own : IsReusable (plan_of c.self.inside.plan) c.in-Some.rooted = subst (λ (rooted : Option RootObject). IfSome rooted (IsReusable (plan_of c.self.inside.plan))) c.in-Some.is c.self.invariant in
+    on_ok_weaker c.begin_prepared.result (λ begun. begun (subst (λ (p : PlanParts). IsRooted (plan_of p) c.in-Some.rooted) c.self.view_is own.rooted)) (c.begin_prepared.ensures plan)

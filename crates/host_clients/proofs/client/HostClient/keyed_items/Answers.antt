@@ -1,6 +1,6 @@
 use Rattle.std.proofs.Common.{◌≡◌, ◌∙◌, ap, map, refl, Some}
 use Rattle.std.specs.Prelude.{slice_get}
-use Rattle.flat_rows.specs.Keyed.{AreAsked, AreRows, KeyedReplyFault, keyed_items, laid_rows, rows_laid}
+use Rattle.flat_rows.specs.Keyed.{IsKeyedReply, KeyedReplyFault, laid_rows, replied_items}
 use Rattle.flat_rows.specs.Keyed.{by_of as keyed_by_of}
 use Rattle.load_memory.specs.Keys.{key_of}
 use Rattle.load_memory.specs.Outcomes.{item_of}
@@ -23,17 +23,17 @@ returns-in-In-clause-fault c =
 
 pub returns-in_ok-items-in-Out-clause-items : goal.returns-in_ok-items-in-Out-clause-items
 returns-in_ok-items-in-Out-clause-items c =
-    let server = c.in-Some.server.now in let order = c.in-Out.order in let rows = rows_laid (laid_rows c.args.reply.now) in let items = c.in_ok-items-in-Out.field-0 in
+    let server = c.in-Some.server.now in let order = c.in-Out.order in let r = laid_rows c.args.reply.now in let items = c.in_ok-items-in-Out.field-0 in
     of-read c.args.self.now c.args.number server order c.in-Some.ensures.server (c.in-Some.ensures.some ∙ ap Some c.in-Out.is) (keyed_by_of c.keyed_by-by.result)
-    (c.keyed_by-by.ensures ∙ ap (λ n. keyed_by (by_at server n)) c.loader.ensures) (map key_of c.keys.result.now) c.keys.ensures (λ by keys. map item_of items.items ≡ keyed_items by keys rows)
-    c.in_ok-items-in-Out.ensures.keyed
+    (c.keyed_by-by.ensures ∙ ap (λ n. keyed_by (by_at server n)) c.loader.ensures) (map key_of c.keys.result.now) c.keys.ensures (λ by keys. map item_of items.items ≡ replied_items by keys r)
+    c.in_ok-items-in-Out.ensures.items
 
-pub returns-in_ok-items-in-Out-clause-asked : goal.returns-in_ok-items-in-Out-clause-asked
-returns-in_ok-items-in-Out-clause-asked c =
+pub returns-in_ok-items-in-Out-clause-taken : goal.returns-in_ok-items-in-Out-clause-taken
+returns-in_ok-items-in-Out-clause-taken c =
     let server = c.in-Some.server.now in let order = c.in-Out.order in let r = laid_rows c.args.reply.now in
     of-read c.args.self.now c.args.number server order c.in-Some.ensures.server (c.in-Some.ensures.some ∙ ap Some c.in-Out.is) (keyed_by_of c.keyed_by-by.result)
-    (c.keyed_by-by.ensures ∙ ap (λ n. keyed_by (by_at server n)) c.loader.ensures) (map key_of c.keys.result.now) c.keys.ensures (λ by keys. AreRows r × AreAsked by keys (rows_laid r))
-    (c.in_ok-items-in-Out.ensures.formed, c.in_ok-items-in-Out.ensures.asked)
+    (c.keyed_by-by.ensures ∙ ap (λ n. keyed_by (by_at server n)) c.loader.ensures) (map key_of c.keys.result.now) c.keys.ensures (λ by keys. IsKeyedReply by keys r)
+    c.in_ok-items-in-Out.ensures.taken
 
 pub returns-in_err-items-in-Out-clause-fault : goal.returns-in_err-items-in-Out-clause-fault
 returns-in_err-items-in-Out-clause-fault c =

@@ -4,7 +4,7 @@ use Rattle.host_clients.proofs.client.HostClient.take_keyed_rows.Goals as goal
 
 pub returns-clause-taken : goal.returns-clause-taken
 returns-clause-taken c =
-    taken-by-key c.args.number (laid_rows c.args.reply.now) c.args.self.now c.take.new.self c.in_ok-items.items c.in_ok-items.ensures.items c.in_ok-items.ensures.asked c.in_ok-take.ensures.taken
+    taken-by-key c.args.number (laid_rows c.args.reply.now) c.args.self.now c.take.new.self c.in_ok-items.items c.in_ok-items.ensures.items c.in_ok-items.ensures.taken c.in_ok-take.ensures.taken
 
 pub returns-in_err-take-clause-kept : goal.returns-in_err-take-clause-kept
 returns-in_err-take-clause-kept c =

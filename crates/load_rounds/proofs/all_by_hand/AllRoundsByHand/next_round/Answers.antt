@@ -149,6 +149,7 @@ returns-in_ok-orders-in-Some-clause-next g c =
     let round : IsRound p s (state_of c.cut.new.self) c.in_ok-orders-in-Some.orders.items = record {
       lacks = found.0;
       batches = batches (front_in s p) found.2;
+      cut = c.in_ok-orders-in-Some.ensures.cut;
       entered = entered;
       counted = round-counted s (state_of c.cut.new.self) p (length s.loaders) within (omega arith) found.0 entered;
       numbered = numbered;

@@ -69,6 +69,7 @@ returns-in_ok-orders-in-Missing-clause-next g c =
     let round : IsRound p s (state_of c.cut.new.self) c.in_ok-orders-in-Missing.orders.items = record {
       lacks = lacks.0;
       batches = batches (front_in s p) lacks.2;
+      cut = c.in_ok-orders-in-Missing.ensures.cut;
       entered = entered;
       counted = round-counted s (state_of c.cut.new.self) p (g.P.Execute.loaders plan) c.in_ok-text.ensures.within enough lacks.0 entered;
       numbered = numbered;

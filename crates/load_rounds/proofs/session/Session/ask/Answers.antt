@@ -1,11 +1,11 @@
-use Rattle.std.proofs.Common.{◌≡◌, ◌<◌, ◌≤◌, ◌+◌, ℕ, map, length, ap, arith, refl, false}
+use Rattle.std.proofs.Common.{◌≡◌, ◌<◌, ◌+◌, ℕ, map, length, ap, arith, refl, false}
 use Rattle.std.proofs.lemmas.List.{length-map}
 use Rattle.load_memory.proofs.LoaderMemoryLaws.{SomeIff-at}
 use Rattle.load_queue.specs.Wanted.{keys_wanted}
 use Rattle.execution.specs.Rounds.{RuleOf, rule_of, round_orders}
 use Rattle.load_rounds.specs.Rounds.{first_keys}
 use Rattle.load_rounds.proofs.Cutting.{length-logged}
-use Rattle.load_rounds.proofs.Numbering.{orders-below, replies-before}
+use Rattle.load_rounds.proofs.Numbering.{replies-before}
 use Rattle.load_rounds.proofs.States.{entered-session, marked-session, wanted-orders, state-ran, state-lost, enters-first, enters-nothing, on-err}
 use Rattle.load_rounds.proofs.session.Session.ask.Goals as goal
 
@@ -44,15 +44,7 @@ returns-in_err-orders-clause-lost g c = λ loads wanted.
     rw (← c.self.view_is) (on-err c.from_residual-in_err-orders.result (record { loaders = lost.0; after = state-lost keys loads L own round r c.cut_all.new.rounds lost.0 c.cut_all.new.loaders.items M M next lost.1 (λ l k. refl) }))
 
 pub run_and_keep-requires-clause-loaders : goal.run_and_keep-requires-clause-loaders
-run_and_keep-requires-clause-loaders g c =
-    let L = c.self.inside.loaders.items in
-    let M = c.self.inside.memory in
-    let r = c.self.inside.rounds in
-    let keys = keys_wanted c.args.wants in
-    let h = c.in_ok-orders.ensures.entered in
-    let size : 0 + length (map rule_of L) ≤ length c.cut_all.new.loaders.items = omega (arith, length-map L rule_of, ap length h.loaders, length-logged false c.in_ok-round.round 0 keys L) in
-    let below = orders-below 0 (length c.cut_all.new.loaders.items) (map rule_of L) keys size in
-    rw (c.deref.ensures.value, c.in_ok-orders.ensures.orders) below
+run_and_keep-requires-clause-loaders g c = rw c.deref.ensures.value c.in_ok-orders.ensures.cut
 
 pub run_and_keep-requires-clause-modes : goal.run_and_keep-requires-clause-modes
 run_and_keep-requires-clause-modes g c =

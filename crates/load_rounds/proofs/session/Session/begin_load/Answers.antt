@@ -1,5 +1,6 @@
 use Rattle.std.proofs.Common.{◌≡◌, ◌<◌, ◌∙◌, ℕ, map, length, ap, sym, subst, arith, inl}
 use Rattle.load_memory.specs.Keys.{key_of}
+use Rattle.load_queue.specs.Orders.{asks}
 use Rattle.execution.specs.Rounds.{round_orders}
 use Rattle.load_rounds.specs.Calls.{front_at, asked_for}
 use Rattle.load_rounds.specs.Loadings.{IsLoading}
@@ -55,8 +56,8 @@ returns-in_ok-cut-in-Some-clause-begun g c =
     let lt : loader < length mid.loaders = omega (arith, many, c.if-loader-loaders.false, ap length c.loaders.ensures) in
     let is : IsLoading old new loader keys = keys-asked old mid new loader keys forgot lt found.0 c.cut.ensures.numbered (c.in_ok-cut-in-Some.ensures.entered loads found.2) in
     let orders = c.in_ok-cut-in-Some.field-0.items in
-    let cut : orders ≡ round_orders (rules_of old) (asked_for old loader keys) = subst (λ (b : StateOf g.row.S.Denot). orders ≡ round_orders (rules_of b) (front_at b loader keys)) forgot (c.in_ok-cut-in-Some.ensures.orders loads found.2) in
-    (is, cut ∙ sym (loading-orders old new loader keys is))
+    let cut : map asks orders ≡ round_orders (rules_of old) (asked_for old loader keys) = subst (λ (b : StateOf g.row.S.Denot). map asks orders ≡ round_orders (rules_of b) (front_at b loader keys)) forgot (c.in_ok-cut-in-Some.ensures.orders loads found.2) in
+    (is, cut ∙ sym (loading-orders old new loader keys is), c.in_ok-cut-in-Some.ensures.cut)
 
 -- ---- failed batches were forgotten, and nothing else became known or unknown
 

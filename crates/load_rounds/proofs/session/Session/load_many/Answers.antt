@@ -2,14 +2,14 @@ use Rattle.std.proofs.Common.{◌≤◌, ℕ, map, length, arith, inr}
 use Rattle.load_memory.specs.Keys.{key_of}
 use Rattle.load_memory.specs.Replies.{reply_of}
 use Rattle.load_rounds.specs.Sessions.{state_of}
-use Rattle.load_rounds.proofs.Loadings.{record-many, orders-within, told-some, loading-lost}
+use Rattle.load_rounds.proofs.Loadings.{record-many, told-some, loading-lost}
 use Rattle.load_rounds.proofs.Stepping.{record-then}
 use Rattle.load_rounds.proofs.session.Session.load_many.Goals as goal
 
 pub run_all-requires : goal.run_all-requires
 run_all-requires g c =
     let begun = rw c.in-Round.is at c.in_ok-outcomes.ensures.begun in
-    rw (c.loaders.ensures, begun.1) (orders-within (state_of c.begin_load.new.self) c.args.loader (map key_of c.args.keys.now))
+    rw c.loaders.ensures begun.2
 
 pub returns-in_err-replies-in-Round-clause-no_memory : goal.returns-in_err-replies-in-Round-clause-no_memory
 returns-in_err-replies-in-Round-clause-no_memory g c = λ h.

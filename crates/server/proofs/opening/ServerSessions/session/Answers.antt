@@ -17,7 +17,7 @@ loop-line-preserved g c =
     let loader : LoaderOf g.row.S.Denot = c.in_ok-loader.loader in
     let taken : take (i + 1) (map loader_of lines) ≡ take i (map loader_of lines) ++ loader_of line ∷ [] = rw add-one (taken-more loader_of lines i line c.loop-line-test.true c.line-item.is) in
     let pushed : c.push.new.self.items ≡ c.loop-line.loaders.items ++ loader ∷ [] = rw c.if-is_err.ensures.negation at c.push.ensures.items in
-    let made : loader ≡ new_loader c.args.max_batch (loader_of line) c.source-source.result = c.in_ok-loader.ensures.made ∙ rw (c.as_str.ensures.value, c.mode_of.ensures) refl in
+    let made : loader ≡ new_loader loader.identity c.args.max_batch (loader_of line) c.source-source.result = c.in_ok-loader.ensures.made ∙ rw (c.as_str.ensures.value, c.mode_of.ensures) refl in
     let more = opened-more g.F.FnMut c.args.max_batch (take i (map loader_of lines)) c.loop-line.loaders.items c.args.source c.loop-line.source c.source-source.new.self _ c.source-source.result loader
     c.loop-line.invariant.opened c.source-source.ensures made in
     record {

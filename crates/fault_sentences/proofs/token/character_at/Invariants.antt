@@ -1,0 +1,10 @@
+use Rattle.std.proofs.Common.{◌≡◌, ◌+◌, ◌≤◌}
+use Rattle.gq_lexer.specs.Place.{place_of}
+use Rattle.fault_sentences.proofs.token.character_at.Given as goal
+
+abbrev pub invariant-loop-i : goal.invariant-loop-i
+invariant-loop-i l = record {
+  place : l.here ≡ place_of l.bytes l.i;
+  line : l.here.line ≤ l.i + 1;
+  column : l.here.column ≤ l.i + 1;
+}

@@ -1,0 +1,4 @@
+pub mod Words
+pub mod Schemas
+pub mod Bindings
+pub mod Told

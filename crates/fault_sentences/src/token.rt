@@ -1,0 +1,81 @@
+//! What stands at a place of a schema.
+ghost use Rattle.std.specs.Prelude.{◌≡◌, ◌≤◌, ◌<◌, ◌+◌, ◌-◌, ◌^◌, All, IfSome, length};
+ghost use Rattle.gq_lexer.specs.Place.{next_place};
+ghost use Rattle.gq_lexer.specs.Tokens.{IsToken};
+ghost use Rattle.gq_lexer.specs.declared.lexer.TheConstants.{MAX_BYTES};
+ghost use Rattle.fault_sentences.specs.Schemas.{IsAt, IsCharacterAt};
+
+use gq_lexer::{MAX_BYTES, Place, Token, TokenKind};
+
+/// The token at a place, and its index.
+pub(crate) fn token_at(tokens: &[Token], at: Place) -> Option<(usize, Token)>
+    ensures { IfSome result (λ found. IsAt at found.0 found.1 tokens.now) }
+{
+    for i in 0..tokens.len() {
+        let token = tokens[i];
+        if token.line == at.line && token.column == at.column {
+            return Some((i, token));
+        }
+    }
+    None
+}
+
+// The place after a byte, which `rest` follows.
+fn next_place(place: Place, byte: u8, rest: &[u8]) -> Place
+    requires line { place.line < 2 ^ 32 - 1 }
+    requires column { place.column < 2 ^ 32 - 1 }
+    ensures value { result ≡ next_place
+        place byte rest.now }
+    ensures line { result.line ≤ place.line + 1 }
+    ensures column { result.column ≤ place.column + 1 }
+{
+    let ends_line = byte == b'\n' || (byte == b'\r' && !rest.starts_with(b"\n"));
+    if ends_line {
+        Place {
+            line: place.line + 1,
+            column: 1,
+        }
+    } else if (0x80..0xC0).contains(&byte) {
+        place
+    } else {
+        Place {
+            column: place.column + 1,
+            ..place
+        }
+    }
+}
+
+/// The character at a place.
+pub(crate) fn character_at(text: &str, at: Place) -> Option<&str>
+    requires { length text.now ≤ MAX_BYTES }
+    ensures { IfSome result (λ c. IsCharacterAt text.now at c.now) }
+{
+    let bytes = text.as_bytes();
+    let mut here = Place::START;
+    for i in 0..bytes.len() {
+        if here.line == at.line && here.column == at.column && text.is_char_boundary(i) {
+            return Some(&text[i..text.ceil_char_boundary(i + 1)]);
+        }
+        here = next_place(here, bytes[i], &bytes[i + 1..]);
+    }
+    None
+}
+
+/// The name of the type whose definition stands last before a place; empty where there is none.
+pub(crate) fn type_before<'t>(schema: &'t str, tokens: &[Token], at: Place) -> &'t str
+    requires { All (IsToken schema.now) tokens.now }
+{
+    let mut name = "";
+    let mut is_name = false;
+    for token in tokens {
+        if token.line == at.line && token.column == at.column {
+            return name;
+        }
+        let text = token.text(schema);
+        if is_name && token.kind == TokenKind::Name {
+            name = text;
+        }
+        is_name = text == "type" || text == "interface";
+    }
+    name
+}
