@@ -1,11 +1,10 @@
 //! What stands at a place of a schema.
 ghost use Rattle.std.specs.Prelude.{◌≡◌, ◌≤◌, ◌<◌, ◌+◌, ◌-◌, ◌^◌, All, IfSome, length};
-ghost use Rattle.gq_lexer.specs.Place.{next_place};
 ghost use Rattle.gq_lexer.specs.Tokens.{IsToken};
 ghost use Rattle.gq_lexer.specs.declared.lexer.TheConstants.{MAX_BYTES};
 ghost use Rattle.fault_sentences.specs.Schemas.{IsAt, IsCharacterAt};
 
-use gq_lexer::{MAX_BYTES, Place, Token, TokenKind};
+use gq_lexer::{MAX_BYTES, Place, Token, TokenKind, next_place};
 
 /// The token at a place, and its index.
 pub(crate) fn token_at(tokens: &[Token], at: Place) -> Option<(usize, Token)>
@@ -18,31 +17,6 @@ pub(crate) fn token_at(tokens: &[Token], at: Place) -> Option<(usize, Token)>
         }
     }
     None
-}
-
-// The place after a byte, which `rest` follows.
-fn next_place(place: Place, byte: u8, rest: &[u8]) -> Place
-    requires line { place.line < 2 ^ 32 - 1 }
-    requires column { place.column < 2 ^ 32 - 1 }
-    ensures value { result ≡ next_place
-        place byte rest.now }
-    ensures line { result.line ≤ place.line + 1 }
-    ensures column { result.column ≤ place.column + 1 }
-{
-    let ends_line = byte == b'\n' || (byte == b'\r' && !rest.starts_with(b"\n"));
-    if ends_line {
-        Place {
-            line: place.line + 1,
-            column: 1,
-        }
-    } else if (0x80..0xC0).contains(&byte) {
-        place
-    } else {
-        Place {
-            column: place.column + 1,
-            ..place
-        }
-    }
 }
 
 /// The character at a place.

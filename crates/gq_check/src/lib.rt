@@ -6,7 +6,8 @@
 //! ([`one_verdict`]). A small query without variables, directives and fragments is mostly seen to be valid in one walk that takes
 //! no memory (`src/plain.rt`); any other document is asked rule by rule (`src/rules.rt`). A [`Plan`] is an operation of a
 //! checked document with the values of its variables, and [`prepare`] says why there is none. A [`PreparedDocument`] is a checked one of
-//! which [`prepare_again`] gives the same plans any number of times. None of them borrows: each shares the schema, and a plan its
+//! which [`prepare_again`] gives the same plans any number of times; [`Plan::again`] gives the plan of the same operation with other
+//! values of its variables, as [`prepare`] gives it. None of them borrows: each shares the schema, and a plan its
 //! bindings and its document too. A plan's look-ups take no memory.
 #![tactic(auto)]
 

@@ -1,17 +1,16 @@
 -- What was prepared of a plan serves each plan that is this one with other variables and leaves out the same.
 use Rattle.std.specs.Arc.{arc_value}
-use Rattle.std.proofs.Common.{◌≡◌, ℕ, List, [], Vec, Global, refl, sym, ap, subst, ◌∙◌, arith}
+use Rattle.std.proofs.Common.{◌≡◌, List, [], Vec, Global, refl, sym, ap, subst, ◌∙◌, arith}
 use Rattle.gq_variables.specs.Variables.{VariableOf}
 use Rattle.gq_schema.specs.Types.{root_in}
 use Rattle.gq_check.specs.Plans.{PlanOf, PlanParts, IsSameBut, plan_of}
-use Rattle.plan_program.specs.FieldValues.{PreparedOf, all_prepared}
+use Rattle.plan_program.specs.FieldValues.{all_prepared}
 use Rattle.plan_program.specs.Groups.{GroupOf, selections_in, collect}
 use Rattle.plan_program.specs.OtherVariables.{with_variables, AgreesOnDirectives}
 use Rattle.plan_program.specs.PlanPrograms.{root_prepared}
 use Rattle.plan_program.proofs.OtherVariables.{groups-alike}
 use Rattle.plan_walk.specs.Groups.{AreMade, AreMadeOver, AreMadeAgain, AreRight, AreServed, Grows, GrowsAlike, IsOtherwise}
 use Rattle.plan_walk.specs.declared.loading_fields.LoadingField.{LoadingField}
-use Rattle.plan_walk.specs.declared.loading_fields.Member.{Member}
 use Rattle.plan_walk.proofs.Grouping.{served-more}
 use Rattle.gq_resolve.specs.Suspended.{IsRooted, IsAlike, IsReusable}
 use Rattle.gq_resolve.specs.declared.advance.RootObject.{RootObject}
@@ -43,9 +42,9 @@ again-with first us r again copy agrees grows made row is =
     let same : root_groups plan ≡ root_groups first = groups-alike first us agrees (root_in first.definitions) (selections_in first.operation.selection_set) in
     let over : (vs : List VariableOf) → AgreesOnDirectives plan vs → AreMadeOver (with_variables first vs) copy again.groups.items (root_prepared plan) (arc_value again.members).items =
     λ vs alike.
-        let q : PlanOf = with_variables first vs in
-        let was : AreServed q copy (root_prepared first) (arc_value r.members).items = served-more q r.groups.items copy (root_prepared first) (arc_value r.members).items (grows q) (is.served vs (agrees-then first us vs agrees alike)) in
-        made first q refl (subst (λ (gs : List GroupOf). AreServed q copy (all_prepared first (root_in first.definitions) gs) (arc_value r.members).items) (sym same) was) in
+    let q : PlanOf = with_variables first vs in
+    let was : AreServed q copy (root_prepared first) (arc_value r.members).items = served-more q r.groups.items copy (root_prepared first) (arc_value r.members).items (grows q) (is.served vs (agrees-then first us vs agrees alike)) in
+    made first q refl (subst (λ (gs : List GroupOf). AreServed q copy (all_prepared first (root_in first.definitions) gs) (arc_value r.members).items) (sym same) was) in
     let right : (vs : List VariableOf) → AgreesOnDirectives plan vs → AreRight (with_variables first vs) again.groups.items =
     λ vs alike. (over vs alike).grows.right ((grows (with_variables first vs)).right (is.right vs (agrees-then first us vs agrees alike))) in
     record {

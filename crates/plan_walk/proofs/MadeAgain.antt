@@ -4,18 +4,15 @@ use Rattle.std.specs.Prelude.{IfSome}
 use Rattle.std.specs.List.{slice_get}
 use Rattle.std.proofs.lemmas.List.{take_more}
 use Rattle.std.proofs.lemmas.Option.{slice_get-get_or}
-use Rattle.gq_variables.specs.Variables.{VariableOf}
 use Rattle.gq_check.specs.Plans.{PlanOf}
 use Rattle.plan_program.specs.FieldValues.{ValueFrom, PreparedOf, prepared, all_prepared}
-use Rattle.plan_program.specs.OtherVariables.{with_variables}
 use Rattle.plan_program.specs.RowUses.{BelowOf, below_in}
 use Rattle.plan_program.specs.Seen.{group_of, groups_of}
 use Rattle.plan_program.specs.declared.group.Group.{Group}
 use Rattle.plan_program.proofs.OtherVariables.{below-alike}
-use Rattle.plan_walk.specs.Groups.{Grows, Serves, ServesLoad, MayServe, IsServed, AreServed, IsAskingOver, AreMadeOver, IsOtherwise, group_in, group_at}
+use Rattle.plan_walk.specs.Groups.{Grows, Serves, ServesLoad, MayServe, AreServed, IsAskingOver, AreMadeOver, IsOtherwise, group_in, group_at}
 use Rattle.plan_walk.specs.Positions.{member_position}
 use Rattle.plan_walk.specs.declared.loading_fields.LoadingField.{LoadingField}
-use Rattle.plan_walk.specs.declared.loading_fields.FieldResolver.{FieldResolver}
 use Rattle.plan_walk.specs.declared.loading_fields.Member.{Member}
 use Rattle.plan_walk.proofs.Grouping.{served-one-more, made-more-over, prepared-more}
 

@@ -243,7 +243,10 @@ fn asks_for_each(
 }
 
 // Returns what is asked for, with a group more where it loads.
-pub(crate) fn asks_of(groups: &mut Vec<LoadingField>, asked: ValueFrom) -> Result<FieldResolver, AllocError>
+pub(crate) fn asks_of(
+    groups: &mut Vec<LoadingField>,
+    asked: ValueFrom,
+) -> Result<FieldResolver, AllocError>
     ensures { IfOk result
         (IsAsking groups.old.items groups.new.items (value_from_seen asked)) }
 {

@@ -9,7 +9,7 @@ use Rattle.load_memory.specs.Replies.{ReplyOf, reply_of}
 use Rattle.load_memory.specs.declared.reply.Reply.{Reply}
 use Rattle.load_queue.specs.Answers.{AnswerOf}
 use Rattle.load_queue.specs.Loaders.{LoaderOf}
-use Rattle.load_queue.specs.Orders.{OrderOf, CutOf, asks, AreCutBy, IsCutBy}
+use Rattle.load_queue.specs.Orders.{OrderOf, CutOf, asks, AreCutBy}
 use Rattle.load_queue.specs.Runs.{IsReplyTo}
 use Rattle.execution.specs.Rounds.{any_answer, may_at, AreReplies, IsReply}
 use Rattle.load_rounds.specs.Histories.{any_tell}

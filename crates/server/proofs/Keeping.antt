@@ -12,17 +12,19 @@ use Rattle.gq_check.specs.Plans.{PlanOf, PlanParts, plan_of}
 use Rattle.gq_resolve.specs.PreparedPlans.{LimitedPlanOf, within}
 use Rattle.load_rounds.specs.Sessions.{SessionOf}
 use Rattle.load_rounds.specs.declared.answer.Answer.{Answer}
+use Rattle.serde_json.specs.Data.{null}
 use Rattle.request_line.specs.Keys.{IsKey}
 use Rattle.request_line.specs.Requests.{RequestOf}
 use Rattle.request_line.proofs.Keys.{one-operation}
-use Rattle.plan_requests.specs.Planning.{HasOperation, IsPlanned, IsRefusal, PlanValues}
+use Rattle.plan_requests.specs.Planning.{HasOperation, IsPlanned, IsRefusal, PlanValues, values_of}
 use Rattle.plan_requests.specs.Servers.{ServerOf}
+use Rattle.plan_requests.proofs.KeptPlans.{plan-again}
 use Rattle.plan_requests.proofs.Requests.{planned-valid}
 use Rattle.plan_requests.proofs.Values.{refused-more, planned-more}
 use Rattle.server.specs.Answering.{Answered}
 use Rattle.server.specs.Answers.{refused, planned, stopped}
 use Rattle.server.specs.Clients.{ClientOf}
-use Rattle.server.specs.Kept.{IsPlanAt, NeedsLoaders, PreparesRequest, PreparesValue}
+use Rattle.server.specs.Kept.{HasNoVariables, IsPlanAt, NeedsLoaders, PreparesRequest, PreparesValue}
 use Rattle.server.specs.Planned.{AddsRequest, PlannedOf, PlansAll, PlansEach}
 use Rattle.server.specs.Plans.{AreLimited, plan_and_limit}
 use Rattle.server.specs.Runners.{RunsPlan}
@@ -113,3 +115,9 @@ module _ {S : Type 0} (may : S → List KeyOf → AnswerOf → Type 0) where
     stopped = on_err_weaker ran (λ told. stopped is told) h.stopped;
     loaders = plan-many may _ _ _ _ h;
   }
+
+-- where there are no variables, a kept plan is that of each request of its operation
+pub kept-itself : (s : ServerOf) (r : RequestOf) (p : PlanParts) → HasOperation s r (plan_of p) → HasNoVariables r p → IsPlanned s r (plan_of p)
+kept-itself s r p h none =
+    plan-again s r p p h null (sym (ap values_of none.given)) (record { definitions = refl; bindings = refl; operation = refl; fragments = refl })
+    (rw (none.values, none.definitions) refl)

@@ -30,6 +30,12 @@ pub record IsPlanAt (s : ServerOf) (key : List ℕ) (plan : PlanParts) : Type 0 
   pub has_key : IsKey key request
   pub planned : IsPlanned s request (plan_of plan)
 
+-- no variable is given, and the plan's operation has none
+pub record HasNoVariables (request : RequestOf) (plan : PlanParts) : Type 0 where
+  pub given : request.variables ≡ None
+  pub values : plan.variables ≡ []
+  pub definitions : plan.operation.variables.items ≡ []
+
 -- a plan that many share
 abbrev pub SharedPlan : Type 0
 SharedPlan = Arc PlanParts Global

@@ -7,7 +7,7 @@ ghost use Rattle.gq_check.specs.Plans.{IsSameBut, plan_of};
 ghost use Rattle.plan_requests.specs.Planning.{HasOperation, IsRefusal, PlansRequest, PlansArray};
 ghost use Rattle.request_line.specs.Keys.{IsKey};
 ghost use Rattle.request_line.specs.Seen.{request_of, requests_of};
-ghost use Rattle.server.specs.Kept.{IsFoundFor, IsPlanAt, PreparesRequest, PreparesValue, plan_limits};
+ghost use Rattle.server.specs.Kept.{HasNoVariables, IsFoundFor, IsPlanAt, PreparesRequest, PreparesValue, plan_limits};
 
 use gq_check::Plan;
 use gq_resolve::PreparedPlan;
@@ -137,6 +137,16 @@ fn shared_again(
         Some(prepared) => Ok(Some(Arc::new(alloc, prepared)?)),
         None => Ok(None),
     }
+}
+
+// Tells whether no variable is given, and the operation has none.
+fn has_no_variables(request: &Request<'_>, plan: &Plan) -> bool
+    ensures { IsTrue result
+        → HasNoVariables (request_of request.now) plan.now }
+{
+    request.variables.is_none()
+        && plan.variables().is_empty()
+        && plan.operation().variables.is_empty()
 }
 
 impl RequestCache {
@@ -286,6 +296,9 @@ impl RequestCache {
             (PreparesRequest self.old.server (request_of request.now)) }
         ensures server { self.new.server ≡ self.old.server }
     {
+        if has_no_variables(request, kept.plan()) {
+            return Ok(PreparedRequest::Planned(kept));
+        }
         let plan = match plan_again(alloc, kept.plan(), request)? {
             RequestPlan::Refused(text) => return Ok(PreparedRequest::Refused(text)),
             RequestPlan::Planned(plan) => plan,

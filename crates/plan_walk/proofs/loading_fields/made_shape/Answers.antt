@@ -1,7 +1,6 @@
 use Rattle.std.specs.Arc.{arc_value}
 use Rattle.std.proofs.Common.{rules, ◌≡◌, ◌∙◌, true, ℕ, List, Vec, Global, ap, sym, subst, arith}
 use Rattle.schema_syntax.specs.Tree.{Definition}
-use Rattle.gq_check.specs.Plans.{PlanOf, plan_of}
 use Rattle.plan_program.specs.FieldValues.{PreparedOf}
 use Rattle.plan_program.specs.ObjectTypes.{name_in}
 use Rattle.plan_walk.specs.Groups.{children_at, type_prepared, IsOnly, AreMade}

@@ -1,6 +1,6 @@
 use Rattle.std.proofs.Common.{◌≡◌, ◌∙◌, ◌++◌, ◌∷◌, ◌+◌, [], ℕ, List, take, get_or, sym, ap, subst, arith}
 use Rattle.std.proofs.lemmas.List.{take_more, take_all}
-use Rattle.gq_check.specs.Plans.{PlanOf, plan_of}
+use Rattle.gq_check.specs.Plans.{plan_of}
 use Rattle.plan_program.specs.ObjectTypes.{name_in}
 use Rattle.plan_program.specs.Prepared.{prepared_seen}
 use Rattle.plan_program.specs.Seen.{groups_of}

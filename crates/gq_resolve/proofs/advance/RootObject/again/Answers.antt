@@ -10,7 +10,6 @@ use Rattle.gq_check.specs.Plans.{PlanOf, plan_of}
 use Rattle.plan_program.specs.Groups.{selections_in, collect}
 use Rattle.plan_program.specs.Seen.{groups_of}
 use Rattle.plan_walk.specs.Groups.{AreMadeAgain}
-use Rattle.plan_walk.specs.declared.loading_fields.LoadingField.{LoadingField}
 use Rattle.plan_walk.specs.declared.loading_fields.Member.{Member}
 use Rattle.plan_program.specs.Groups.{GroupOf}
 use Rattle.gq_resolve.proofs.Reusing.{again-reusable}
