@@ -11,6 +11,7 @@ use crate::prepared_plan::PreparedPlan;
 use crate::root_state::RootState;
 use execution::Execute;
 use futures::task::Poll;
+use gq_check::Plan;
 use load_memory::Memory;
 use load_queue::Wants;
 use std::alloc::{AllocError, Global};
@@ -64,6 +65,13 @@ impl LimitedPlan {
         ensures { result ≡ within (arc_value plan) most }
     {
         LimitedPlan { plan, most }
+    }
+
+    /// Returns the plan.
+    pub fn plan(&self) -> &Plan
+        ensures { result.now ≡ self.now.plan }
+    {
+        self.plan.plan()
     }
 }
 

@@ -4,8 +4,7 @@ use Rattle.std.proofs.lemmas.List.Elements.{All-nil, All-cons}
 use Rattle.gq_check.specs.Planned.{IsPlan}
 use Rattle.gq_check.specs.Plans.{PlanOf}
 use Rattle.request_line.specs.Requests.{RequestOf}
-use Rattle.plan_requests.specs.declared.plans.ArrayPlan.{ArrayPlan}
-use Rattle.plan_requests.specs.Planning.{IsRefused, HasPlan, refusals_of, plans_of, PlanValues, PlansArray}
+use Rattle.plan_requests.specs.Planning.{IsRefused, HasPlan, PlanValues}
 use Rattle.plan_requests.specs.Servers.{ServerOf}
 use Rattle.plan_requests.proofs.Requests.{planned-valid}
 
@@ -64,9 +63,3 @@ module _ (s : ServerOf) where
 
   pub plans-valid : (values : List (Option RequestOf)) (refusals : List (Option (List ℕ))) (plans : List PlanOf) → PlanValues s values refusals plans → All IsPlan plans
   plans-valid values refusals plans h = plans-all IsPlan plan-valid values refusals plans h
-
-  pub array-bound : (values : List (Option RequestOf)) (array : ArrayPlan) → PlansArray s values array → All (λ (p : PlanOf). p.bindings ≡ s.bindings) (plans_of array)
-  array-bound values array h = plans-bound values (refusals_of array) (plans_of array) h
-
-  pub array-valid : (values : List (Option RequestOf)) (array : ArrayPlan) → PlansArray s values array → All IsPlan (plans_of array)
-  array-valid values array h = plans-valid values (refusals_of array) (plans_of array) h

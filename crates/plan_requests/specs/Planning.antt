@@ -1,5 +1,6 @@
 -- Definitions of what requests ask of a server: their plans, and the texts that refuse the others.
-use Rattle.std.specs.Prelude.{◌≡◌, ℕ, false, List, [], ◌∷◌, ◌++◌, map, Option, Some, None, option_map, codes, string_bytes}
+use Rattle.std.specs.Prelude.{◌≡◌, ℕ, false, List, [], ◌∷◌, Option, Some, None, Result, Ok, Err, codes, String, string_bytes}
+use Rattle.std.specs.Global.{Global}
 use Rattle.text_place.specs.declared.place.Place.{Place}
 use Rattle.serde_json.specs.Data.{Data, null}
 use Rattle.gq_schema.specs.Types.{tree_of}
@@ -7,9 +8,6 @@ use Rattle.gq_check.specs.Plans.{PlanOf, PlanParts, IsSameBut, plan_of}
 use Rattle.answer_json.specs.Answer.{json_text, refusal_json}
 use Rattle.request_line.specs.Requests.{RequestOf, IsRequest, IsNoRequest}
 use Rattle.plan_requests.specs.declared.fault.RequestFault.{RequestFault}
-use Rattle.plan_requests.specs.declared.plans.ArrayPlan.{ArrayPlan}
-use Rattle.plan_requests.specs.declared.plans.RequestPlan.{RequestPlan}
-use Rattle.plan_requests.specs.declared.plans.RequestPlan.TheVariants as request_plan
 use Rattle.plan_requests.specs.Requests.{IsPlanOf, IsRequestFault, is_want_of_memory, request_message, request_place}
 use Rattle.plan_requests.specs.Servers.{ServerOf}
 
@@ -52,9 +50,9 @@ pub record IsRefusal (s : ServerOf) (request : RequestOf) (text : List ℕ) : Ty
   pub report : text ≡ refusal_text (request_message fault) (request_place fault)
 
 -- a request is refused by this text, or has this plan
-abbrev pub PlansRequest : ServerOf → RequestOf → RequestPlan → Type 0
-PlansRequest s asked (request_plan.Refused text) = IsRefusal s asked (string_bytes text)
-PlansRequest s asked (request_plan.Planned plan) = IsPlanned s asked (plan_of plan)
+abbrev pub PlansRequest : ServerOf → RequestOf → Result PlanParts (String Global) → Type 0
+PlansRequest s asked (Err text) = IsRefusal s asked (string_bytes text)
+PlansRequest s asked (Ok plan) = IsPlanned s asked (plan_of plan)
 
 -- ---- one operation for many requests
 
@@ -66,9 +64,9 @@ pub record HasOperation (s : ServerOf) (request : RequestOf) (plan : PlanOf) : T
   pub name : first.operation_name ≡ request.operation_name
 
 -- where a request has a plan, it is the given one but for its variables
-abbrev pub IsPlanAgain : PlanParts → RequestPlan → Type 0
-IsPlanAgain given (request_plan.Refused text) = Unit {0}
-IsPlanAgain given (request_plan.Planned plan) = IsSameBut given plan
+abbrev pub IsPlanAgain : PlanParts → Result PlanParts (String Global) → Type 0
+IsPlanAgain given (Err text) = Unit {0}
+IsPlanAgain given (Ok plan) = IsSameBut given plan
 
 -- ---- the values of an array
 
@@ -82,18 +80,6 @@ abbrev pub HasPlan : ServerOf → Option RequestOf → PlanOf → Type 0
 HasPlan s None plan = ⊥
 HasPlan s (Some request) plan = IsPlanned s request plan
 
--- a value of an array is refused by this text, or has this plan
-abbrev pub PlansValue : ServerOf → Option RequestOf → RequestPlan → Type 0
-PlansValue s value (request_plan.Refused text) = IsRefused s value (string_bytes text)
-PlansValue s value (request_plan.Planned plan) = HasPlan s value (plan_of plan)
-
--- the refusals of values, each in its place
-abbrev pub refusals_of : ArrayPlan → List (Option (List ℕ))
-refusals_of array = map (option_map string_bytes) array.refusals.items
-
-abbrev pub plans_of : ArrayPlan → List PlanOf
-plans_of array = map plan_of array.plans.items
-
 -- each value has its refusal, or none and the next plan
 abbrev pub PlanValues : ServerOf → List (Option RequestOf)
     → List (Option (List ℕ)) → List PlanOf → Type 0
@@ -106,15 +92,6 @@ PlanValues s (value ∷ values) (Some text ∷ refusals) plans = IsRefused s val
 PlanValues s (value ∷ values) (None ∷ refusals) [] = ⊥
 PlanValues s (value ∷ values) (None ∷ refusals) (plan ∷ plans) = HasPlan s value plan
     × PlanValues s values refusals plans
-
-abbrev pub PlansArray : ServerOf → List (Option RequestOf) → ArrayPlan → Type 0
-PlansArray s values array = PlanValues s values (refusals_of array) (plans_of array)
-
--- one value more has its refusal or its plan
-abbrev pub AddsPlan : ArrayPlan → RequestPlan → ArrayPlan → Type 0
-AddsPlan old plan new = (s : ServerOf) (values : List (Option RequestOf)) (value : Option RequestOf)
-    → PlansArray s values old → PlansValue s value plan
-    → PlansArray s (values ++ value ∷ []) new
 
 -- ---- lines
 

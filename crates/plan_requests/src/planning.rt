@@ -1,17 +1,16 @@
 //! Plans of requests, by the kept documents of their queries.
 
-ghost use Rattle.std.specs.Prelude.{◌≡◌, ◌≤◌, ℕ, List, IfOk, IfSome, IfNone, length, option_map, string_bytes};
+ghost use Rattle.std.specs.Prelude.{◌≡◌, ◌≤◌, ℕ, List, IfOk, IfSome, IfNone, length, string_bytes};
 ghost use Rattle.std.specs.List.{Contains};
-ghost use Rattle.request_line.specs.Seen.{request_of, requests_of};
+ghost use Rattle.request_line.specs.Seen.{request_of};
 ghost use Rattle.plan_requests.specs.DocumentCaches.{longest, AreBounded, HasRoom};
-ghost use Rattle.plan_requests.specs.Planning.{HasOperation, IsPlanAgain, IsRefusal, PlansRequest, PlansValue, PlansArray};
+ghost use Rattle.plan_requests.specs.Planning.{HasOperation, IsPlanAgain, IsRefusal, PlansRequest};
 ghost use Rattle.plan_requests.specs.Servers.{ServerOf};
 ghost use Rattle.gq_check.specs.Plans.{plan_of};
 
 use crate::document_cache::DocumentCache;
 use crate::fault::RequestFault;
-use crate::plans::{ArrayPlan, RequestPlan};
-use crate::refusal::{not_a_request, refusal};
+use crate::refusal::refusal;
 use gq_check::Plan;
 use request_line::Request;
 use serde_json::Value;
@@ -45,78 +44,33 @@ impl DocumentCache {
         }
     }
 
-    /// Keeps the documents of an array's requests, as far as there is room. What is wrong with one is found when it is planned.
-    pub fn cache_each(&mut self, alloc: Global, values: &[Option<Request<'_>>])
-        ensures { self.new.server ≡ self.old.server }
-    {
-        for value in values {
-            if let Some(request) = value {
-                let _ = self.cache_query(alloc, request.query);
-            }
-        }
-    }
-
-    /// Returns what a request asks. If the document of its query is kept, its plan shares it, and nothing is parsed. That
-    /// changes neither the plan nor the refusal.
+    /// Returns what a request asks: its plan, or the text that refuses it. If the document of its query is kept, its plan shares it, and
+    /// nothing is parsed. That changes neither the plan nor the refusal.
     ///
     /// # Errors
     ///
     /// Only when out of memory.
-    pub fn plan(&self, alloc: Global, request: &Request<'_>) -> Result<RequestPlan, AllocError>
+    pub fn plan(
+        &self,
+        alloc: Global,
+        request: &Request<'_>,
+    ) -> Result<Result<Plan, String>, AllocError>
         ensures { IfOk result (PlansRequest self.now.server (request_of request.now)) }
     {
         let none = Value::Null;
         let values = request.variables.unwrap_or(&none);
         match self.plan_query(alloc, request.query, request.operation_name, values) {
-            Ok(plan) => Ok(RequestPlan::Planned(plan)),
+            Ok(plan) => Ok(Ok(plan)),
             Err(fault) => match refusal(alloc, &fault) {
-                Ok(text) => Ok(RequestPlan::Refused(text)),
+                Ok(text) => Ok(Err(text)),
                 Err(_) => Err(AllocError),
             },
         }
     }
-
-    // Returns what a value of an array asks.
-    fn plan_value(
-        &self,
-        alloc: Global,
-        value: &Option<Request<'_>>,
-    ) -> Result<RequestPlan, AllocError>
-        ensures { IfOk result (PlansValue self.now.server (option_map request_of value.now)) }
-    {
-        match value {
-            Some(request) => self.plan(alloc, request),
-            None => Ok(RequestPlan::Refused(not_a_request(alloc)?)),
-        }
-    }
-
-    /// Returns what the values of an array ask, each as [`plan`](DocumentCache::plan) returns it. A value that is no request is
-    /// refused.
-    ///
-    /// # Errors
-    ///
-    /// Only when out of memory.
-    pub fn plan_each(
-        &self,
-        alloc: Global,
-        values: &[Option<Request<'_>>],
-    ) -> Result<ArrayPlan, AllocError>
-        ensures { IfOk result (PlansArray self.now.server (requests_of values.now)) }
-    {
-        let mut array = ArrayPlan::new(alloc);
-        for value in values {
-            let plan = match self.plan_value(alloc, value) {
-                Ok(plan) => plan,
-                Err(_) => return Err(AllocError),
-            };
-            array.push(plan)?;
-        }
-        Ok(array)
-    }
 }
 
-/// Returns what a request asks, by a plan of its operation for another request with the same query and the same name: that plan
-/// with the values of the request's own variables. Nothing is parsed or checked, but for the variables.
+/// Returns what a request asks, its plan or the text that refuses it, by a plan of its operation for another request with the same query
+/// and the same name: that plan with the values of the request's own variables. Nothing is parsed or checked, but for the variables.
 ///
 /// # Errors
 ///
@@ -125,7 +79,7 @@ pub fn plan_again(
     alloc: Global,
     plan: &Plan,
     request: &Request<'_>,
-) -> Result<RequestPlan, AllocError>
+) -> Result<Result<Plan, String>, AllocError>
     ensures plans { (s : ServerOf) → HasOperation s (request_of request.now) (plan_of plan.now)
         → IfOk result (PlansRequest s (request_of request.now)) }
     ensures same { IfOk result (IsPlanAgain plan.now) }
@@ -133,9 +87,9 @@ pub fn plan_again(
     let none = Value::Null;
     let given = request.variables.unwrap_or(&none);
     match plan.again(alloc, given) {
-        Ok(plan) => Ok(RequestPlan::Planned(plan)),
+        Ok(plan) => Ok(Ok(plan)),
         Err(fault) => match refusal(alloc, &RequestFault::Prepare(fault)) {
-            Ok(text) => Ok(RequestPlan::Refused(text)),
+            Ok(text) => Ok(Err(text)),
             Err(_) => Err(AllocError),
         },
     }

@@ -19,8 +19,6 @@ use Rattle.gq_resolve.specs.contracts.limited_plan.LimitedPlan as limited
 use Rattle.gq_resolve.specs.contracts.root_state.RootState as state
 use Rattle.gq_resolve.proofs.Crossing.{limited_send, prepared_send, prepared_sync, state_send}
 use Rattle.gq_resolve.proofs.PlanCrossing.{fragment_send, fragment_sync, operation_send, operation_sync, plan_send, schema_send, schema_sync}
-use Rattle.plan_requests.specs.contracts.plans.RequestPlan as request_plan
-use Rattle.plan_requests.specs.contracts.plans.ArrayPlan as array_plan
 use Rattle.load_rounds.proofs.session.Session.TheSendSync as session
 use Rattle.rounds_by_hand.proofs.hand.Hand.TheSendSync as hand
 use Rattle.request_line.specs.contracts.reader.LineReader as reader
@@ -49,12 +47,6 @@ kept_send = search (over.crosses, maps.crosses, sendable, schema_send, schema_sy
 
 pub kept_sync : IsSync kept.the_row
 kept_sync = search (over.crosses, maps.crosses, sendable, schema_send, schema_sync, operation_send, operation_sync, fragment_send, fragment_sync) depth 40 fits 10000
-
-pub request_plan_send : IsSend request_plan.the_row
-request_plan_send = search (over.crosses, maps.crosses, sendable, plan_send) depth 20
-
-pub array_plan_send : IsSend array_plan.the_row
-array_plan_send = search (over.crosses, maps.crosses, sendable, plan_send) depth 20
 
 pub documents_send : IsSend documents.the_row
 documents_send = kept_documents.documents_send server_send kept_send

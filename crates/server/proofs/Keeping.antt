@@ -24,12 +24,10 @@ use Rattle.plan_requests.proofs.Values.{refused-more, planned-more}
 use Rattle.server.specs.Answering.{Answered}
 use Rattle.server.specs.Answers.{refused, planned, stopped}
 use Rattle.server.specs.Clients.{ClientOf}
-use Rattle.server.specs.Kept.{HasNoVariables, IsPlanAt, NeedsLoaders, PreparesRequest, PreparesValue}
+use Rattle.server.specs.Kept.{HasNoVariables, IsPlanAt, NeedsLoaders, PreparedRequest, PreparesRequest, PreparesValue}
 use Rattle.server.specs.Planned.{AddsRequest, PlannedOf, PlansAll, PlansEach}
 use Rattle.server.specs.Plans.{AreLimited, plan_and_limit}
 use Rattle.server.specs.Runners.{RunsPlan}
-use Rattle.server.specs.declared.request_cache.PreparedRequest.{PreparedRequest}
-use Rattle.server.specs.declared.request_cache.PreparedRequest.TheVariants as prepared_request
 use Rattle.server.proofs.Loaders.{plan-many}
 
 -- ---- plans that are kept
@@ -47,18 +45,18 @@ planned-needs : (s : ServerOf) (plan : PlanOf) (loaders : ℕ) → loaders ≡ l
 planned-needs s plan loaders e same = omega (arith, e, ap (λ (b : BindingsOf). length b.loaders) same)
 
 pub prepared-needs : (s : ServerOf) (request : RequestOf) (asked : PreparedRequest) (loaders : ℕ) → loaders ≡ length s.bindings.loaders → PreparesRequest s request asked → NeedsLoaders loaders asked
-prepared-needs s request (prepared_request.Refused text) loaders e h = tt
-prepared-needs s request (prepared_request.Planned plan) loaders e h = planned-needs s (plan_of (arc_value plan)) loaders e h.bindings
+prepared-needs s request (Err text) loaders e h = tt
+prepared-needs s request (Ok plan) loaders e h = planned-needs s (plan_of (arc_value plan)) loaders e h.bindings
 
 pub value-needs : (s : ServerOf) (value : Option RequestOf) (asked : PreparedRequest) (loaders : ℕ) → loaders ≡ length s.bindings.loaders → PreparesValue s value asked → NeedsLoaders loaders asked
-value-needs s value (prepared_request.Refused text) loaders e h = tt
-value-needs s None (prepared_request.Planned plan) loaders e h = absurd h
-value-needs s (Some request) (prepared_request.Planned plan) loaders e h = planned-needs s (plan_of (arc_value plan)) loaders e h.bindings
+value-needs s value (Err text) loaders e h = tt
+value-needs s None (Ok plan) loaders e h = absurd h
+value-needs s (Some request) (Ok plan) loaders e h = planned-needs s (plan_of (arc_value plan)) loaders e h.bindings
 
 -- a request asks what the value asks that it is
 pub request-prepares : (s : ServerOf) (request : RequestOf) (asked : PreparedRequest) → PreparesRequest s request asked → PreparesValue s (Some request) asked
-request-prepares s request (prepared_request.Refused text) h = h
-request-prepares s request (prepared_request.Planned plan) h = h
+request-prepares s request (Err text) h = h
+request-prepares s request (Ok plan) h = h
 
 -- plans within a limit, and one more
 limited-more : (most : Option ℕ) (plans : List PlanOf) (limited : List LimitedPlanOf) (plan : PlanParts) → AreLimited most plans limited → AreLimited most (plans ++ plan_of plan ∷ []) (limited ++ within plan most ∷ [])
@@ -71,12 +69,12 @@ module _ (s : ServerOf) (most : Option ℕ) where
   -- one value more is planned
   pub each-more : (values : List (Option RequestOf)) (value : Option RequestOf) (old new : PlannedOf) (asked : PreparedRequest) → PlansEach s most values old → PreparesValue s value asked
       → AddsRequest most asked old new → PlansEach s most (values ++ value ∷ []) new
-  each-more values value old new (prepared_request.Refused text) h is add = record {
+  each-more values value old new (Err text) h is add = record {
     plans = h.plans;
     limited = subst (AreLimited most h.plans) (sym (add.plans ∙ append-nil old.plans)) h.limited;
     each = subst (λ rs. PlanValues s (values ++ value ∷ []) rs h.plans) (sym add.refusals) (refused-more s value values old.refusals h.plans (string_bytes text) h.each is);
   }
-  each-more values value old new (prepared_request.Planned plan) h is add =
+  each-more values value old new (Ok plan) h is add =
       let more = h.plans ++ plan_of (arc_value plan) ∷ [] in
       record {
         plans = more;

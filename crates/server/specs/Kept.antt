@@ -1,5 +1,5 @@
 -- Definitions of what is kept of a client's requests, and of what requests ask, prepared.
-use Rattle.std.specs.Prelude.{◌≡◌, ◌≤◌, ℕ, List, [], ◌∷◌, Option, Some, None, IfSome, length, string_bytes}
+use Rattle.std.specs.Prelude.{◌≡◌, ◌≤◌, ℕ, List, [], ◌∷◌, Option, Some, None, Result, Ok, Err, IfSome, length, String, string_bytes}
 use Rattle.std.specs.Arc.{arc_value}
 use Rattle.std.specs.declared.alloc.Global.{Global}
 use Rattle.std.specs.declared.sync.Arc.{Arc}
@@ -11,8 +11,6 @@ use Rattle.plan_requests.specs.Planning.{HasOperation, HasPlan, IsPlanned, IsRef
 use Rattle.plan_requests.specs.Servers.{ServerOf}
 use Rattle.text_cache.specs.TextCaches.{TextCacheOf, AreBounded, find, texts_of}
 use Rattle.text_cache.specs.declared.cache.CacheLimits.{CacheLimits}
-use Rattle.server.specs.declared.request_cache.PreparedRequest.{PreparedRequest}
-use Rattle.server.specs.declared.request_cache.PreparedRequest.TheVariants.{Refused, Planned}
 
 -- the server, the text under which the plan of the last request is kept, and those whose plans are kept
 pub record RequestCacheOf : Type 0 where
@@ -55,27 +53,31 @@ abbrev pub IsFoundFor : RequestCacheOf → Option SharedPlan → Type 0
 IsFoundFor kept found = (request : RequestOf) → IsKey kept.key request
     → IfSome found (λ plan. HasOperation kept.server request (plan_of (arc_value plan)))
 
+-- what a request asks, prepared: its plan, or the text that refuses it
+abbrev pub PreparedRequest : Type 0
+PreparedRequest = Result SharedPlan (String Global)
+
 -- a request is refused by this text, or has this plan
 abbrev pub PreparesRequest : ServerOf → RequestOf → PreparedRequest → Type 0
-PreparesRequest s asked (Refused text) = IsRefusal s asked (string_bytes text)
-PreparesRequest s asked (Planned plan) = IsPlanned s asked (plan_of (arc_value plan))
+PreparesRequest s asked (Err text) = IsRefusal s asked (string_bytes text)
+PreparesRequest s asked (Ok plan) = IsPlanned s asked (plan_of (arc_value plan))
 
 -- a value of an array is refused by this text, or has this plan
 abbrev pub PreparesValue : ServerOf → Option RequestOf → PreparedRequest → Type 0
-PreparesValue s value (Refused text) = IsRefused s value (string_bytes text)
-PreparesValue s value (Planned plan) = HasPlan s value (plan_of (arc_value plan))
+PreparesValue s value (Err text) = IsRefused s value (string_bytes text)
+PreparesValue s value (Ok plan) = HasPlan s value (plan_of (arc_value plan))
 
 -- its loaders are below this number
 abbrev pub NeedsLoaders : ℕ → PreparedRequest → Type 0
-NeedsLoaders loaders (Refused text) = Unit {0}
-NeedsLoaders loaders (Planned plan) = length (plan_of (arc_value plan)).bindings.loaders ≤ loaders
+NeedsLoaders loaders (Err text) = Unit {0}
+NeedsLoaders loaders (Ok plan) = length (plan_of (arc_value plan)).bindings.loaders ≤ loaders
 
 -- the refusal of a request, if it has no plan
 abbrev pub refusal_in : PreparedRequest → Option (List ℕ)
-refusal_in (Refused text) = Some (string_bytes text)
-refusal_in (Planned plan) = None
+refusal_in (Err text) = Some (string_bytes text)
+refusal_in (Ok plan) = None
 
 -- its plan within a limit, if it has one
 abbrev pub plans_in : Option ℕ → PreparedRequest → List LimitedPlanOf
-plans_in most (Refused text) = []
-plans_in most (Planned plan) = within (arc_value plan) most ∷ []
+plans_in most (Err text) = []
+plans_in most (Ok plan) = within (arc_value plan) most ∷ []

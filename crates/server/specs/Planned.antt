@@ -11,9 +11,8 @@ use Rattle.plan_requests.specs.Servers.{ServerOf}
 use Rattle.server.specs.Answers.{unasked, AnswersRequest, StopsRequest}
 use Rattle.server.specs.Arrays.{AnswersArray, StopsArray, array_text, in_places}
 use Rattle.server.specs.Plans.{AreLimited}
-use Rattle.server.specs.declared.request_cache.PreparedRequest.{PreparedRequest}
 use Rattle.server.specs.Clients.{ClientOf}
-use Rattle.server.specs.Kept.{refusal_in, plans_in}
+use Rattle.server.specs.Kept.{PreparedRequest, plans_in, refusal_in}
 use Rattle.server.specs.Lines.{AnswersText, StopsText}
 use Rattle.gq_resolve.specs.PreparedPlans.{LimitedPlanOf}
 

@@ -4,7 +4,7 @@ ghost use Rattle.server.specs.Answering.{AnswersLimited};
 ghost use Rattle.server.specs.Clients.{HasLoaders};
 ghost use Rattle.server.specs.Runners.{RunsEach};
 
-use crate::request_cache::{PreparedRequest, RequestCache};
+use crate::request_cache::RequestCache;
 use gq_resolve::LimitedPlan;
 use load_queue::LocalSource;
 use load_rounds::{Answer, Session};
@@ -38,7 +38,7 @@ pub(crate) fn answer_request<
         kept.old session.old result kept.new session.new }
 {
     match kept.prepare(asked.alloc, asked.request)? {
-        PreparedRequest::Refused(text) => Ok(Answer { text, rounds: 0 }),
-        PreparedRequest::Planned(plan) => run(session, &LimitedPlan::new(plan, asked.most)),
+        Err(text) => Ok(Answer { text, rounds: 0 }),
+        Ok(plan) => run(session, &LimitedPlan::new(plan, asked.most)),
     }
 }

@@ -13,6 +13,7 @@ use gq_resolve::{LimitedPlan, RootState};
 use load_memory::Item;
 use load_queue::{FetchFault, LocalSource};
 use load_rounds::Answer;
+use plan_requests::Server;
 use rounds_by_hand::{Advance, Hand, Pending, TakeFault};
 use std::alloc::{AllocError, Global};
 use std::marker::Model;
@@ -168,6 +169,13 @@ fn step_of(
 }
 
 impl<S> ByHand<S> {
+    /// The server of the client.
+    pub fn server(&self) -> &Server
+        ensures { result.now ≡ self.now.client.server }
+    {
+        self.queries.server()
+    }
+
     /// The orders of the round that is out, each with its reply once it is answered. There are none where no round is out.
     pub fn orders(&self) -> &[Pending]
         ensures { result.now ≡ pending_in self.now.far }

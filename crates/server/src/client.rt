@@ -85,6 +85,13 @@ impl<S> ClientSession<S> {
         self.max_answer = most;
     }
 
+    /// Returns at most how many bytes the text of an answer has, if there is a limit ([`limit_answers`](ClientSession::limit_answers)).
+    pub fn max_answer(&self) -> Option<usize>
+        ensures { result ≡ self.now.most }
+    {
+        self.max_answer
+    }
+
     /// The server.
     pub fn server(&self) -> &Server
         ensures server { result.now ≡ self.now.server }

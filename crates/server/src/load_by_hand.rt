@@ -10,6 +10,7 @@ use crate::client::ClientSession;
 use crate::queries::Queries;
 use load_memory::{Item, Key};
 use load_queue::{FetchFault, LocalSource};
+use plan_requests::Server;
 use rounds_by_hand::{LoadAdvance, LoadHand, Pending, TakeFault};
 use std::alloc::{AllocError, Global};
 use std::marker::Model;
@@ -85,6 +86,13 @@ impl<S> ClientSession<S> {
 }
 
 impl<S> LoadByHand<S> {
+    /// The server of the client.
+    pub fn server(&self) -> &Server
+        ensures { result.now ≡ self.now.client.server }
+    {
+        self.queries.server()
+    }
+
     /// The orders of the round that is out, each with its reply once it is answered. There are none where no round is out.
     pub fn orders(&self) -> &[Pending]
         ensures { result.now

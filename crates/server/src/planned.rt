@@ -1,18 +1,23 @@
 //! What was asked of a client, planned: refusals and plans.
 
-ghost use Rattle.std.specs.Prelude.{◌≡◌, [], ◌∷◌, true, false, Some, None, IfOk, OnOk, map, option_map, string_bytes};
+ghost use Rattle.std.specs.Prelude.{◌≡◌, ◌≤◌, [], ◌∷◌, true, false, Some, None, IfOk, OnOk, length, map, option_map, string_bytes};
+ghost use Rattle.gq_resolve.specs.Counting.{counted};
 ghost use Rattle.load_rounds.specs.SharedRounds.{report_of};
 ghost use Rattle.request_line.specs.Seen.{request_of, requests_of};
+ghost use Rattle.server.specs.Counts.{plans_read};
 ghost use Rattle.server.specs.Kept.{NeedsLoaders};
 ghost use Rattle.server.specs.Planned.{AddsRequest, PlansAll, is_refused};
+ghost use Rattle.server.specs.Plans.{limited_plan};
 
 use crate::arrays::array_answer;
-use crate::request_cache::{PreparedRequest, RequestCache};
-use gq_resolve::LimitedPlan;
-use load_rounds::Answer;
+use crate::counting::plans_read;
+use crate::request_cache::RequestCache;
+use gq_resolve::{LimitedPlan, PreparedPlan};
+use load_rounds::{Answer, Session};
 use plan_requests::{Request, not_a_request};
 use std::alloc::{AllocError, Global};
 use std::marker::Model;
+use std::sync::Arc;
 
 /// The form of a response: that of one request or of an array, with the refusals that stand in it.
 pub(crate) struct ResponseForm {
@@ -118,14 +123,18 @@ impl PlannedRequest {
     }
 
     // Adds what one request more asks, within a limit.
-    fn push(&mut self, prepared: PreparedRequest, most: Option<usize>) -> Result<(), AllocError>
+    fn push(
+        &mut self,
+        prepared: Result<Arc<PreparedPlan>, String>,
+        most: Option<usize>,
+    ) -> Result<(), AllocError>
         requires { NeedsLoaders self.old.loaders prepared }
         ensures { OnOk result
             (AddsRequest most prepared self.old self.new) }
     {
         match prepared {
-            PreparedRequest::Refused(text) => self.form.refusals.push(Some(text))?,
-            PreparedRequest::Planned(plan) => {
+            Err(text) => self.form.refusals.push(Some(text))?,
+            Ok(plan) => {
                 self.form.refusals.push(None)?;
                 self.plans.push(LimitedPlan::new(plan, most))?;
             }
@@ -137,7 +146,7 @@ impl PlannedRequest {
     fn alone(
         alloc: Global,
         loaders: usize,
-        prepared: PreparedRequest,
+        prepared: Result<Arc<PreparedPlan>, String>,
         most: Option<usize>,
     ) -> Result<PlannedRequest, AllocError>
         requires { NeedsLoaders loaders prepared }
@@ -154,6 +163,19 @@ impl PlannedRequest {
         ensures { result ≡ self.now.loaders }
     {
         self.loaders
+    }
+
+    /// Returns how many loads its plans read over what a session knows, one plan after another.
+    pub(crate) fn loads_read<S>(
+        &self,
+        alloc: Global,
+        session: &Session<S>,
+    ) -> Result<u64, AllocError>
+        requires { self.now.loaders ≤ length session.now.loaders }
+        ensures { IfOk result (λ count.
+            count ≡ counted (plans_read session.now (map limited_plan self.now.plans))) }
+    {
+        plans_read(alloc, session, &self.plans)
     }
 
     /// Tells whether it is one request, which is refused: nothing is asked then.
@@ -208,10 +230,5 @@ pub(crate) fn plan_none(
         most (None ∷ []) false) }
 {
     let text = not_a_request(alloc)?;
-    PlannedRequest::alone(
-        alloc,
-        kept.server().loaders(),
-        PreparedRequest::Refused(text),
-        most,
-    )
+    PlannedRequest::alone(alloc, kept.server().loaders(), Err(text), most)
 }

@@ -6,7 +6,6 @@ ghost use Rattle.server.specs.Clients.{HasLoaders};
 ghost use Rattle.server.specs.Counts.{CountsText};
 ghost use Rattle.server.specs.Planned.{PlansFor, one, several, text as asked_text};
 
-use crate::counting::line_read;
 use crate::planned::{PlannedRequest, plan_none, plan_one, plan_several};
 use crate::request_cache::RequestCache;
 use load_rounds::Session;
@@ -149,9 +148,7 @@ impl Queries {
         ensures counts { IfOk result (CountsText self.old session.now text.now) }
         ensures same { self.new ≡ self.old }
     {
-        match self.lines.read(alloc, text) {
-            Ok(line) => line_read(alloc, &self.kept, session, &line),
-            Err(_) => Err(AllocError),
-        }
+        let planned = self.plan_text(alloc, text, None)?;
+        planned.loads_read(alloc, session)
     }
 }

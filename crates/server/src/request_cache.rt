@@ -4,16 +4,14 @@ ghost use Rattle.std.specs.Prelude.{◌≡◌, IfOk, IfSome, IsTrue, option_map,
 ghost use Rattle.std.specs.Arc.{arc_value};
 ghost use Rattle.text_cache.specs.TextCaches.{AreBounded};
 ghost use Rattle.gq_check.specs.Plans.{IsSameBut, plan_of};
-ghost use Rattle.plan_requests.specs.Planning.{HasOperation, IsRefusal, PlansRequest, PlansArray};
+ghost use Rattle.plan_requests.specs.Planning.{HasOperation, IsRefusal, PlansRequest};
 ghost use Rattle.request_line.specs.Keys.{IsKey};
-ghost use Rattle.request_line.specs.Seen.{request_of, requests_of};
+ghost use Rattle.request_line.specs.Seen.{request_of};
 ghost use Rattle.server.specs.Kept.{HasNoVariables, IsFoundFor, IsPlanAt, PreparesRequest, PreparesValue, plan_limits};
 
 use gq_check::Plan;
 use gq_resolve::PreparedPlan;
-use plan_requests::{
-    ArrayPlan, DocumentCache, Request, RequestPlan, Server, not_a_request, plan_again,
-};
+use plan_requests::{DocumentCache, Request, Server, not_a_request, plan_again};
 use std::alloc::{AllocError, Global};
 use std::marker::Model;
 use std::sync::Arc;
@@ -27,15 +25,6 @@ const MOST_PLANS: CacheLimits = CacheLimits {
 
 /// Number of bytes of the longest query whose plan is kept.
 const LONGEST: usize = 32_768;
-
-/// What a request asks.
-#[derive(Drop)]
-pub(crate) enum PreparedRequest {
-    /// Nothing: it is refused, by the text of this response.
-    Refused(String),
-    /// Its plan is executed. It is shared with whoever answers the same request, and stays as long as one of them does.
-    Planned(Arc<PreparedPlan>),
-}
 
 /// What becomes of the plan of a request.
 #[derive(Clone, Copy)]
@@ -187,26 +176,11 @@ impl RequestCache {
         self.documents.keep(alloc, request)
     }
 
-    /// Returns what a request asks: [`DocumentCache::plan`].
-    pub(crate) fn plan(
-        &self,
-        alloc: Global,
-        request: &Request<'_>,
-    ) -> Result<RequestPlan, AllocError>
+    // Returns what a request asks: [`DocumentCache::plan`].
+    fn plan(&self, alloc: Global, request: &Request<'_>) -> Result<Result<Plan, String>, AllocError>
         ensures { IfOk result (PlansRequest self.now.server (request_of request.now)) }
     {
         self.documents.plan(alloc, request)
-    }
-
-    /// Returns what the values of an array ask: [`DocumentCache::plan_each`].
-    pub(crate) fn plan_each(
-        &self,
-        alloc: Global,
-        values: &[Option<Request<'_>>],
-    ) -> Result<ArrayPlan, AllocError>
-        ensures { IfOk result (PlansArray self.now.server (requests_of values.now)) }
-    {
-        self.documents.plan_each(alloc, values)
     }
 
     // Notes the key of a request, if it has one and its query isn't too long for its plan to be kept.
@@ -247,20 +221,20 @@ impl RequestCache {
         alloc: Global,
         request: &Request<'_>,
         plan_use: PlanUse,
-    ) -> Result<PreparedRequest, AllocError>
+    ) -> Result<Result<Arc<PreparedPlan>, String>, AllocError>
         ensures prepared { IfOk result
             (PreparesRequest self.old.server (request_of request.now)) }
         ensures server { self.new.server ≡ self.old.server }
         ensures key { self.new.key ≡ self.old.key }
     {
         if let Some(text) = self.keep(alloc, request, plan_use)? {
-            return Ok(PreparedRequest::Refused(text));
+            return Ok(Err(text));
         }
         match self.plan(alloc, request)? {
-            RequestPlan::Refused(text) => Ok(PreparedRequest::Refused(text)),
-            RequestPlan::Planned(plan) => {
+            Err(text) => Ok(Err(text)),
+            Ok(plan) => {
                 let plan = shared_plan(alloc, plan, plan_use)?;
-                Ok(PreparedRequest::Planned(plan))
+                Ok(Ok(plan))
             }
         }
     }
@@ -270,14 +244,14 @@ impl RequestCache {
         &mut self,
         alloc: Global,
         request: &Request<'_>,
-    ) -> Result<PreparedRequest, AllocError>
+    ) -> Result<Result<Arc<PreparedPlan>, String>, AllocError>
         requires { IsKey self.old.key (request_of request.now) }
         ensures prepared { IfOk result
             (PreparesRequest self.old.server (request_of request.now)) }
         ensures server { self.new.server ≡ self.old.server }
     {
         let prepared = self.prepare_anew(alloc, request, PlanUse::Kept)?;
-        if let PreparedRequest::Planned(plan) = &prepared {
+        if let Ok(plan) = &prepared {
             self.keep_plan(alloc, plan);
         }
         Ok(prepared)
@@ -289,7 +263,7 @@ impl RequestCache {
         alloc: Global,
         request: &Request<'_>,
         kept: Arc<PreparedPlan>,
-    ) -> Result<PreparedRequest, AllocError>
+    ) -> Result<Result<Arc<PreparedPlan>, String>, AllocError>
         requires { HasOperation self.old.server
             (request_of request.now) (plan_of (arc_value kept)) }
         ensures prepared { IfOk result
@@ -297,25 +271,26 @@ impl RequestCache {
         ensures server { self.new.server ≡ self.old.server }
     {
         if has_no_variables(request, kept.plan()) {
-            return Ok(PreparedRequest::Planned(kept));
+            return Ok(Ok(kept));
         }
         let plan = match plan_again(alloc, kept.plan(), request)? {
-            RequestPlan::Refused(text) => return Ok(PreparedRequest::Refused(text)),
-            RequestPlan::Planned(plan) => plan,
+            Err(text) => return Ok(Err(text)),
+            Ok(plan) => plan,
         };
         match shared_again(alloc, kept, plan)? {
-            Some(plan) => Ok(PreparedRequest::Planned(plan)),
+            Some(plan) => Ok(Ok(plan)),
             None => self.prepare_anew(alloc, request, PlanUse::Once),
         }
     }
 
-    /// Returns what a request asks: by the plan that is kept under its key, if there is one, or else what is planned of it now, which is
-    /// kept if the request has a key.
+    /// Returns what a request asks, its plan or the text that refuses it: by the plan that is kept under its key, if there is one, or else
+    /// what is planned of it now, which is kept if the request has a key. A plan is shared with whoever answers the same request, and
+    /// stays as long as one of them does.
     pub(crate) fn prepare(
         &mut self,
         alloc: Global,
         request: &Request<'_>,
-    ) -> Result<PreparedRequest, AllocError>
+    ) -> Result<Result<Arc<PreparedPlan>, String>, AllocError>
         ensures prepared { IfOk result
             (PreparesRequest self.old.server (request_of request.now)) }
         ensures server { self.new.server ≡ self.old.server }
@@ -334,14 +309,14 @@ impl RequestCache {
         &mut self,
         alloc: Global,
         value: &Option<Request<'_>>,
-    ) -> Result<PreparedRequest, AllocError>
+    ) -> Result<Result<Arc<PreparedPlan>, String>, AllocError>
         ensures prepared { IfOk result
             (PreparesValue self.old.server (option_map request_of value.now)) }
         ensures server { self.new.server ≡ self.old.server }
     {
         match value {
             Some(request) => self.prepare(alloc, request),
-            None => Ok(PreparedRequest::Refused(not_a_request(alloc)?)),
+            None => Ok(Err(not_a_request(alloc)?)),
         }
     }
 }

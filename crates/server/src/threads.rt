@@ -6,7 +6,7 @@ use crate::client::ClientSession;
 use crate::planned::PlannedRequest;
 use crate::queries::Queries;
 use gq_check::{CheckedDocument, Plan, PreparedDocument};
-use plan_requests::{ArrayPlan, DocumentCache, RequestPlan, Server};
+use plan_requests::{DocumentCache, Server};
 use std::marker::{Send, Sync};
 
 fn goes<T: Send>(_: &T) {}
@@ -39,14 +39,6 @@ fn prepared_document_is_shared(kept_document: &PreparedDocument) {
 
 fn checked_goes(checked: &CheckedDocument) {
     goes(checked)
-}
-
-fn request_plan_goes(request_plan: &RequestPlan) {
-    goes(request_plan)
-}
-
-fn array_plan_goes(array_plan: &ArrayPlan) {
-    goes(array_plan)
 }
 
 fn document_cache_goes(kept_documents: &DocumentCache) {
