@@ -1,6 +1,6 @@
-/* Every call, right and wrong, after every other: each move below is made on each of three handles, from each of nine states, after each other
+/* Every call, right and wrong, after every other: each move below is made on each of four handles, from each of nine states, after each other
    move; and then in long walks of moves drawn at random. A model of the handles tells which code is wanted. At the end of each sequence every
-   client still answers a request as it should.
+   client still answers a request as it should, and by all queries one is still answered so.
 
    abuse SCHEMA BINDINGS STRIDE
 
@@ -10,7 +10,7 @@
 #include <stdlib.h>
 #include <string.h>
 
-enum { HANDLES = 3, EMPTY = 0, SERVER = 1, CLIENT = 2 };
+enum { HANDLES = 4, EMPTY = 0, SERVER = 1, CLIENT = 2, QUERIES = 3 };
 enum { IDLE = 0, BEGUN = 1, OUT = 2, ANSWERED = 3, LOADED = 4 };
 /* What a client was asked: what is no request, a request, or keys to load. */
 enum { NO_REQUEST = 0, REQUEST = 1, LOAD = 2 };
@@ -23,7 +23,8 @@ typedef struct { int kind, phase, known, failed, asked, orders, asks[2], replied
 typedef struct { rz_handle at[HANDLES]; handle_model of[HANDLES]; } world;
 
 static byte_buffer schema, bindings;
-static rz_handle kept;
+/* The server and queries of it, and queries of a server with one loader. */
+static rz_handle kept, kept_queries, other_queries;
 static size_t calls, wrong;
 
 static const char *LINE = "{\"query\":\"{user(id:1){name best{name}} users{id}}\"}";
@@ -52,6 +53,10 @@ static int32_t of_client(const handle_model *model, int32_t code) { return model
 static int32_t of_server(const handle_model *model, int32_t code) { return model->kind == SERVER ? code : RZ_BAD_HANDLE; }
 static int is_busy(const handle_model *model) { return model->phase == BEGUN || model->phase == OUT; }
 static int32_t unless_busy(const handle_model *model, int32_t code) { return of_client(model, is_busy(model) ? RZ_BUSY : code); }
+/* The same of a call that begins by the queries of the next handle. */
+static int32_t if_lent(const world *w, int h, int32_t code) {
+    return w->of[(h + 1) % HANDLES].kind == QUERIES ? unless_busy(&w->of[h], code) : RZ_BAD_HANDLE;
+}
 static int32_t if_order(const handle_model *model, int order, int32_t code) {
     return of_client(model, model->phase == OUT && order < model->orders ? code : RZ_NO_ORDER);
 }
@@ -105,6 +110,11 @@ static int32_t go_on(handle_model *model) {
     else if (model->asked == LOAD && !has_round) make_load_round(model);
     else model->phase = model->asked == LOAD ? LOADED : ANSWERED;
     return model->phase == OUT ? RZ_ROUND : RZ_DONE;
+}
+
+/* The answer or the outcomes are let go, where a client isn't busy. */
+static void lets_go(handle_model *model) {
+    if (model->kind == CLIENT && !is_busy(model)) model->phase = IDLE;
 }
 
 static void begun(handle_model *model, int asked) {
@@ -166,6 +176,11 @@ static void makes_client_wrongly(world *w, int h) {
     CHECK(rz_client(&w->at[h], &w->at[other], limits, 6), of_server(&w->of[h], RZ_BAD_LIMIT));
 }
 
+static void makes_queries(world *w, int h) {
+    int other = (h + 2) % HANDLES;
+    if (CHECK(rz_queries(&w->at[h], &w->at[other]), of_server(&w->of[h], RZ_DONE))) hold(&w->of[other], QUERIES);
+}
+
 static void closes(world *w, int h) {
     rz_close(&w->at[h]);
     hold(&w->of[h], EMPTY);
@@ -175,22 +190,42 @@ static void closes(world *w, int h) {
 /* ---- Moves on requests. */
 
 static void begins(world *w, int h) {
-    if (CHECK(rz_begin(&w->at[h], TEXT(LINE)), unless_busy(&w->of[h], RZ_DONE))) begun(&w->of[h], REQUEST);
+    rz_handle *queries = &w->at[(h + 1) % HANDLES];
+    if (CHECK(rz_begin(&w->at[h], queries, TEXT(LINE)), if_lent(w, h, RZ_DONE))) begun(&w->of[h], REQUEST);
 }
 
 static void begins_no_request(world *w, int h) {
-    if (CHECK(rz_begin(&w->at[h], (const uint8_t *)"{\xff", 2), unless_busy(&w->of[h], RZ_DONE))) begun(&w->of[h], NO_REQUEST);
+    rz_handle *queries = &w->at[(h + 1) % HANDLES];
+    if (CHECK(rz_begin(&w->at[h], queries, (const uint8_t *)"{\xff", 2), if_lent(w, h, RZ_DONE))) begun(&w->of[h], NO_REQUEST);
 }
 
 static void begins_parts(world *w, int h) {
+    rz_handle *queries = &w->at[(h + 1) % HANDLES];
     const char *query = "query A($i:ID!){user(id:$i){name best{name}} users{id}} query B{users{id}}";
-    if (CHECK(rz_begin_request(&w->at[h], TEXT(query), TEXT("A"), TEXT("{\"i\":1}")), unless_busy(&w->of[h], RZ_DONE)))
+    if (CHECK(rz_begin_request(&w->at[h], queries, TEXT(query), TEXT("A"), TEXT("{\"i\":1}")), if_lent(w, h, RZ_DONE)))
         begun(&w->of[h], REQUEST);
 }
 
 static void begins_wrong_parts(world *w, int h) {
-    if (CHECK(rz_begin_request(&w->at[h], TEXT("{users{id}}"), TEXT(""), TEXT("[")), unless_busy(&w->of[h], RZ_DONE)))
+    rz_handle *queries = &w->at[(h + 1) % HANDLES];
+    if (CHECK(rz_begin_request(&w->at[h], queries, TEXT("{users{id}}"), TEXT(""), TEXT("[")), if_lent(w, h, RZ_DONE)))
         begun(&w->of[h], NO_REQUEST);
+}
+
+/* By nothing, and by a server. */
+static void begins_by_none(world *w, int h) {
+    rz_handle empty = {0};
+    CHECK(rz_begin(&w->at[h], &empty, TEXT(LINE)), RZ_BAD_HANDLE);
+    CHECK(rz_begin(&w->at[h], &kept, TEXT(LINE)), RZ_BAD_HANDLE);
+    CHECK(rz_begin_request(&w->at[h], &empty, TEXT("{a}"), TEXT(""), TEXT("")), RZ_BAD_HANDLE);
+    is_same("an empty handle", empty.at != NULL, 0);
+}
+
+static void begins_by_others(world *w, int h) {
+    handle_model *model = &w->of[h];
+    CHECK(rz_begin(&w->at[h], &other_queries, TEXT(LINE)), unless_busy(model, RZ_OTHER_SERVER));
+    CHECK(rz_begin_request(&w->at[h], &other_queries, TEXT("{a}"), TEXT(""), TEXT("")), unless_busy(model, RZ_OTHER_SERVER));
+    lets_go(model);
 }
 
 /* ---- Moves on loads. */
@@ -356,11 +391,6 @@ static void reads_answer(world *w, int h) {
 
 /* ---- Moves on what is known. */
 
-/* The answer or the outcomes are let go, where a client isn't busy. */
-static void lets_go(handle_model *model) {
-    if (model->kind == CLIENT && !is_busy(model)) model->phase = IDLE;
-}
-
 static void limits(world *w, int h) {
     CHECK(rz_limit_answers(&w->at[h], 5), unless_busy(&w->of[h], RZ_DONE));
     lets_go(&w->of[h]);
@@ -445,10 +475,11 @@ static void reads_log(world *w, int h) {
 typedef void move(world *w, int h);
 
 static move *const MOVES[] = {
-    opens, opens_wrongly, shares, reads_loaders, makes_client, makes_client_wrongly, closes, begins, begins_no_request, begins_parts,
-    begins_wrong_parts, goes_on, cancels, reads_orders, takes_first, takes_second, takes_no_order, takes_failed_first, takes_failed_second,
-    takes_wrong_counts, reads_answer, reads_orders_wrongly, takes_wrong_texts, takes_keyed, takes_wrong_faults, limits, restarts, primes, clears,
-    clears_all, knows_wrong_texts, knows_no_loader, reads_log, loads, loads_wrongly, reads_outcomes,
+    opens, opens_wrongly, shares, reads_loaders, makes_queries, makes_client, makes_client_wrongly, closes, begins, begins_no_request, begins_parts,
+    begins_wrong_parts, begins_by_none, begins_by_others, goes_on, cancels, reads_orders, takes_first, takes_second, takes_no_order,
+    takes_failed_first, takes_failed_second, takes_wrong_counts, reads_answer, reads_orders_wrongly, takes_wrong_texts, takes_keyed,
+    takes_wrong_faults, limits, restarts, primes, clears, clears_all, knows_wrong_texts, knows_no_loader, reads_log, loads, loads_wrongly,
+    reads_outcomes,
 };
 enum { MOVE_COUNT = sizeof MOVES / sizeof *MOVES, STATES = 9, PLACES = MOVE_COUNT * HANDLES, WALKS = 1000, WALK = 300 };
 
@@ -460,12 +491,13 @@ static void go_until_done(world *w, int h) {
     }
 }
 
-/* A server, a client in one of the states, and an empty handle. */
+/* A server, a client in one of the states, queries, and an empty handle. */
 static void start(world *w, int state) {
     *w = (world){0};
     MUST(rz_share(&kept, &w->at[0]));
     w->of[0].kind = SERVER;
     makes_client(w, 0);
+    makes_queries(w, 0);
     if (state >= 1) begins(w, 1);
     if (state >= 2) goes_on(w, 1);
     if (state >= 3) takes_second(w, 1);
@@ -477,15 +509,15 @@ static void start(world *w, int state) {
     if (state >= 8) go_until_done(w, 1);
 }
 
-/* Whatever was done, a client answers as it should. */
-static void still_answers(rz_handle *client) {
+/* Whatever was done, a client answers as it should, by queries that are as they were. */
+static void still_answers(rz_handle *client, rz_handle *queries) {
     host host = {.client = *client};
     const uint32_t rows[] = {1};
     *client = (rz_handle){0};
     rz_cancel(&host.client);
     CHECK(rz_limit_answers(&host.client, 0), RZ_DONE);
     CHECK(rz_restart(&host.client), RZ_DONE);
-    CHECK(rz_begin(&host.client, TEXT(LINE)), RZ_DONE);
+    CHECK(rz_begin(&host.client, queries, TEXT(LINE)), RZ_DONE);
     CHECK(rz_next(&host.client), RZ_ROUND);
     CHECK(rz_take_rows(&host.client, 1, 3, rows, 1, REPLY_ENDS, 6, TEXT(REPLY)), RZ_DONE);
     CHECK(rz_take_rows(&host.client, 0, 3, rows, 1, REPLY_ENDS, 6, TEXT(REPLY)), RZ_DONE);
@@ -499,8 +531,13 @@ static void still_answers(rz_handle *client) {
 
 static void finish(world *w) {
     for (int h = 0; h < HANDLES; h++) {
-        if (w->of[h].kind == CLIENT) still_answers(&w->at[h]);
-        else closes(w, h);
+        rz_handle client = {0};
+        if (w->of[h].kind == CLIENT) still_answers(&w->at[h], &kept_queries);
+        if (w->of[h].kind == QUERIES) {
+            MUST(rz_client(&kept, &client, NULL, 0));
+            still_answers(&client, &w->at[h]);
+        }
+        closes(w, h);
     }
 }
 
@@ -537,21 +574,38 @@ static void walk(int number) {
     if (wrong != before && wrong < 20) printf("in walk %d\n", number);
 }
 
+static void open_kept(char **words) {
+    const char *one_loader = "bindings 1\nloader byId users by id\nfield Query.user one byId arg id\n";
+    rz_handle other = {0};
+    rz_fault fault;
+    schema = read_file(words[1]);
+    bindings = read_file(words[2]);
+    kept = open_server(words[1], words[2]);
+    kept_queries = open_queries(&kept);
+    MUST(rz_open(&other, TEXT("type Query{user(id:ID!):User} type User{name:String!}"), TEXT(one_loader), &fault));
+    other_queries = open_queries(&other);
+    rz_close(&other);
+}
+
+static void close_kept(void) {
+    rz_close(&kept);
+    rz_close(&kept_queries);
+    rz_close(&other_queries);
+    free(schema.at);
+    free(bindings.at);
+}
+
 int main(int argc, char **argv) {
     if (argc != 4) {
         fprintf(stderr, "abuse SCHEMA BINDINGS STRIDE\n");
         return 2;
     }
     int stride = atoi(argv[3]), sequences = 0, walks = 0;
-    schema = read_file(argv[1]);
-    bindings = read_file(argv[2]);
-    kept = open_server(argv[1], argv[2]);
+    open_kept(argv);
     for (int number = 0; number < STATES * PLACES * PLACES; number += stride, sequences++)
         sequence(number % STATES, number / STATES % PLACES, number / STATES / PLACES);
     for (int number = 0; number < WALKS; number += stride, walks++) walk(number);
-    rz_close(&kept);
-    free(schema.at);
-    free(bindings.at);
+    close_kept();
     printf("%d sequences and %d walks, %zu calls, %zu wrong\n", sequences, walks, calls, wrong);
     return wrong != 0;
 }

@@ -70,15 +70,17 @@ int main(void) {
         fprintf(stderr, "the library has version %#x, and its header %#x\n", (unsigned)rz_version(), RZ_VERSION);
         return 1;
     }
-    rz_handle server = {0}, client = {0};
+    rz_handle server = {0}, queries = {0}, client = {0};
     rz_fault fault;
     const uint32_t most_keys = 1;
     must(rz_open(&server, TEXT(schema), TEXT(bindings), &fault));
+    must(rz_queries(&server, &queries));
     must(rz_client(&server, &client, &most_keys, 1));
-    must(rz_begin_request(&client, TEXT(query), TEXT(""), TEXT("")));
+    must(rz_begin_request(&client, &queries, TEXT(query), TEXT(""), TEXT("")));
     while (must(rz_next(&client)) == RZ_ROUND) ask(&client);
     print_answer(&client);
     rz_close(&client);
+    rz_close(&queries);
     rz_close(&server);
     return 0;
 }

@@ -308,6 +308,12 @@ rz_handle open_server(const char *schema_path, const char *bindings_path) {
     return server;
 }
 
+rz_handle open_queries(rz_handle *server) {
+    rz_handle queries = {0};
+    MUST(rz_queries(server, &queries));
+    return queries;
+}
+
 host open_host(rz_handle *server, const uint32_t *limits, asker *ask, void *source) {
     host host = {.ask = ask, .source = source, .loaders = read_loaders(server)};
     const uint32_t none[1] = {0};
@@ -420,18 +426,18 @@ void free_outcomes(outcomes *outcomes) {
 
 void answer_begun(host *host) { must(try_begun(host), "the answer"); }
 
-void answer_line(host *host, text line) {
-    MUST(rz_begin(&host->client, (const uint8_t *)line.at, line.len));
+void answer_line(host *host, rz_handle *queries, text line) {
+    MUST(rz_begin(&host->client, queries, (const uint8_t *)line.at, line.len));
     answer_begun(host);
 }
 
 int is_answer(const host *host, text wanted) { return same_text((text){(const char *)host->answer.at, host->answer.len}, wanted); }
 
-void answer_file(host *host, const char *path) {
+void answer_file(host *host, rz_handle *queries, const char *path) {
     line_list lines = read_lines(path);
     for (size_t number = 0; number < lines.count; number++) {
         MUST(rz_restart(&host->client));
-        answer_line(host, lines.at[number]);
+        answer_line(host, queries, lines.at[number]);
         fwrite(host->answer.at, 1, host->answer.len, stdout);
         putchar('\n');
     }

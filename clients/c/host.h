@@ -77,11 +77,13 @@ int32_t must(int32_t code, const char *call);
 #define MUST(call) must(call, #call)
 
 rz_handle open_server(const char *schema_path, const char *bindings_path);
+/* Queries of this server, of which a thread has one for all its clients. */
+rz_handle open_queries(rz_handle *server);
 /* A host with a new client of this server. limits has for each loader the most keys of a batch, or is NULL. */
 host open_host(rz_handle *server, const uint32_t *limits, asker *ask, void *source);
 void close_host(host *host);
-/* Answers a request that is JSON text. The answer and its rounds stay in the host up to the next one. */
-void answer_line(host *host, text line);
+/* Answers a request that is JSON text, by these queries. The answer and its rounds stay in the host up to the next one. */
+void answer_line(host *host, rz_handle *queries, text line);
 /* Answers what was begun; the second returns the code of the first call that is refused, and else RZ_DONE. */
 void answer_begun(host *host);
 int32_t try_begun(host *host);
@@ -93,6 +95,6 @@ typedef struct { word_buffer rows, columns, ends, fault_ends; byte_buffer bytes,
 int32_t try_loaded(host *host, outcomes *to);
 void free_outcomes(outcomes *outcomes);
 /* Answers each line of a file in a session of its own, and writes the answers to standard output. */
-void answer_file(host *host, const char *path);
+void answer_file(host *host, rz_handle *queries, const char *path);
 
 #endif

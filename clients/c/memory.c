@@ -5,7 +5,8 @@
        next call that is refused. Each failure is RZ_NO_MEMORY, or RZ_STOPPED after it; what was refused succeeds when it is tried again; all
        answers are the stored ones; and nothing is left at the end.
    memory flat PASSES QUERIES SERVERS SCHEMA BINDINGS REQUESTS ANSWERS NAME=FILE..
-       answers all lines PASSES times, then QUERIES new queries and as many more, and opens and frees SERVERS servers: the memory in use
+       counts the requests for memory of a query that was prepared before: they are fewer, for each client. It answers all lines PASSES times,
+       then QUERIES new queries and as many more, first short ones and then long ones, and opens and frees SERVERS servers: the memory in use
        doesn't grow.
 
    In the archive that this is linked with, malloc, realloc and free are renamed to counted_malloc, counted_realloc and counted_free. */
@@ -88,11 +89,11 @@ static rz_handle open_again(const files *files) {
     return server;
 }
 
-static int32_t begin(host *host, const request *asked) {
+static int32_t begin(host *host, rz_handle *queries, const request *asked) {
     const uint8_t *query = (const uint8_t *)asked->query.at, *operation = (const uint8_t *)asked->operation.at;
-    if (!query) return rz_begin(&host->client, (const uint8_t *)asked->line.at, asked->line.len);
-    return rz_begin_request(&host->client, query, asked->query.len, operation, asked->operation.len, (const uint8_t *)asked->variables.at,
-                            asked->variables.len);
+    if (!query) return rz_begin(&host->client, queries, (const uint8_t *)asked->line.at, asked->line.len);
+    return rz_begin_request(&host->client, queries, query, asked->query.len, operation, asked->operation.len,
+                            (const uint8_t *)asked->variables.at, asked->variables.len);
 }
 
 /* A request that memory ran out in is given up already, or waits for a reply that wasn't taken. */
@@ -103,14 +104,20 @@ static void give_up(host *host) {
     else if (code != RZ_IDLE) fault("a refused request goes on with", code);
 }
 
-static void answer_again(host *host, const request *asked) {
+/* Answers what was begun. Returns whether memory sufficed. */
+static int is_answered(host *host, const request *asked) {
+    int answers = !is_refused(try_begun(host));
+    if (!answers) give_up(host);
+    else if (!is_answer(host, asked->answer)) fault("another answer, of bytes", (long)host->answer.len);
+    return answers;
+}
+
+/* Where a request isn't begun, the answer before is let go. */
+static void answer_again(host *host, rz_handle *queries, const request *asked) {
     for (int turn = 0; turn < 3; turn++) {
-        if (is_refused(begin(host, asked))) continue;
-        if (!is_refused(try_begun(host))) {
-            if (!is_answer(host, asked->answer)) fault("another answer, of bytes", (long)host->answer.len);
-            return;
-        }
-        give_up(host);
+        if (!is_refused(begin(host, queries, asked))) {
+            if (is_answered(host, asked)) return;
+        } else if (rz_next(&host->client) != RZ_IDLE) fault("a request that wasn't begun goes on", 0);
     }
     fault("no answer", 0);
 }
@@ -131,29 +138,48 @@ static void load_again(host *host) {
     fault("no outcomes", 0);
 }
 
+/* A request from its parts, for the user of these variables. */
+static request user_asked(const char *variables, const char *answer) {
+    return (request){.query = text_of("query A($i: ID!){user(id:$i){name}}"), .operation = text_of("A"), .variables = text_of(variables),
+                     .answer = text_of(answer)};
+}
+
 /* Calls on what is known, a load, and a request from its parts. */
-static void change_known(host *host) {
+static void change_known(host *host, rz_handle *queries) {
     const uint8_t *key = (const uint8_t *)"1", *fields = (const uint8_t *)"idname1Eve";
     const uint32_t key_end[] = {1}, ends[] = {2, 6, 7, 10};
     uint32_t told = 9;
     rz_log_sizes_t sizes;
-    request asked = {.query = text_of("query A($i: ID!){user(id:$i){name}}"), .operation = text_of("A"), .variables = text_of("{\"i\":1}")};
-    asked.answer = text_of("{\"data\":{\"user\":{\"name\":\"Eve\"}}}");
+    request asked = user_asked("{\"i\":1}", "{\"data\":{\"user\":{\"name\":\"Eve\"}}}");
     AGAIN(rz_log_sizes(&host->client, 0, &sizes));
     AGAIN(rz_clear(&host->client, 0, key_end, 1, key, 1, &told));
     AGAIN(rz_prime(&host->client, 0, key_end, 1, key, 1, 2, 1, ends, 4, fields, 10, &told));
     if (told != 1) fault("primed is", (long)told);
     load_again(host);
-    answer_again(host, &asked);
+    answer_again(host, queries, &asked);
     AGAIN(rz_clear_all(&host->client, 0));
 }
 
-static void answer_all(host *host, const files *files) {
+static void answer_all(host *host, rz_handle *queries, const files *files) {
     for (size_t number = 0; number < files->requests.count; number++) {
         request asked = {.line = files->requests.at[number], .answer = files->answers.at[number]};
         AGAIN(rz_restart(&host->client));
-        answer_again(host, &asked);
+        answer_again(host, queries, &asked);
     }
+}
+
+/* Puts new queries in the place of these. Where that is refused, these stay, and answer. */
+static void renew_queries(rz_handle *server, rz_handle *queries, host *host, const request *asked) {
+    if (!is_refused(rz_queries(server, queries))) return;
+    answer_again(host, queries, asked);
+    AGAIN(rz_queries(server, queries));
+}
+
+/* Closes queries while a client answers by them. */
+static void close_queries(rz_handle *queries, host *host, const request *asked) {
+    int is_begun = !is_refused(begin(host, queries, asked));
+    rz_close(queries);
+    if (is_begun) is_answered(host, asked);
 }
 
 static host client_again(rz_handle *server, files *files) {
@@ -169,18 +195,24 @@ static void close_client(host *host) {
     close_host(host);
 }
 
-/* Opens a server and a client, answers all lines, and closes both. */
+/* Opens a server and queries, answers all lines by two clients, of which the second takes the plans that are kept, and closes all. */
 static void whole_run(files *files) {
-    rz_handle server = open_again(files), other = {0};
+    rz_handle server = open_again(files), other = {0}, queries = {0};
     rz_loader_sizes sizes;
+    request last = {.line = files->requests.at[0], .answer = files->answers.at[0]};
     AGAIN(rz_share(&server, &other));
     AGAIN(rz_loaders_sizes(&other, &sizes));
-    host host = client_again(&other, files);
+    AGAIN(rz_queries(&other, &queries));
+    host first = client_again(&other, files), second = client_again(&other, files);
     rz_close(&other);
-    answer_all(&host, files);
-    change_known(&host);
+    answer_all(&first, &queries, files);
+    answer_all(&second, &queries, files);
+    change_known(&first, &queries);
+    renew_queries(&server, &queries, &second, &last);
     rz_close(&server);
-    close_client(&host);
+    close_client(&first);
+    close_queries(&queries, &second, &last);
+    close_client(&second);
     if (in_use) fault("bytes that are left:", (long)in_use);
 }
 
@@ -205,28 +237,63 @@ static void fail_all(files *files) {
 
 /* ---- Memory that doesn't grow. */
 
-static void same_lines(host *host, files *files, size_t passes) {
+/* Begins a request, and gives it up. Returns how often memory was requested. */
+static size_t requests_of_begin(host *host, rz_handle *queries, const request *asked) {
+    size_t before = requests;
+    AGAIN(begin(host, queries, asked));
+    size_t taken = requests - before;
+    if (begin(host, queries, asked) != RZ_BUSY) fault("a client that isn't busy", 0);
+    rz_cancel(&host->client);
+    return taken;
+}
+
+/* A query is prepared for the first client that asks it, and then for none, whatever is refused meanwhile. */
+static void prepared_once(rz_handle *server, files *files) {
+    rz_handle queries = open_queries(server);
+    host one = client_again(server, files), two = client_again(server, files);
+    request asked = user_asked("{\"i\":1}", ""), other = user_asked("{\"i\":2}", "");
+    size_t first = requests_of_begin(&one, &queries, &asked), again = requests_of_begin(&one, &queries, &asked);
+    size_t for_other = requests_of_begin(&two, &queries, &other);
+    if (again >= first || for_other != again) fault("requests for memory, of another client:", (long)for_other);
+    printf("a query is begun with %zu requests for memory, and then with %zu by each client\n", first, again);
+    rz_close(&queries);
+    close_client(&one);
+    close_client(&two);
+}
+
+static void same_lines(host *host, rz_handle *queries, files *files, size_t passes) {
     size_t before = 0;
     for (size_t pass = 0; pass < passes; pass++) {
-        answer_all(host, files);
+        answer_all(host, queries, files);
         if (pass == 1) before = in_use;
         if (pass > 1 && in_use != before) fault("bytes in use after a pass:", (long)in_use);
     }
     printf("%zu times all lines: %zu bytes in use\n", passes, in_use);
 }
 
-/* Queries that are all different, so that the documents of the oldest are let go. Returns the most bytes in use. */
-static size_t new_queries(host *host, size_t from, size_t to) {
-    char query[64], answer[64];
+/* Queries that are all different, each with a name of so many digits and by a client of its own, so that documents and plans are let go. Returns
+   the most bytes in use. */
+static size_t new_queries(rz_handle *server, rz_handle *queries, files *files, int digits, size_t from, size_t to) {
+    char query[1200], answer[1200];
     most_in_use = 0;
     for (size_t number = from; number < to; number++) {
-        snprintf(query, sizeof query, "{a%08zu:user(id:1){name}}", number);
-        snprintf(answer, sizeof answer, "{\"data\":{\"a%08zu\":{\"name\":\"Ada\"}}}", number);
-        request asked = {.query = text_of(query), .operation = text_of(""), .variables = text_of(""), .answer = text_of(answer)};
-        AGAIN(rz_restart(&host->client));
-        answer_again(host, &asked);
+        snprintf(query, sizeof query, "query A{a%0*zu:user(id:1){name}} query B{__typename}", digits, number);
+        snprintf(answer, sizeof answer, "{\"data\":{\"a%0*zu\":{\"name\":\"Ada\"}}}", digits, number);
+        request asked = {.query = text_of(query), .operation = text_of("A"), .variables = text_of(""), .answer = text_of(answer)};
+        host host = client_again(server, files);
+        answer_again(&host, queries, &asked);
+        close_client(&host);
     }
     return most_in_use;
+}
+
+static void bounded_queries(rz_handle *server, files *files, int digits, size_t count) {
+    rz_handle queries = open_queries(server);
+    size_t first = new_queries(server, &queries, files, digits, 0, count);
+    size_t second = new_queries(server, &queries, files, digits, count, 2 * count);
+    rz_close(&queries);
+    if (second > first) fault("most bytes in use in the second half:", (long)second);
+    printf("%zu new queries of %d digits: at most %zu bytes in use, and %zu over as many more\n", count, digits, first, second);
 }
 
 static void many_servers(files *files, size_t servers) {
@@ -235,13 +302,14 @@ static void many_servers(files *files, size_t servers) {
 }
 
 static void flat(files *files, size_t passes, size_t queries, size_t servers) {
-    rz_handle server = open_again(files);
+    rz_handle server = open_again(files), lent = open_queries(&server);
     host host = client_again(&server, files);
-    same_lines(&host, files, passes);
-    size_t first = new_queries(&host, 0, queries), second = new_queries(&host, queries, 2 * queries);
-    if (second > first) fault("most bytes in use in the second half:", (long)second);
-    printf("%zu new queries: at most %zu bytes in use, and %zu over as many more\n", queries, first, second);
+    prepared_once(&server, files);
+    same_lines(&host, &lent, files, passes);
     close_client(&host);
+    rz_close(&lent);
+    bounded_queries(&server, files, 8, queries);
+    bounded_queries(&server, files, 1000, queries);
     rz_close(&server);
     many_servers(files, servers);
 }

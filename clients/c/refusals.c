@@ -34,46 +34,67 @@ static uint8_t *read_file(const char *path, size_t *len) {
 
 static const char *LINE = "{\"query\":\"{user(id:1){name best{name}}}\"}";
 
-/* Handles that are empty, or hold an object of another kind. */
-static void handles(rz_handle *server, rz_handle *client) {
-    rz_handle empty = {0}, other = {0};
+/* Queries of the server, which are lent to each begin. */
+static rz_handle queries;
+
+/* Calls on a client, with a handle that holds none. */
+static void no_client(rz_handle *handle) {
     rz_sizes_t sizes;
     rz_log_sizes_t log;
     rz_load_sizes_t load;
-    rz_loader_sizes loaders;
     uint32_t word, none[1];
     uint8_t byte[1];
-    rz_close(&empty);
-    WANTS(rz_next(&empty), RZ_BAD_HANDLE);
-    WANTS(rz_next(server), RZ_BAD_HANDLE);
-    WANTS(rz_begin(&empty, TEXT(LINE)), RZ_BAD_HANDLE);
-    WANTS(rz_begin(server, TEXT(LINE)), RZ_BAD_HANDLE);
-    WANTS(rz_begin_request(&empty, TEXT("{a}"), TEXT(""), TEXT("")), RZ_BAD_HANDLE);
-    WANTS(rz_begin_request(server, TEXT("{a}"), TEXT(""), TEXT("")), RZ_BAD_HANDLE);
-    WANTS(rz_share(&empty, &other), RZ_BAD_HANDLE);
-    WANTS(rz_share(client, &other), RZ_BAD_HANDLE);
-    WANTS(rz_client(&empty, &other, none, 0), RZ_BAD_HANDLE);
-    WANTS(rz_client(client, &other, none, 0), RZ_BAD_HANDLE);
-    WANTS(rz_sizes(server, &sizes), RZ_BAD_HANDLE);
-    WANTS(rz_orders(server, none, 0, none, 0, none, 0, none, 0, byte, 0), RZ_BAD_HANDLE);
-    WANTS(rz_take_rows(server, 0, 0, none, 0, none, 0, byte, 0), RZ_BAD_HANDLE);
-    WANTS(rz_take_keyed_rows(server, 0, 0, 0, NULL, 0, none, 0, byte, 0, &word), RZ_BAD_HANDLE);
-    WANTS(rz_take_keyed_rows(&empty, 0, 0, 0, NULL, 0, none, 0, byte, 0, &word), RZ_BAD_HANDLE);
-    WANTS(rz_take_failed(&empty, 0, TEXT("down")), RZ_BAD_HANDLE);
-    WANTS(rz_answer(server, byte, 0), RZ_BAD_HANDLE);
-    WANTS(rz_cancel(server), RZ_BAD_HANDLE);
-    WANTS(rz_restart(&empty), RZ_BAD_HANDLE);
-    WANTS(rz_limit_answers(server, 1), RZ_BAD_HANDLE);
-    WANTS(rz_clear_all(server, 0), RZ_BAD_HANDLE);
-    WANTS(rz_clear(server, 0, none, 0, byte, 0, &word), RZ_BAD_HANDLE);
-    WANTS(rz_log_sizes(&empty, 0, &log), RZ_BAD_HANDLE);
-    WANTS(rz_begin_load(&empty, 0, none, 0, none, 0, byte, 0), RZ_BAD_HANDLE);
-    WANTS(rz_begin_load(server, 0, none, 0, none, 0, byte, 0), RZ_BAD_HANDLE);
-    WANTS(rz_load_sizes(server, &load), RZ_BAD_HANDLE);
-    WANTS(rz_loaded(&empty, none, 0, none, 0, none, 0, byte, 0, none, 0, byte, 0), RZ_BAD_HANDLE);
-    WANTS(rz_loaded(server, none, 0, none, 0, none, 0, byte, 0, none, 0, byte, 0), RZ_BAD_HANDLE);
-    WANTS(rz_loaders_sizes(client, &loaders), RZ_BAD_HANDLE);
+    WANTS(rz_next(handle), RZ_BAD_HANDLE);
+    WANTS(rz_begin(handle, &queries, TEXT(LINE)), RZ_BAD_HANDLE);
+    WANTS(rz_begin_request(handle, &queries, TEXT("{a}"), TEXT(""), TEXT("")), RZ_BAD_HANDLE);
+    WANTS(rz_sizes(handle, &sizes), RZ_BAD_HANDLE);
+    WANTS(rz_orders(handle, none, 0, none, 0, none, 0, none, 0, byte, 0), RZ_BAD_HANDLE);
+    WANTS(rz_take_rows(handle, 0, 0, none, 0, none, 0, byte, 0), RZ_BAD_HANDLE);
+    WANTS(rz_take_keyed_rows(handle, 0, 0, 0, NULL, 0, none, 0, byte, 0, &word), RZ_BAD_HANDLE);
+    WANTS(rz_take_failed(handle, 0, TEXT("down")), RZ_BAD_HANDLE);
+    WANTS(rz_answer(handle, byte, 0), RZ_BAD_HANDLE);
+    WANTS(rz_cancel(handle), RZ_BAD_HANDLE);
+    WANTS(rz_restart(handle), RZ_BAD_HANDLE);
+    WANTS(rz_limit_answers(handle, 1), RZ_BAD_HANDLE);
+    WANTS(rz_prime(handle, 0, none, 0, byte, 0, 0, 0, none, 0, byte, 0, &word), RZ_BAD_HANDLE);
+    WANTS(rz_clear(handle, 0, none, 0, byte, 0, &word), RZ_BAD_HANDLE);
+    WANTS(rz_clear_all(handle, 0), RZ_BAD_HANDLE);
+    WANTS(rz_log_sizes(handle, 0, &log), RZ_BAD_HANDLE);
+    WANTS(rz_log(handle, 0, none, 0, none, 0, none, 0, none, 0, none, 0, byte, 0), RZ_BAD_HANDLE);
+    WANTS(rz_begin_load(handle, 0, none, 0, none, 0, byte, 0), RZ_BAD_HANDLE);
+    WANTS(rz_load_sizes(handle, &load), RZ_BAD_HANDLE);
+    WANTS(rz_loaded(handle, none, 0, none, 0, none, 0, byte, 0, none, 0, byte, 0), RZ_BAD_HANDLE);
+}
+
+/* Calls on a server, with a handle that holds none. The handle that they would put something into stays empty. */
+static void no_server(rz_handle *handle) {
+    rz_handle other = {0};
+    rz_loader_sizes loaders;
+    uint32_t none[1];
+    uint8_t byte[1];
+    WANTS(rz_share(handle, &other), RZ_BAD_HANDLE);
+    WANTS(rz_queries(handle, &other), RZ_BAD_HANDLE);
+    WANTS(rz_client(handle, &other, none, 0), RZ_BAD_HANDLE);
+    WANTS(rz_loaders_sizes(handle, &loaders), RZ_BAD_HANDLE);
+    WANTS(rz_loaders(handle, none, 0, none, 0, byte, 0), RZ_BAD_HANDLE);
     WANTS(other.at != NULL, 0);
+}
+
+/* Handles that are empty, or hold an object of another kind. */
+static void handles(rz_handle *server, rz_handle *client) {
+    rz_handle empty = {0}, others = {0};
+    rz_close(&empty);
+    WANTS(rz_queries(server, &others), RZ_DONE);
+    no_client(&empty);
+    no_client(server);
+    no_client(&others);
+    no_server(&empty);
+    no_server(client);
+    no_server(&others);
+    WANTS(rz_queries(client, &others), RZ_BAD_HANDLE);
+    WANTS(rz_begin(client, &others, TEXT(LINE)), RZ_DONE);
+    WANTS(rz_cancel(client), RZ_DONE);
+    rz_close(&others);
 }
 
 /* Schemas, bindings and limits that are refused. What the handle held stays. */
@@ -119,14 +140,14 @@ static void turns(rz_handle *client) {
     WANTS(rz_cancel(client), RZ_IDLE);
     WANTS(rz_answer(client, byte, 0), RZ_IDLE);
     WANTS(rz_take_rows(client, 0, 0, none, 0, none, 0, byte, 0), RZ_NO_ORDER);
-    WANTS(rz_begin(client, TEXT(LINE)), RZ_DONE);
-    WANTS(rz_begin(client, TEXT(LINE)), RZ_BUSY);
-    WANTS(rz_begin_request(client, TEXT("{a}"), TEXT(""), TEXT("")), RZ_BUSY);
+    WANTS(rz_begin(client, &queries, TEXT(LINE)), RZ_DONE);
+    WANTS(rz_begin(client, &queries, TEXT(LINE)), RZ_BUSY);
+    WANTS(rz_begin_request(client, &queries, TEXT("{a}"), TEXT(""), TEXT("")), RZ_BUSY);
     WANTS(rz_take_failed(client, 0, TEXT("down")), RZ_NO_ORDER);
     WANTS(rz_answer(client, byte, 0), RZ_IDLE);
     WANTS(rz_next(client), RZ_ROUND);
     WANTS(rz_next(client), RZ_WAITING);
-    WANTS(rz_begin(client, TEXT(LINE)), RZ_BUSY);
+    WANTS(rz_begin(client, &queries, TEXT(LINE)), RZ_BUSY);
     WANTS(rz_restart(client), RZ_BUSY);
     WANTS(rz_limit_answers(client, 9), RZ_BUSY);
     WANTS(rz_clear_all(client, 0), RZ_BUSY);
@@ -224,7 +245,7 @@ static void known(rz_handle *client) {
     WANTS(word, 1);
     WANTS(rz_prime(client, 0, ends, 1, TEXT("1"), 1, 0, fault_ends, 1, TEXT("id"), &word), RZ_DONE);
     WANTS(word, 0);
-    WANTS(rz_begin(client, TEXT(LINE)), RZ_DONE);
+    WANTS(rz_begin(client, &queries, TEXT(LINE)), RZ_DONE);
     WANTS(rz_next(client), RZ_DONE);
     WANTS(rz_sizes(client, &sizes), RZ_DONE);
     WANTS(sizes.rounds, 0);
@@ -248,7 +269,7 @@ static void print_answer(rz_handle *client) {
 
 /* Begins a request by its parts, which is answered at once. */
 static void answer_parts(rz_handle *client, const char *query, const char *operation, const char *variables) {
-    WANTS(rz_begin_request(client, TEXT(query), TEXT(operation), TEXT(variables)), RZ_DONE);
+    WANTS(rz_begin_request(client, &queries, TEXT(query), TEXT(operation), TEXT(variables)), RZ_DONE);
     WANTS(rz_next(client), RZ_DONE);
     print_answer(client);
 }
@@ -271,15 +292,15 @@ static void parts(rz_handle *client) {
 
 /* A request that is given up can be begun again; of an array each value has its answer, within the limit, or what it does wrong. */
 static void requests(rz_handle *client) {
-    WANTS(rz_begin(client, TEXT("{")), RZ_DONE);
+    WANTS(rz_begin(client, &queries, TEXT("{")), RZ_DONE);
     WANTS(rz_next(client), RZ_DONE);
     print_answer(client);
     WANTS(rz_limit_answers(client, 20), RZ_DONE);
-    WANTS(rz_begin(client, TEXT(LINE)), RZ_DONE);
+    WANTS(rz_begin(client, &queries, TEXT(LINE)), RZ_DONE);
     WANTS(rz_next(client), RZ_ROUND);
     WANTS(rz_cancel(client), RZ_DONE);
     WANTS(rz_next(client), RZ_IDLE);
-    WANTS(rz_begin(client, TEXT("[{\"query\":\"{user(id:1){name}}\"},{\"query\":\"{nosuch}\"},3]")), RZ_DONE);
+    WANTS(rz_begin(client, &queries, TEXT("[{\"query\":\"{user(id:1){name}}\"},{\"query\":\"{nosuch}\"},3]")), RZ_DONE);
     WANTS(rz_next(client), RZ_ROUND);
     WANTS(rz_take_failed(client, 0, TEXT("down")), RZ_DONE);
     WANTS(rz_next(client), RZ_DONE);
@@ -289,7 +310,7 @@ static void requests(rz_handle *client) {
 /* A reply of more rows than there can be, to an order of two keys. */
 static void many_rows(rz_handle *client) {
     const uint32_t rows[] = {UINT32_MAX - 1, 2}, ends[] = {2};
-    WANTS(rz_begin(client, TEXT("{\"query\":\"{a:user(id:1){id} b:user(id:2){id}}\"}")), RZ_DONE);
+    WANTS(rz_begin(client, &queries, TEXT("{\"query\":\"{a:user(id:1){id} b:user(id:2){id}}\"}")), RZ_DONE);
     WANTS(rz_next(client), RZ_ROUND);
     WANTS(rz_take_rows(client, 0, 1, rows, 2, ends, 1, TEXT("id")), RZ_TOO_MANY_ROWS);
     WANTS(rz_take_rows(client, 0, 0, rows, 2, ends, 1, TEXT("id")), RZ_TOO_MANY_ROWS);
@@ -303,7 +324,7 @@ static void keyed_rows(rz_handle *client) {
     const uint32_t ends[] = {4, 6, 9, 10, 13, 14}, other[] = {4, 6, 9, 10, 13, 14, 17, 18}, twice[] = {2, 4, 5, 6};
     uint32_t row = 9;
     WANTS(rz_take_keyed_rows(client, 0, 2, 0, NULL, 0, ends, 0, TEXT(""), &row), RZ_NO_ORDER);
-    WANTS(rz_begin(client, TEXT("{\"query\":\"{a:user(id:1){name} b:user(id:2){name} c:user(id:3){name}}\"}")), RZ_DONE);
+    WANTS(rz_begin(client, &queries, TEXT("{\"query\":\"{a:user(id:1){name} b:user(id:2){name} c:user(id:3){name}}\"}")), RZ_DONE);
     WANTS(rz_next(client), RZ_ROUND);
     WANTS(rz_take_keyed_rows(client, 1, 2, 2, NULL, 0, ends, 6, TEXT("nameidBob2Ada1"), &row), RZ_NO_ORDER);
     WANTS(rz_take_keyed_rows(client, 0, 2, 2, NULL, 0, ends, 6, TEXT("nameidBob2Ada\xff"), &row), RZ_NOT_UTF8);
@@ -332,7 +353,7 @@ static void keyed_faults(rz_handle *client) {
     const uint32_t ends[] = {4, 6, 9, 10, 13, 14, 18, 21}, other[] = {4, 6, 9, 10, 13, 14, 17, 18, 22}, alone[] = {4};
     const uint32_t second[] = {1}, both[] = {1, 2}, same[] = {1, 1}, falls[] = {2, 1}, past[] = {3}, far[] = {1, UINT32_MAX};
     uint32_t row = 9;
-    WANTS(rz_begin(client, TEXT("{\"query\":\"{a:user(id:1){name} b:user(id:2){name} c:user(id:3){name}}\"}")), RZ_DONE);
+    WANTS(rz_begin(client, &queries, TEXT("{\"query\":\"{a:user(id:1){name} b:user(id:2){name} c:user(id:3){name}}\"}")), RZ_DONE);
     WANTS(rz_next(client), RZ_ROUND);
     WANTS(rz_take_keyed_rows(client, 1, 2, 2, past, 1, ends, 7, TEXT("nameidBob2Ada1cast"), &row), RZ_NO_ORDER);
     WANTS(rz_take_keyed_rows(client, 0, 2, 2, past, 1, ends, 7, TEXT("nameidBob2Ada1cast"), &row), RZ_BAD_FAULTS);
@@ -357,7 +378,7 @@ static void keyed_faults(rz_handle *client) {
     WANTS(rz_next(client), RZ_DONE);
     print_answer(client);
     WANTS(rz_restart(client), RZ_DONE);
-    WANTS(rz_begin(client, TEXT("{\"query\":\"{a:user(id:1){name} b:user(id:2){name}}\"}")), RZ_DONE);
+    WANTS(rz_begin(client, &queries, TEXT("{\"query\":\"{a:user(id:1){name} b:user(id:2){name}}\"}")), RZ_DONE);
     WANTS(rz_next(client), RZ_ROUND);
     WANTS(rz_take_keyed_rows(client, 0, 0, 0, second, 1, alone, 1, TEXT("cast"), &row), RZ_DONE);
     WANTS(rz_next(client), RZ_DONE);
@@ -375,10 +396,10 @@ static void nulls(rz_handle *server) {
     WANTS(rz_code_name(RZ_NO_MEMORY, NULL, 0), 12);
     WANTS(rz_open(&opened, NULL, 0, NULL, 0, &fault), RZ_BAD_SCHEMA);
     WANTS(rz_client(server, &client, NULL, 0), RZ_DONE);
-    WANTS(rz_begin(&client, NULL, 0), RZ_DONE);
+    WANTS(rz_begin(&client, &queries, NULL, 0), RZ_DONE);
     WANTS(rz_next(&client), RZ_DONE);
     WANTS(rz_answer(&client, NULL, 0), RZ_BAD_SIZE);
-    WANTS(rz_begin_request(&client, TEXT("{user(id:1){name}}"), NULL, 0, NULL, 0), RZ_DONE);
+    WANTS(rz_begin_request(&client, &queries, TEXT("{user(id:1){name}}"), NULL, 0, NULL, 0), RZ_DONE);
     WANTS(rz_orders(&client, NULL, 0, NULL, 0, NULL, 0, NULL, 0, NULL, 0), RZ_DONE);
     WANTS(rz_next(&client), RZ_ROUND);
     WANTS(rz_sizes(&client, &sizes), RZ_DONE);
@@ -472,7 +493,7 @@ static void load_round(rz_handle *client) {
     uint8_t byte[1];
     WANTS(begin_keys(client, "122"), RZ_DONE);
     WANTS(begin_keys(client, "3"), RZ_BUSY);
-    WANTS(rz_begin(client, TEXT(LINE)), RZ_BUSY);
+    WANTS(rz_begin(client, &queries, TEXT(LINE)), RZ_BUSY);
     WANTS(rz_take_failed(client, 0, TEXT("down")), RZ_NO_ORDER);
     WANTS(rz_next(client), RZ_ROUND);
     WANTS(rz_next(client), RZ_WAITING);
@@ -553,14 +574,197 @@ static void loads(rz_handle *client) {
     WANTS(rz_load_sizes(client, &load), RZ_IDLE);
 }
 
+/* ---- Queries that are lent. */
+
+/* Begins the query of one user. */
+static int32_t begin_user(rz_handle *client, rz_handle *lent) {
+    return rz_begin_request(client, lent, TEXT("{user(id:1){name}}"), NULL, 0, NULL, 0);
+}
+
+/* What isn't to be lent to clients of examples/: an empty handle, a server, and of a server with one loader a client and queries. */
+typedef struct { rz_handle empty, server, client, queries; } strangers;
+
+static void open_strangers(strangers *others) {
+    const char *schema = "type Query{user(id:ID!):User} type User{name:String!}";
+    rz_fault fault;
+    *others = (strangers){0};
+    WANTS(rz_open(&others->server, TEXT(schema), TEXT("bindings 1\nloader byId users by id\nfield Query.user one byId arg id"), &fault), RZ_DONE);
+    WANTS(rz_queries(&others->server, &others->queries), RZ_DONE);
+    WANTS(rz_client(&others->server, &others->client, NULL, 0), RZ_DONE);
+    WANTS(begin_user(&others->client, &others->queries), RZ_DONE);
+    WANTS(rz_next(&others->client), RZ_ROUND);
+}
+
+/* Replies to an order of one key with a row of this name. */
+static void reply_name(rz_handle *client, const char *name) {
+    char bytes[32] = "name";
+    const uint32_t rows[] = {1}, ends[] = {4, 4 + (uint32_t)strlen(name)};
+    strcat(bytes, name);
+    WANTS(rz_take_rows(client, 0, 1, rows, 1, ends, 2, TEXT(bytes)), RZ_DONE);
+}
+
+/* The client of the strangers goes on with its round, and is answered by their queries again. */
+static void close_strangers(strangers *others) {
+    reply_name(&others->client, "Zoe");
+    WANTS(rz_next(&others->client), RZ_DONE);
+    print_answer(&others->client);
+    WANTS(begin_user(&others->client, &queries), RZ_OTHER_SERVER);
+    WANTS(begin_user(&others->client, &others->queries), RZ_DONE);
+    WANTS(rz_next(&others->client), RZ_DONE);
+    print_answer(&others->client);
+    rz_close(&others->server);
+    rz_close(&others->queries);
+    rz_close(&others->client);
+}
+
+/* Handles that hold no queries: this comes before all else. */
+static void lend_none(rz_handle *client, strangers *others) {
+    rz_handle *const none[] = {&others->empty, &others->server, &others->client};
+    for (size_t place = 0; place < 3; place++) {
+        WANTS(rz_begin(client, none[place], TEXT(LINE)), RZ_BAD_HANDLE);
+        WANTS(rz_begin(client, none[place], (const uint8_t *)"\xff", 1), RZ_BAD_HANDLE);
+        WANTS(begin_user(client, none[place]), RZ_BAD_HANDLE);
+        WANTS(rz_begin(&others->empty, none[place], TEXT(LINE)), RZ_BAD_HANDLE);
+    }
+    WANTS(others->empty.at != NULL, 0);
+}
+
+/* The queries of the strangers: RZ_BUSY comes first. */
+static void lend_others(rz_handle *client, strangers *others, int32_t code) {
+    WANTS(rz_begin(client, &others->queries, TEXT(LINE)), code);
+    WANTS(rz_begin(client, &others->queries, (const uint8_t *)"\xff", 1), code);
+    WANTS(begin_user(client, &others->queries), code);
+}
+
+/* Wrong queries while something is asked, of which nothing changes. */
+static void lend_busy(rz_handle *client, strangers *others) {
+    lend_none(client, others);
+    lend_others(client, others, RZ_BUSY);
+    WANTS(rz_begin(client, &queries, TEXT(LINE)), RZ_BUSY);
+    WANTS(begin_user(client, &queries), RZ_BUSY);
+}
+
+/* Queries of another server let an answer or outcomes go, and nothing else. */
+static void lend_idle(rz_handle *client, strangers *others) {
+    rz_sizes_t sizes;
+    rz_load_sizes_t load;
+    rz_log_sizes_t log;
+    uint8_t byte[1];
+    lend_others(client, others, RZ_OTHER_SERVER);
+    WANTS(rz_next(client), RZ_IDLE);
+    WANTS(rz_answer(client, byte, 0), RZ_IDLE);
+    WANTS(rz_load_sizes(client, &load), RZ_IDLE);
+    WANTS(rz_sizes(client, &sizes), RZ_DONE);
+    WANTS(sizes.answer + sizes.orders + sizes.rounds, 0);
+    WANTS(rz_log_sizes(client, 0, &log), RZ_DONE);
+    WANTS(log.batches, 1);
+}
+
+/* Wrong queries at each stage of a request and of a load, which go on as if nothing had been lent. */
+static void wrong_queries(rz_handle *server) {
+    strangers others;
+    rz_handle client = {0};
+    open_strangers(&others);
+    WANTS(rz_client(server, &client, NULL, 0), RZ_DONE);
+    lend_none(&client, &others);
+    lend_others(&client, &others, RZ_OTHER_SERVER);
+    WANTS(begin_user(&client, &queries), RZ_DONE);
+    lend_busy(&client, &others);
+    WANTS(rz_next(&client), RZ_ROUND);
+    lend_busy(&client, &others);
+    WANTS(rz_next(&client), RZ_WAITING);
+    reply_name(&client, "Ada");
+    lend_busy(&client, &others);
+    WANTS(rz_next(&client), RZ_DONE);
+    lend_none(&client, &others);
+    print_answer(&client);
+    lend_idle(&client, &others);
+    WANTS(begin_keys(&client, "1"), RZ_DONE);
+    lend_busy(&client, &others);
+    WANTS(rz_next(&client), RZ_DONE);
+    lend_none(&client, &others);
+    print_loaded(&client);
+    lend_idle(&client, &others);
+    WANTS(begin_user(&client, &queries), RZ_DONE);
+    WANTS(rz_next(&client), RZ_DONE);
+    print_answer(&client);
+    close_strangers(&others);
+    rz_close(&client);
+}
+
+/* Begins the query of two users by shared queries, and wants so many orders of it. */
+static void begin_users(rz_handle *client, const char *variables, size_t orders) {
+    rz_sizes_t sizes;
+    const char *query = "query($i:ID!,$j:ID!){a:user(id:$i){name} b:user(id:$j){name}}";
+    WANTS(rz_begin_request(client, &queries, TEXT(query), NULL, 0, TEXT(variables)), RZ_DONE);
+    WANTS(rz_next(client), orders ? RZ_ROUND : RZ_DONE);
+    WANTS(rz_sizes(client, &sizes), RZ_DONE);
+    WANTS(sizes.orders, orders);
+}
+
+/* Two clients with limits of their own answer the same query by the same queries at the same time, with values of their own. */
+static void shared_queries(rz_handle *server) {
+    rz_handle one = {0}, two = {0};
+    const uint32_t limits[] = {1, 0, 0, 0, 0, 0}, rows[] = {1, 1}, ends[] = {4, 7, 9}, row_ends[] = {4, 7};
+    WANTS(rz_client(server, &one, limits, 6), RZ_DONE);
+    WANTS(rz_client(server, &two, NULL, 0), RZ_DONE);
+    WANTS(rz_limit_answers(&two, 20), RZ_DONE);
+    begin_users(&one, "{\"i\":3,\"j\":1}", 2);
+    begin_users(&two, "{\"i\":2,\"j\":3}", 1);
+    reply_name(&one, "Cy");
+    WANTS(rz_take_rows(&one, 1, 1, rows, 1, row_ends, 2, TEXT("nameAda")), RZ_DONE);
+    WANTS(rz_take_rows(&two, 0, 1, rows, 2, ends, 3, TEXT("nameBobCy")), RZ_DONE);
+    WANTS(rz_next(&two), RZ_DONE);
+    WANTS(rz_next(&one), RZ_DONE);
+    print_answer(&one);
+    print_answer(&two);
+    WANTS(rz_limit_answers(&two, 0), RZ_DONE);
+    begin_users(&two, "{\"i\":2,\"j\":3}", 0);
+    print_answer(&two);
+    rz_close(&one);
+    rz_close(&two);
+}
+
+/* Queries that outlive the handle of their server, and are let go while a client is answering by them. */
+static void closed_queries(rz_handle *server) {
+    rz_handle shared = {0}, own = {0}, client = {0};
+    WANTS(rz_share(server, &shared), RZ_DONE);
+    WANTS(rz_queries(&shared, &own), RZ_DONE);
+    WANTS(rz_client(&shared, &client, NULL, 0), RZ_DONE);
+    rz_close(&shared);
+    WANTS(begin_user(&client, &own), RZ_DONE);
+    WANTS(rz_next(&client), RZ_ROUND);
+    rz_close(&own);
+    WANTS(own.at != NULL, 0);
+    WANTS(begin_user(&client, &own), RZ_BAD_HANDLE);
+    reply_name(&client, "Ada");
+    WANTS(rz_next(&client), RZ_DONE);
+    print_answer(&client);
+    WANTS(begin_user(&client, &queries), RZ_DONE);
+    WANTS(rz_queries(server, &queries), RZ_DONE);
+    WANTS(rz_next(&client), RZ_DONE);
+    print_answer(&client);
+    WANTS(rz_queries(server, &client), RZ_DONE);
+    WANTS(rz_next(&client), RZ_BAD_HANDLE);
+    rz_close(&client);
+}
+
+static void lent_queries(rz_handle *server) {
+    wrong_queries(server);
+    shared_queries(server);
+    closed_queries(server);
+}
+
+/* ---- All together. */
+
 /* The codes and their names. */
 static void codes(void) {
     uint8_t name[64];
     WANTS(rz_version() >= RZ_VERSION, 1);
     WANTS(rz_code_name(0, name, 64), 0);
-    WANTS(rz_code_name(-23, name, 64), 0);
+    WANTS(rz_code_name(-24, name, 64), 0);
     WANTS(rz_code_text(RZ_BAD_HANDLE, name, 3) > 3, 1);
-    for (int32_t code = -1; code >= -22; code--) {
+    for (int32_t code = -1; code >= -23; code--) {
         size_t len = rz_code_name(code, name, 64);
         WANTS(len > 3 && len < 64 && memcmp(name, "RZ_", 3) == 0, 1);
         printf("%d %.*s\n", code, (int)len, (char *)name);
@@ -580,6 +784,7 @@ int main(int argc, char **argv) {
     rz_close(&server);
     WANTS(rz_share(&other, &server), RZ_DONE);
     WANTS(rz_client(&server, &client, none, 0), RZ_DONE);
+    WANTS(rz_queries(&server, &queries), RZ_DONE);
     rz_close(&server);
     handles(&other, &client);
     opening(&other, schema, schema_len, bindings, bindings_len);
@@ -594,11 +799,13 @@ int main(int argc, char **argv) {
     nulls(&other);
     requests(&client);
     loads(&client);
+    lent_queries(&other);
     WANTS(rz_client(&other, &client, none, 0), RZ_DONE);
     WANTS(rz_next(&client), RZ_IDLE);
     rz_close(&client);
     rz_close(&client);
     WANTS(rz_next(&client), RZ_BAD_HANDLE);
+    rz_close(&queries);
     rz_close(&other);
     free(schema);
     free(bindings);

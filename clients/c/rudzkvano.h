@@ -1,9 +1,11 @@
 /* Rudzkvano for C: a GraphQL query executor with DataLoader batching, whose batches the caller runs.
 
-   A server is a schema with its bindings. A client has a memory of what the loaders returned, and answers one request at a time: rz_begin or
-   rz_begin_request starts it, and rz_next goes on until it returns RZ_DONE. Where it returns RZ_ROUND, a round of orders is out: rz_sizes and
-   rz_orders say which loader is to be asked for which keys, and rz_take_rows or rz_take_failed takes the reply to each order, in any order.
-   Then rz_next goes on. rz_answer copies the response, which is JSON text. A request that isn't valid is answered with its error.
+   A server is a schema with its bindings. Queries are what requests ask of a server, kept for those that come again: a thread has one handle of
+   them for each server, and lends it to all its clients. A client has a memory of what the loaders returned, and answers one request at a time:
+   rz_begin or rz_begin_request starts it, by the queries that are lent to that call, and rz_next goes on until it returns RZ_DONE. Where it
+   returns RZ_ROUND, a round of orders is out: rz_sizes and rz_orders say which loader is to be asked for which keys, and rz_take_rows or
+   rz_take_failed takes the reply to each order, in any order. Then rz_next goes on. rz_answer copies the response, which is JSON text. A request
+   that isn't valid is answered with its error.
 
    A client also loads keys of one loader: rz_begin_load starts it, it goes on as a request does, and rz_loaded copies an outcome for each key.
 
@@ -11,7 +13,8 @@
    since nothing points to it: of two copies of a handle that holds something only one may be used from then on. A call gets each handle once:
    the handles of one call are different structs. A handle is passed to one call at a time, from any thread, and passing it on to another
    thread is ordered by a lock, a thread's start or its end. To answer on several threads, give each one a server handle of its own by
-   rz_share. While a call runs, the handles it was given are empty. No call may be made from a signal handler, nor in the child of a fork.
+   rz_share, and queries of its own by rz_queries. While a call runs, the handles it was given are empty. No call may be made from a signal
+   handler, nor in the child of a fork.
 
    Memory. The library calls malloc, realloc and free. All data is copied: into buffers of the caller, or out of them before the call
    returns. A length counts elements. A pointer to a buffer of no elements may be null, and no other. Buffers that a call fills are given at
@@ -38,7 +41,7 @@ enum {
     RZ_ROUND = 1,           /* rz_next: a round of orders is out */
     RZ_WAITING = 2,         /* rz_next: an order of the round that is out has no reply yet */
     RZ_NO_MEMORY = -1,      /* out of memory */
-    RZ_BAD_HANDLE = -2,     /* the handle is empty, or holds an object of another kind */
+    RZ_BAD_HANDLE = -2,     /* a handle is empty, or holds an object of another kind */
     RZ_NOT_UTF8 = -3,       /* a text isn't UTF-8 */
     RZ_BAD_SCHEMA = -4,     /* the schema or the bindings are refused: the fault says why and where */
     RZ_BAD_SIZE = -5,       /* a buffer or a list hasn't the size that the call wants */
@@ -58,7 +61,8 @@ enum {
     RZ_TOO_MANY_ROWS = -19, /* more than 4,294,967,295 rows in one reply */
     RZ_NO_KEY_COLUMN = -20, /* rows in any order lack a column that their loader is by */
     RZ_NOT_ASKED = -21,     /* a row has a key that wasn't asked for */
-    RZ_BAD_FAULTS = -22     /* a fault is of no key of the order, or its key doesn't come after that of the fault before */
+    RZ_BAD_FAULTS = -22,    /* a fault is of no key of the order, or its key doesn't come after that of the fault before */
+    RZ_OTHER_SERVER = -23   /* the queries are of a server with another number of loaders */
 };
 
 /* In the place of a number of rows: the key has a fault, and one text says which. */
@@ -97,7 +101,8 @@ int32_t rz_open(rz_handle *server, const uint8_t *schema, size_t schema_len, con
 size_t rz_fault_text(const rz_fault *fault, const uint8_t *schema, size_t schema_len, const uint8_t *bindings, size_t bindings_len, uint8_t *bytes,
                      size_t bytes_len);
 
-/* Puts the same server into another handle too. It is freed with the last of its handles and clients. RZ_NO_MEMORY: other holds what it held. */
+/* Puts the same server into another handle too. It is freed with the last of its handles, queries and clients. RZ_NO_MEMORY: other holds what it
+   held. */
 int32_t rz_share(rz_handle *server, rz_handle *other);
 
 /* The loaders of the bindings, numbered from 0. kinds has one number for each: how many texts a key has (0 to 2), and 4 more where keys are
@@ -106,6 +111,16 @@ int32_t rz_share(rz_handle *server, rz_handle *other);
 typedef struct { size_t loaders, bytes; } rz_loader_sizes;
 int32_t rz_loaders_sizes(rz_handle *server, rz_loader_sizes *sizes);
 int32_t rz_loaders(rz_handle *server, uint32_t *kinds, size_t kinds_len, uint32_t *ends, size_t ends_len, uint8_t *bytes, size_t bytes_len);
+
+/* ---- Queries. */
+
+/* Puts queries of a server into a handle of their own, which keep nothing yet. They keep the plan of each request that is begun by them, prepared,
+   if its query has at most 32,768 bytes and is valid: the same query for the same operation is then neither parsed nor checked nor prepared again,
+   with whatever values of its variables, but for one that is true where it was false, or false where it was true, since @skip and @include look at
+   these. At most 2,048 plans are kept, whose queries have 262,144 bytes together, and half as many documents; where one more doesn't fit, all are let
+   go. No answer depends on what is kept. Any number of clients share them, and they may be closed while clients are answering. RZ_NO_MEMORY: queries
+   holds what it held. */
+int32_t rz_queries(rz_handle *server, rz_handle *queries);
 
 /* ---- Clients. */
 
@@ -118,28 +133,29 @@ int32_t rz_client(rz_handle *server, rz_handle *client, const uint32_t *limits, 
    refused with "answer too long", in the answer. It lets an answer or outcomes go. RZ_BUSY. */
 int32_t rz_limit_answers(rz_handle *client, size_t bytes);
 
-/* Forgets all keys, logs and rounds, and lets an answer or outcomes go. The limits of rz_client and rz_limit_answers stay, and the documents and
-   plans of queries that were read. RZ_BUSY; RZ_NO_MEMORY, and then an answer or outcomes are let go, and all else is as it was. */
+/* Forgets all keys, logs and rounds, and lets an answer or outcomes go. The limits of rz_client and rz_limit_answers stay. RZ_BUSY;
+   RZ_NO_MEMORY, and then an answer or outcomes are let go, and all else is as it was. */
 int32_t rz_restart(rz_handle *client);
 
 /* ---- Requests. */
 
-/* Begins the answer to a request that is JSON text, or to an array of 1 to 16 of these. What the text does wrong is answered. RZ_BUSY;
-   RZ_NO_MEMORY, and then an answer or outcomes that were there are let go. */
-int32_t rz_begin(rz_handle *client, const uint8_t *line, size_t line_len);
+/* Begins the answer to a request that is JSON text, or to an array of 1 to 16 of these. The queries' server plans it, and is to be that of the
+   client: another one with as many loaders isn't refused, and the orders are then for its loaders, by their numbers. What the text does wrong is
+   answered. RZ_BUSY; RZ_OTHER_SERVER; RZ_NO_MEMORY. Refused by the last two, an answer or outcomes that were there are let go. */
+int32_t rz_begin(rz_handle *client, rz_handle *queries, const uint8_t *line, size_t line_len);
 
 /* Begins the answer to a query. operation is the name of the operation to run, and empty for none. variables is the JSON text of an object, and
-   empty for none. What these texts do wrong is answered, as in a request that is JSON text. RZ_BUSY, RZ_NO_MEMORY as above. */
-int32_t rz_begin_request(rz_handle *client, const uint8_t *query, size_t query_len, const uint8_t *operation, size_t operation_len,
-                         const uint8_t *variables, size_t variables_len);
+   empty for none. What these texts do wrong is answered, as in a request that is JSON text. RZ_BUSY, RZ_OTHER_SERVER, RZ_NO_MEMORY as above. */
+int32_t rz_begin_request(rz_handle *client, rz_handle *queries, const uint8_t *query, size_t query_len, const uint8_t *operation,
+                         size_t operation_len, const uint8_t *variables, size_t variables_len);
 
 /* Gives up the request that is being answered, or the keys that are loaded. The finished rounds stay known, and the round that is out is lost.
    RZ_IDLE where there is none. */
 int32_t rz_cancel(rz_handle *client);
 
 /* Goes on. RZ_DONE: there is an answer, or what was to be loaded is. RZ_ROUND: a round is out. RZ_WAITING: an order of it has no reply yet, and
-   nothing changes. RZ_IDLE where nothing was begun. RZ_NO_MEMORY, and RZ_STOPPED after a reply that memory ran out at: the request or the load is given up. The
-   finished rounds stay known. */
+   nothing changes. RZ_IDLE where nothing was begun. RZ_NO_MEMORY, and RZ_STOPPED after a reply that memory ran out at: the request or the load is
+   given up. The finished rounds stay known. */
 int32_t rz_next(rz_handle *client);
 
 /* What the buffers of rz_orders and rz_answer have to hold; 0 of a round where none is out, as before the first rz_next, and of an answer where

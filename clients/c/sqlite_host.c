@@ -183,11 +183,12 @@ int main(int argc, char **argv) {
     }
     if (sqlite3_open(":memory:", &database) != SQLITE_OK) fail(database);
     for (int word = 4; word < argc; word++) load_table(database, argv[word]);
-    rz_handle server = open_server(argv[1], argv[2]);
+    rz_handle server = open_server(argv[1], argv[2]), queries = open_queries(&server);
     word_buffer limits = most_keys(&server);
     host host = open_host(&server, limits.at, ask_database, database);
-    answer_file(&host, argv[3]);
+    answer_file(&host, &queries, argv[3]);
     close_host(&host);
+    rz_close(&queries);
     rz_close(&server);
     free(limits.at);
     sqlite3_close(database);

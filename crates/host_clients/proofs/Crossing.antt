@@ -28,13 +28,13 @@ session_send : IsSend (session.the_row handed_in.the_row)
 session_send = client_send handed_in.the_row handed_in_crosses.the_send
 
 answered_inside_send : IsSend answered_inside.the_row
-answered_inside_send = declared_send answered_inside.the_type (session_send, (search (over.crosses, sendable) depth 20, (search sendable depth 20, (note_crosses.the_send, tt))))
+answered_inside_send = declared_send answered_inside.the_type (session_send, (search (over.crosses, sendable) depth 20, (search sendable depth 20, (note_crosses.the_send, (search (over.crosses, sendable) depth 20, tt)))))
 
 answered_send : IsSend answered.the_row
 answered_send = let i = answered_inside_send in record { owned = λ d vs x. (i.owned x.0 vs, tt); leaving = λ k d w. tt }
 
 under_way_inside_send : IsSend under_way_inside.the_row
-under_way_inside_send = declared_send under_way_inside.the_type (request_by_hand_send handed_in.the_row handed_in_crosses.the_send, (server_send, (orders_cross.the_send, (note_crosses.the_send, tt))))
+under_way_inside_send = declared_send under_way_inside.the_type (request_by_hand_send handed_in.the_row handed_in_crosses.the_send, (orders_cross.the_send, (note_crosses.the_send, (search (over.crosses, sendable) depth 20, tt))))
 
 under_way_send : IsSend under_way.the_row
 under_way_send = let i = under_way_inside_send in record { owned = λ d vs x. (i.owned x.0 vs, tt); leaving = λ k d w. tt }
@@ -48,7 +48,7 @@ by_hand_send : IsSend (by_hand.the_row handed_in.the_row)
 by_hand_send = let i = by_hand_inside_send in record { owned = λ d vs x. (i.owned x.0 vs, tt); leaving = λ k d w. tt }
 
 loading_inside_send : IsSend loading_inside.the_row
-loading_inside_send = declared_send loading_inside.the_type (by_hand_send, (server_send, (orders_cross.the_send, tt)))
+loading_inside_send = declared_send loading_inside.the_type (by_hand_send, (orders_cross.the_send, tt))
 
 loading_send : IsSend loading.the_row
 loading_send = let i = loading_inside_send in record { owned = λ d vs x. (i.owned x.0 vs, tt); leaving = λ k d w. tt }
@@ -63,7 +63,7 @@ held_client_send : IsSend client.the_row
 held_client_send = search (over.crosses, sendable, session_send, under_way_send, answered_send, loading_send, loaded_send) depth 20
 
 variants : VariantsHave IsSend object.the_type.parts
-variants = ((server_send, tt), ((held_client_send, tt), tt))
+variants = ((server_send, tt), ((held_client_send, tt), ((search queries_send, tt), tt)))
 
 -- the parts say all of the record
 pub object_send : IsSend object.the_row

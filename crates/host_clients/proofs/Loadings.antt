@@ -13,7 +13,6 @@ use Rattle.rounds_by_hand.specs.LoadHands.{AdvancesLoad, IsSameLoad, LoadGoesOn,
 use Rattle.rounds_by_hand.specs.Pending.{TakesAnswer, order_in}
 use Rattle.rounds_by_hand.specs.declared.load_hand.LoadAdvance.TheVariants.{Loaded, Round}
 use Rattle.rounds_by_hand.specs.declared.pending.Pending.TheVariants.{Out}
-use Rattle.plan_requests.specs.Servers.{ServerOf}
 use Rattle.server.specs.Clients.{ClientOf, IsClientCall, IsSameClient}
 use Rattle.server.specs.LoadsByHand.{LoadByHandOf, ClientLoads, ClientStopsLoad, ClientStores, load_by_hand_of, load_in}
 use Rattle.rounds_by_hand.specs.declared.handed_in.HandedIn.{HandedIn}
@@ -22,11 +21,10 @@ use Rattle.host_clients.specs.Loads.{KeysOf, IsLoadOf, AreOutcomesOf, HoldsLoadi
 use Rattle.host_clients.proofs.Underway.{may-answer, orders-kept}
 
 -- a load is begun
-pub holds-load-begun : (hand : LoadByHandOf HandedIn) (c : ClientOf HandedIn) (server : ServerOf) (loader : ℕ) (keys : List KeyOf) (orders : List OrderOf) → hand ≡ load_by_hand_of c loader keys handed
-    → server ≡ c.server → orders ≡ [] → HoldsLoading hand server orders
-holds-load-begun hand c server loader keys orders is same none = rw (is, none) (record {
+pub holds-load-begun : (hand : LoadByHandOf HandedIn) (c : ClientOf HandedIn) (loader : ℕ) (keys : List KeyOf) (orders : List OrderOf) → hand ≡ load_by_hand_of c loader keys handed
+    → orders ≡ [] → HoldsLoading hand orders
+holds-load-begun hand c loader keys orders is none = rw (is, none) (record {
   is_of = record { begun = c; of_server = refl; underway = refl };
-  server_is = same;
   orders_are = refl;
 })
 
@@ -47,8 +45,8 @@ module _ (old new : LoadByHandOf HandedIn) (keys : IsSameLoad (load_in old) (loa
     is-load-of-after : IsLoadOf old → IsLoadOf new
     is-load-of-after of = record { begun = of.begun; of_server = client.server ∙ of.of_server; underway = goes of.begun.session of.underway }
 
-    pub holds-load-after : (server : ServerOf) (before orders : List OrderOf) → HoldsLoading old server before → orders ≡ load_orders new → HoldsLoading new server orders
-    holds-load-after server before orders h are = record { is_of = is-load-of-after h.is_of; server_is = h.server_is ∙ sym client.server; orders_are = are }
+    pub holds-load-after : (before orders : List OrderOf) → HoldsLoading old before → orders ≡ load_orders new → HoldsLoading new orders
+    holds-load-after before orders h are = record { is_of = is-load-of-after h.is_of; orders_are = are }
 
     pub makes-load-round : AdvancesLoad (load_in old) (load_in new) Round → ClientStores old new.client → MakesLoadRound old new
     makes-load-round round stored = record { first = round.0; same_keys = keys; same = client; goes_on = goes; stored = stored; round = round.1 }
@@ -93,10 +91,10 @@ module _ (old new : LoadByHandOf HandedIn) (number : ℕ) (answer : Result (Vec 
   goes-on-taken : LoadGoesOn any_tell (load_in old) (load_in new)
   goes-on-taken = (rw takes.was at goes) (may-answer old.client.session.loaders (order_in (Out takes.order)) answer)
 
-  pub holds-load-taken : (server : ServerOf) (orders : List OrderOf) → HoldsLoading old server orders → HoldsLoading new server orders
-  holds-load-taken server orders h =
+  pub holds-load-taken : (orders : List OrderOf) → HoldsLoading old orders → HoldsLoading new orders
+  holds-load-taken orders h =
       holds-load-after old new keys goes-on-taken
-      (record { server = ap (λ (x : ClientOf HandedIn). x.server) client; most = ap (λ (x : ClientOf HandedIn). x.most) client }) server orders orders h
+      (record { server = ap (λ (x : ClientOf HandedIn). x.server) client; most = ap (λ (x : ClientOf HandedIn). x.most) client }) orders orders h
       (h.orders_are ∙ sym (orders-kept _ _ number answer takes))
 
   pub takes-for-load : TakesForLoad number answer old new
@@ -108,9 +106,9 @@ pub load-stopped-at : (old new : LoadByHandOf HandedIn) (number : ℕ) → LoadG
 load-stopped-at old new number goes client keys waited is = record { same_keys = keys; client_is = client; goes_on = goes; waited = waited; is_over = is }
 
 -- no orders are left where memory ran out
-pub holds-load-over : (old new : LoadByHandOf HandedIn) (server : ServerOf) (before orders : List OrderOf) → LoadGoesOn any_tell (load_in old) (load_in new) → new.client ≡ old.client
-    → IsSameLoad (load_in old) (load_in new) → new.far ≡ over → orders ≡ [] → HoldsLoading old server before → HoldsLoading new server orders
-holds-load-over old new server before orders goes client keys is none h =
+pub holds-load-over : (old new : LoadByHandOf HandedIn) (before orders : List OrderOf) → LoadGoesOn any_tell (load_in old) (load_in new) → new.client ≡ old.client
+    → IsSameLoad (load_in old) (load_in new) → new.far ≡ over → orders ≡ [] → HoldsLoading old before → HoldsLoading new orders
+holds-load-over old new before orders goes client keys is none h =
     holds-load-after old new keys goes
-    (record { server = ap (λ (x : ClientOf HandedIn). x.server) client; most = ap (λ (x : ClientOf HandedIn). x.most) client }) server before orders h
+    (record { server = ap (λ (x : ClientOf HandedIn). x.server) client; most = ap (λ (x : ClientOf HandedIn). x.most) client }) before orders h
     (none ∙ sym (ap (λ far. map order_in (load_pending_in far)) is))

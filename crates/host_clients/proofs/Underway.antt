@@ -1,6 +1,6 @@
 -- Lemmas on what is on its way to the answer, after a call of what is done by hand.
 use Rattle.std.proofs.Common.{◌≡◌, ◌∙◌, ℕ, zero, suc, List, [], ◌∷◌, map, refl, sym, ap, subst, string_bytes, Ok, Err, Some}
-use Rattle.std.specs.Prelude.{Result, IfSome, slice_get}
+use Rattle.std.specs.Prelude.{Result, Option, IfSome, slice_get}
 use Rattle.std.specs.List.{slice_set}
 use Rattle.std.specs.Global.{Vec}
 use Rattle.load_memory.specs.Keys.{KeyOf}
@@ -17,7 +17,7 @@ use Rattle.rounds_by_hand.specs.Pending.{MayAnswer, TakesAnswer, order_in}
 use Rattle.rounds_by_hand.specs.declared.pending.Pending.{Pending}
 use Rattle.rounds_by_hand.specs.declared.pending.Pending.TheVariants.{In, Out}
 use Rattle.plan_requests.specs.Servers.{ServerOf}
-use Rattle.server.specs.Clients.{ClientOf, IsSameClient}
+use Rattle.server.specs.Clients.{ClientOf, IsSameClient, client_of}
 use Rattle.server.specs.Hands.{ByHandOf, by_hand_of, IsUnderway, GoesOn, GoesOnIfMay, GivesUp, Responds, StoresReplies}
 use Rattle.server.specs.Planned.{PlannedOf, PlansAsked}
 use Rattle.load_rounds.specs.SharedRounds.{report_of}
@@ -28,28 +28,27 @@ use Rattle.host_clients.specs.Clients.{AnswersIt, IsBegunWith, MakesRound, Stops
 use Rattle.host_clients.specs.UnderWay.{UnderWayOf, IsOf, IsAnswerOf, HoldsUnderWay, orders_out}
 
 -- a request is begun
-pub holds-begun : (hand : ByHandOf HandedIn) (c : ClientOf HandedIn) (server : ServerOf) (planned : PlannedOf) (asked : HostAsked) (orders : List OrderOf) → hand ≡ by_hand_of c planned handed
-    → server ≡ c.server → PlansHost c asked planned → orders ≡ [] → HoldsUnderWay hand server asked orders
-holds-begun hand c server planned asked orders is same plans none = rw (is, none) (record {
-  is_of = record { begun = c; of_server = refl; underway = refl; planned = plans };
-  server_is = same;
+pub holds-begun : (hand : ByHandOf HandedIn) (c : ClientOf HandedIn) (server was : ServerOf) (planned : PlannedOf) (asked : HostAsked) (orders : List OrderOf) → hand ≡ by_hand_of c planned handed
+    → server ≡ was → PlansHost was c.most asked planned → orders ≡ [] → HoldsUnderWay server hand asked orders
+holds-begun hand c server was planned asked orders is same plans none = rw (is, same, none) (record {
+  is_of = record { begun = client_of was c.most c.session; of_server = refl; underway = refl; planned = plans };
   orders_are = refl;
 })
 
-pub begun-with : (hand : ByHandOf HandedIn) (c now : ClientOf HandedIn) (planned : PlannedOf) (asked : HostAsked) → hand ≡ by_hand_of now planned handed → now ≡ c → PlansHost c asked planned
-    → (hand.client ≡ c) × IsBegunWith asked (record { hand = hand; asked = asked })
-begun-with hand c now planned asked is same plans = rw (is, same) (refl, record { asked_is = refl; planned = plans; far = refl })
+pub begun-with : (hand : ByHandOf HandedIn) (c : ClientOf HandedIn) (server was : ServerOf) (planned : PlannedOf) (asked : HostAsked) → hand ≡ by_hand_of c planned handed → server ≡ was → PlansHost was c.most asked planned
+    → (hand.client ≡ c) × IsBegunWith was asked (record { hand = hand; server = server; asked = asked })
+begun-with hand c server was planned asked is same plans = rw (is, same) (refl, record { server_is = refl; asked_is = refl; planned = plans; far = refl })
 
-plans-same : (c : ClientOf HandedIn) (asked : HostAsked) (old new : PlannedOf) → new ≡ old → PlansHost c asked old → PlansHost c asked new
-plans-same c asked old new e plans = subst (PlansHost c asked) (sym e) plans
+plans-same : (s : ServerOf) (most : Option ℕ) (asked : HostAsked) (old new : PlannedOf) → new ≡ old → PlansHost s most asked old → PlansHost s most asked new
+plans-same s most asked old new e plans = subst (PlansHost s most asked) (sym e) plans
 
 module _ (old new : ByHandOf HandedIn) (goes : GoesOn any_tell old new) (same : new.planned ≡ old.planned) where
-  pub is-of-after : (asked : HostAsked) → IsSameClient old.client new.client → IsOf old asked → IsOf new asked
-  is-of-after asked client of = record {
+  pub is-of-after : (server : ServerOf) (asked : HostAsked) → IsOf server old asked → IsOf server new asked
+  is-of-after server asked of = record {
     begun = of.begun;
-    of_server = client.server ∙ of.of_server;
+    of_server = of.of_server;
     underway = goes of.begun.session of.underway;
-    planned = plans-same of.begun asked old.planned new.planned same of.planned;
+    planned = plans-same of.begun.server of.begun.most asked old.planned new.planned same of.planned;
   }
 
   pub gives-up-before : (c : ClientOf HandedIn) → GivesUp any_tell new c → GivesUp any_tell old c
@@ -57,15 +56,15 @@ module _ (old new : ByHandOf HandedIn) (goes : GoesOn any_tell old new) (same : 
 
 -- an answer of what is under way answers what was asked
 pub answers-host : (old new : ByHandOf HandedIn) (answer : Answer) → Responds any_tell old new (Answered answer) → (c : ClientOf HandedIn) (asked : HostAsked)
-    → IsUnderway any_tell c.session old → PlansHost c asked old.planned → AnswersHost any_tell c asked (report_of answer) new.client.session
+    → IsUnderway any_tell c.session old → PlansHost c.server c.most asked old.planned → AnswersHost any_tell c asked (report_of answer) new.client.session
 answers-host old new answer responds c asked underway plans = record { asked = plans.asked; asks = plans.asks; answers = responds c plans.asked underway plans.plans }
 
-pub answer-of : (old new : ByHandOf HandedIn) (asked : HostAsked) (answer : Answer) (c : ClientOf HandedIn) → IsOf old asked → IsSameClient old.client new.client
-    → Responds any_tell old new (Answered answer) → c ≡ new.client → IsAnswerOf c.server asked (string_bytes answer.text) answer.rounds
-answer-of old new asked answer c of client responds is = record {
+pub answer-of : (server : ServerOf) (old new : ByHandOf HandedIn) (asked : HostAsked) (answer : Answer) → IsOf server old asked
+    → Responds any_tell old new (Answered answer) → IsAnswerOf server asked (string_bytes answer.text) answer.rounds
+answer-of server old new asked answer of responds = record {
   begun = of.begun;
   later = new.client.session;
-  of_server = sym (ap (λ (x : ClientOf HandedIn). x.server) is ∙ client.server ∙ of.of_server);
+  of_server = of.of_server;
   answers = answers-host old new answer responds of.begun asked of.underway of.planned;
 }
 
@@ -75,8 +74,9 @@ module _ (u : UnderWayOf) (new : ByHandOf HandedIn) (client : IsSameClient u.han
   same-client = subst (IsSameClient u.hand.client) (sym is) client
 
   pub answers-it : (answer : Answer) → Responds any_tell u.hand new (Answered answer) → StoresReplies u.hand new.client
-      → AnswersIt u (record { client = c; asked = u.asked; text = string_bytes answer.text; rounds = answer.rounds })
+      → AnswersIt u (record { client = c; server = u.server; asked = u.asked; text = string_bytes answer.text; rounds = answer.rounds })
   answers-it answer responds stored = record {
+    server_is = refl;
     asked_is = refl;
     same = same-client;
     stored = subst (StoresReplies u.hand) (sym is) stored;
@@ -88,13 +88,12 @@ module _ (u : UnderWayOf) (new : ByHandOf HandedIn) (client : IsSameClient u.han
   stops-it goes same gives = record { same = same-client; stops = gives-up-before u.hand new goes same c gives }
 
 pub makes-round : (u : UnderWayOf) (new : ByHandOf HandedIn) → IsSameClient u.hand.client new.client → GoesOn any_tell u.hand new → new.planned ≡ u.hand.planned → StoresReplies u.hand new.client → IsNewRound new.far
-    → MakesRound u (record { hand = new; asked = u.asked })
-makes-round u new client goes same stored round = record { asked_is = refl; planned_is = same; same = client; goes_on = goes; stored = stored; round = round }
+    → MakesRound u (record { hand = new; server = u.server; asked = u.asked })
+makes-round u new client goes same stored round = record { server_is = refl; asked_is = refl; planned_is = same; same = client; goes_on = goes; stored = stored; round = round }
 
-pub holds-after : (old new : ByHandOf HandedIn) (server : ServerOf) (asked : HostAsked) (orders : List OrderOf) → IsSameClient old.client new.client → GoesOn any_tell old new → new.planned ≡ old.planned → IsOf old asked
-    → server ≡ old.client.server → orders ≡ orders_out new → HoldsUnderWay new server asked orders
-holds-after old new server asked orders client goes same of was are =
-    record { is_of = is-of-after old new goes same asked client of; server_is = was ∙ sym client.server; orders_are = are }
+pub holds-after : (server : ServerOf) (old new : ByHandOf HandedIn) (asked : HostAsked) (orders : List OrderOf) → GoesOn any_tell old new → new.planned ≡ old.planned → IsOf server old asked
+    → orders ≡ orders_out new → HoldsUnderWay server new asked orders
+holds-after server old new asked orders goes same of are = record { is_of = is-of-after old new goes same server asked of; orders_are = are }
 
 -- the sources may answer anything
 fetched-any : (source : HandedIn) (keys : List KeyOf) (answer : Result (Vec Item) FetchFault) → Fetched (any_tell source keys) answer
@@ -128,26 +127,24 @@ module _ (old new : ByHandOf HandedIn) (number : ℕ) (answer : Result (Vec Item
   pub goes-taken : GoesOn any_tell old new
   goes-taken = goes-on-with old new number answer (Out takes.order) takes.was goes
 
-  pub holds-taken : (server : ServerOf) (asked : HostAsked) (orders : List OrderOf) → HoldsUnderWay old server asked orders → HoldsUnderWay new server asked orders
+  pub holds-taken : (server : ServerOf) (asked : HostAsked) (orders : List OrderOf) → HoldsUnderWay server old asked orders → HoldsUnderWay server new asked orders
   holds-taken server asked orders h = record {
-    is_of = is-of-after old new goes-taken same asked (record { server = ap (λ (x : ClientOf HandedIn). x.server) client; most = ap (λ (x : ClientOf HandedIn). x.most) client }) h.is_of;
-    server_is = h.server_is ∙ sym (ap (λ (x : ClientOf HandedIn). x.server) client);
+    is_of = is-of-after old new goes-taken same server asked h.is_of;
     orders_are = h.orders_are ∙ sym (orders-kept _ _ number answer takes);
   }
 
-  pub takes-it : (asked : HostAsked) → Takes number answer (record { hand = old; asked = asked }) (record { hand = new; asked = asked })
-  takes-it asked = record { asked_is = refl; planned_is = same; client_is = client; goes_on = goes-taken; takes = takes }
+  pub takes-it : (server : ServerOf) (asked : HostAsked) → Takes number answer (record { hand = old; server = server; asked = asked }) (record { hand = new; server = server; asked = asked })
+  takes-it server asked = record { server_is = refl; asked_is = refl; planned_is = same; client_is = client; goes_on = goes-taken; takes = takes }
 
 -- memory ran out at a reply
-pub stopped-at : (old new : ByHandOf HandedIn) (number : ℕ) (asked : HostAsked) → GoesOn any_tell old new → new.client ≡ old.client → new.planned ≡ old.planned → WaitsAt number (pending_in old.far)
-    → IsOver new.far → Stops number (record { hand = old; asked = asked }) (record { hand = new; asked = asked })
-stopped-at old new number asked goes client same waited over = record { asked_is = refl; planned_is = same; client_is = client; goes_on = goes; waited = waited; is_over = over }
+pub stopped-at : (server : ServerOf) (old new : ByHandOf HandedIn) (number : ℕ) (asked : HostAsked) → GoesOn any_tell old new → new.client ≡ old.client → new.planned ≡ old.planned → WaitsAt number (pending_in old.far)
+    → IsOver new.far → Stops number (record { hand = old; server = server; asked = asked }) (record { hand = new; server = server; asked = asked })
+stopped-at server old new number asked goes client same waited over = record { server_is = refl; asked_is = refl; planned_is = same; client_is = client; goes_on = goes; waited = waited; is_over = over }
 
 -- no orders are left where memory ran out
-pub holds-over : (old new : ByHandOf HandedIn) (server : ServerOf) (asked : HostAsked) (orders : List OrderOf) → GoesOn any_tell old new → new.client ≡ old.client → new.planned ≡ old.planned → IsOver new.far
-    → orders ≡ [] → IsOf old asked → server ≡ old.client.server → HoldsUnderWay new server asked orders
-holds-over old new server asked orders goes client same over none of was = record {
-  is_of = is-of-after old new goes same asked (record { server = ap (λ (x : ClientOf HandedIn). x.server) client; most = ap (λ (x : ClientOf HandedIn). x.most) client }) of;
-  server_is = was ∙ sym (ap (λ (x : ClientOf HandedIn). x.server) client);
+pub holds-over : (server : ServerOf) (old new : ByHandOf HandedIn) (asked : HostAsked) (orders : List OrderOf) → GoesOn any_tell old new → new.planned ≡ old.planned → IsOver new.far
+    → orders ≡ [] → IsOf server old asked → HoldsUnderWay server new asked orders
+holds-over server old new asked orders goes same over none of = record {
+  is_of = is-of-after old new goes same server asked of;
   orders_are = none ∙ sym (ap (λ far. map order_in (pending_in far)) over);
 }

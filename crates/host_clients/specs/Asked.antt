@@ -6,8 +6,9 @@ use Rattle.load_queue.specs.Answers.{AnswerOf}
 use Rattle.load_rounds.specs.Sessions.{SessionOf}
 use Rattle.load_rounds.specs.SharedRounds.{ReportOf}
 use Rattle.request_line.specs.Requests.{RequestOf, IsValue}
+use Rattle.plan_requests.specs.Servers.{ServerOf}
 use Rattle.server.specs.Clients.{ClientOf}
-use Rattle.server.specs.Planned.{AskedOf, one, PlannedOf, PlansAsked, AnswersAsked, text as as_text}
+use Rattle.server.specs.Planned.{AskedOf, one, PlannedOf, PlansFor, AnswersAsked, text as as_text}
 
 -- the texts of a query, of the name of its operation and of its variables
 pub record PartsOf : Type 0 where
@@ -58,12 +59,12 @@ abbrev pub Asks : HostAsked → AskedOf → Type 0
 Asks (line bytes) asked = asked ≡ as_text bytes
 Asks (request parts) asked = ArePartsOf parts asked
 
--- says what a host asks of a client is planned, as `server` says it
-pub record PlansHost {S : Type 0} (c : ClientOf S) (host : HostAsked)
+-- says what a host asks of a server is planned, within a limit of the answer's bytes, as `server` says it
+pub record PlansHost (s : ServerOf) (most : Option ℕ) (host : HostAsked)
     (planned : PlannedOf) : Type 0 where
   pub asked : AskedOf
   pub asks : Asks host asked
-  pub plans : PlansAsked c asked planned
+  pub plans : PlansFor s most asked planned
 
 -- says what a host asks of a client is answered in its session, as `server` says it
 pub record AnswersHost {S : Type 0} (may : S → List KeyOf → AnswerOf → Type 0) (c : ClientOf S)

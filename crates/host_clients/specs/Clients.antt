@@ -1,5 +1,5 @@
 -- Definitions of what the calls of a client make of it.
-use Rattle.std.specs.Prelude.{ℕ, ◌≡◌, ◌<◌, ◌≤◌, ◌⊎◌, List, [], Bool, true, false, Option, Some, None, Result, Ok, Err, map, length, slice_get, option_map, MatchOption, String, string_bytes}
+use Rattle.std.specs.Prelude.{ℕ, ◌≡◌, ◌≢◌, ◌<◌, ◌≤◌, ◌⊎◌, List, [], Bool, true, false, Option, Some, None, Result, Ok, Err, map, length, slice_get, option_map, MatchOption, String, string_bytes}
 use Rattle.std.specs.Global.{Vec, Global}
 use Rattle.load_memory.specs.Outcomes.{ItemOf, item_of}
 use Rattle.load_memory.specs.declared.outcome.Item.{Item}
@@ -12,6 +12,7 @@ use Rattle.rounds_by_hand.specs.Hands.{handed, pending_in, IsNewRound, IsWaiting
 use Rattle.rounds_by_hand.specs.LoadHands.{handed as load_handed, over, can_advance_load, load_pending_in, IsLoadUnderway, IsLoadWaiting, IsNewLoadRound, IsSameLoad, LoadGoesOn}
 use Rattle.rounds_by_hand.specs.Pending.{TakesAnswer, is_in_at}
 use Rattle.rounds_by_hand.specs.declared.pending.Pending.{Pending}
+use Rattle.plan_requests.specs.Servers.{ServerOf}
 use Rattle.server.specs.Clients.{ClientOf, IsClientCall, IsSameClient}
 use Rattle.server.specs.Hands.{IsUnderway, GoesOn, GivesUp, StoresReplies}
 use Rattle.server.specs.LoadsByHand.{LoadByHandOf, ClientStopsLoad, ClientStores, load_by_hand_of, load_in}
@@ -77,22 +78,35 @@ HasLoader client loader = (is_busy client ≡ false) × MatchOption (client_in c
 abbrev pub width_in : HostClient → ℕ → ℕ
 width_in client loader = width_of (client_in client) loader
 
--- it is planned for the client, and nothing is asked yet
-pub record IsBegunWith (asked : HostAsked) (u : UnderWayOf) : Type 0 where
+-- it is planned by a server within the client's limit, and nothing is asked yet
+pub record IsBegunWith (server : ServerOf) (asked : HostAsked) (u : UnderWayOf) : Type 0 where
+  pub server_is : u.server ≡ server
   pub asked_is : u.asked ≡ asked
-  pub planned : PlansHost u.hand.client asked u.hand.planned
+  pub planned : PlansHost server u.hand.client.most asked u.hand.planned
   pub far : u.hand.far ≡ handed
 
--- a client begins what it is asked, or memory ran out, and the client is as it was
-abbrev pub Begins : ClientOf HandedIn → HostAsked → HostClient → Result (Unit {0}) Fault → Type 0
-Begins c asked (Asked u) (Ok _) = (u.hand.client ≡ c) × IsBegunWith asked u
-Begins c asked (Idle same) (Err e) = (same ≡ c) × (e ≡ fault.NoMemory)
-Begins c asked new result = ⊥
+-- the server has another number of loaders than the client's session
+abbrev pub IsOther : ServerOf → ClientOf HandedIn → Type 0
+IsOther server c = length server.bindings.loaders ≢ length c.session.loaders
 
--- a client that wasn't busy has begun what it was asked
-abbrev pub IsBegun : HostClient → HostAsked → HostClient → Type 0
-IsBegun old asked (Asked u) = (client_in old ≡ Some u.hand.client) × IsBegunWith asked u
-IsBegun old asked new = ⊥
+-- why a client that isn't busy doesn't begin what it is asked of a server: that is another one, or memory ran out
+abbrev pub ServerFault : ServerOf → ClientOf HandedIn → Fault → Type 0
+ServerFault server c fault.OtherServer = IsOther server c
+ServerFault server c fault.NoMemory = Unit {0}
+ServerFault server c e = ⊥
+
+-- a client begins what it is asked of a server, or is refused, and is as it was
+abbrev pub Begins : ServerOf → ClientOf HandedIn → HostAsked
+    → HostClient → Result (Unit {0}) Fault → Type 0
+Begins server c asked (Asked u) (Ok _) = (u.hand.client ≡ c) × IsBegunWith server asked u
+Begins server c asked (Idle same) (Err e) = (same ≡ c) × ServerFault server c e
+Begins server c asked new result = ⊥
+
+-- a client that wasn't busy has begun what it was asked of a server
+abbrev pub IsBegun : ServerOf → HostClient → HostAsked → HostClient → Type 0
+IsBegun server old asked (Asked u) = (client_in old ≡ Some u.hand.client)
+    × IsBegunWith server asked u
+IsBegun server old asked new = ⊥
 
 -- a client that wasn't busy has begun to load keys; nothing is done of it yet
 abbrev pub IsBegunLoad : KeysOf → HostClient → HostClient → Type 0
@@ -103,15 +117,17 @@ IsBegunLoad asked old new = ⊥
 -- From whichever client it was begun: this answers it in the client's session. What the client knows now is what it knew, with just what
 -- the host replied to the orders of the round that was out.
 pub record AnswersIt (u : UnderWayOf) (a : AnsweredOf) : Type 0 where
+  pub server_is : a.server ≡ u.server
   pub asked_is : a.asked ≡ u.asked
   pub same : IsSameClient u.hand.client a.client
   pub stored : StoresReplies u.hand a.client
   pub answers : (c : ClientOf HandedIn) → IsUnderway any_tell c.session u.hand
-      → PlansHost c u.asked u.hand.planned
+      → PlansHost c.server c.most u.asked u.hand.planned
       → AnswersHost any_tell c u.asked (report_in a) a.client.session
 
 -- A new round is out, over what the client knew and what the host replied.
 pub record MakesRound (u v : UnderWayOf) : Type 0 where
+  pub server_is : v.server ≡ u.server
   pub asked_is : v.asked ≡ u.asked
   pub planned_is : v.hand.planned ≡ u.hand.planned
   pub same : IsSameClient u.hand.client v.hand.client
@@ -179,6 +195,7 @@ LoadsOnWith l new result = ⊥
 -- an order of the round that is out takes an answer, and the others stay as they are
 pub record Takes (number : ℕ) (answer : Result (Vec Item) FetchFault)
     (u v : UnderWayOf) : Type 0 where
+  pub server_is : v.server ≡ u.server
   pub asked_is : v.asked ≡ u.asked
   pub planned_is : v.hand.planned ≡ u.hand.planned
   pub client_is : v.hand.client ≡ u.hand.client
@@ -206,6 +223,7 @@ WaitsAt number pending = (number < length pending)
 -- Memory ran out at the reply to an order that waited: what was asked is given up, which the next call to go on tells. The client is as it
 -- was, with all that it knows, and no order has a reply.
 pub record Stops (number : ℕ) (u v : UnderWayOf) : Type 0 where
+  pub server_is : v.server ≡ u.server
   pub asked_is : v.asked ≡ u.asked
   pub planned_is : v.hand.planned ≡ u.hand.planned
   pub client_is : v.hand.client ≡ u.hand.client

@@ -35,6 +35,7 @@ code_of fault.TooManyRows = negsuc 18
 code_of fault.NoKeyColumn = negsuc 19
 code_of fault.NotAsked = negsuc 20
 code_of fault.BadFaults = negsuc 21
+code_of fault.OtherServer = negsuc 22
 
 -- the faults of the libraries below, as those of a call
 

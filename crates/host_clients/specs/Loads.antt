@@ -36,10 +36,8 @@ abbrev pub asked_by : LoadByHandOf HandedIn → KeysOf
 asked_by hand = record { loader = hand.loader; keys = hand.keys }
 
 -- says what holds between calls
-pub record HoldsLoading (hand : LoadByHandOf HandedIn) (server : ServerOf)
-    (orders : List OrderOf) : Type 0 where
+pub record HoldsLoading (hand : LoadByHandOf HandedIn) (orders : List OrderOf) : Type 0 where
   pub is_of : IsLoadOf hand
-  pub server_is : server ≡ hand.client.server
   pub orders_are : orders ≡ load_orders hand
 
 -- a client with the outcomes of the keys that it loaded last

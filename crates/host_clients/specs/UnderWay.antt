@@ -12,32 +12,34 @@ use Rattle.server.specs.Hands.{ByHandOf, IsUnderway}
 use Rattle.rounds_by_hand.specs.declared.handed_in.HandedIn.{HandedIn}
 use Rattle.host_clients.specs.Asked.{HostAsked, PlansHost, AnswersHost}
 
--- says what a client was asked, and how far that is
+-- says what a client was asked, by which server it was planned, and how far that is
 pub record UnderWayOf : Type 0 where
   pub hand : ByHandOf HandedIn
+  pub server : ServerOf
   pub asked : HostAsked
 
--- It was begun on some client, as it was then, and planned for it. Since then nothing but its rounds was made in the client's session.
-pub record IsOf (hand : ByHandOf HandedIn) (asked : HostAsked) : Type 0 where
+-- It was begun on some client of this server, as it was then, and planned for it. Since then nothing but its rounds was made in the
+-- client's session.
+pub record IsOf (server : ServerOf) (hand : ByHandOf HandedIn) (asked : HostAsked) : Type 0 where
   pub begun : ClientOf HandedIn
-  pub of_server : hand.client.server ≡ begun.server
+  pub of_server : begun.server ≡ server
   pub underway : IsUnderway any_tell begun.session hand
-  pub planned : PlansHost begun asked hand.planned
+  pub planned : PlansHost begun.server begun.most asked hand.planned
 
 -- the orders of the round that is out
 abbrev pub orders_out : ByHandOf HandedIn → List OrderOf
 orders_out hand = map order_in (pending_in hand.far)
 
 -- says what holds between calls
-pub record HoldsUnderWay (hand : ByHandOf HandedIn) (server : ServerOf) (asked : HostAsked)
+pub record HoldsUnderWay (server : ServerOf) (hand : ByHandOf HandedIn) (asked : HostAsked)
     (orders : List OrderOf) : Type 0 where
-  pub is_of : IsOf hand asked
-  pub server_is : server ≡ hand.client.server
+  pub is_of : IsOf server hand asked
   pub orders_are : orders ≡ orders_out hand
 
--- a client with the answer to what it was asked last
+-- a client with the answer to what it was asked last, and the server that it was planned by
 pub record AnsweredOf : Type 0 where
   pub client : ClientOf HandedIn
+  pub server : ServerOf
   pub asked : HostAsked
   pub text : List ℕ
   pub rounds : ℕ

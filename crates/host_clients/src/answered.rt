@@ -4,17 +4,21 @@ ghost use Rattle.host_clients.specs.UnderWay.{IsAnswerOf};
 
 use crate::note::AskedNote;
 use rounds_by_hand::HandedIn;
-use server::ClientSession;
+use server::{ClientSession, Queries};
 use std::marker::Model;
+use std::snapshot::Snapshot;
 
 /// A client with the answer to what it was asked last.
 ///
-/// A contract sees the client, what was asked, the text and how many rounds it took. The text is the answer of that (`IsAnswerOf`).
+/// A contract sees the client, the server that it was planned by, what was asked, the text and how many rounds it took. The text is the
+/// answer of that (`IsAnswerOf`).
 pub struct AnsweredClient {
     pub(crate) client: ClientSession<HandedIn>,
     pub(crate) text: String,
     pub(crate) rounds: u32,
     pub(crate) note: AskedNote,
+    // what planned it, for contracts alone: it takes no memory
+    pub(crate) queries: Snapshot<Queries>,
 }
 
 impl Model for AnsweredClient {
@@ -29,9 +33,9 @@ impl Model for AnsweredClient {
 
     ghost coded = { Prim.hlevel (codes, type_ref.the_row.coded, literal.the_row.coded, handed.the_row.coded) };
 
-    ghost view = { λ a. record { client = a.client; asked = a.note.asked; text = string_bytes a.text; rounds = a.rounds } };
+    ghost view = { λ a. record { client = a.client; server = a.queries.value; asked = a.note.asked; text = string_bytes a.text; rounds = a.rounds } };
 
-    ghost invariant = { λ a. IsAnswerOf a.client.server (a.note.asked) (string_bytes a.text) a.rounds };
+    ghost invariant = { λ a. IsAnswerOf a.queries.value (a.note.asked) (string_bytes a.text) a.rounds };
 }
 
 impl Drop for AnsweredClient {
@@ -41,6 +45,7 @@ impl Drop for AnsweredClient {
             text: _text,
             rounds: _,
             note: _note,
+            queries: _queries,
         } = self;
     }
 }
@@ -49,7 +54,7 @@ impl AnsweredClient {
     /// The text of the answer.
     pub fn text(&self) -> &str
         ensures text { result.now ≡ self.now.text }
-        ensures answer { IsAnswerOf self.now.client.server
+        ensures answer { IsAnswerOf self.now.server
             self.now.asked self.now.text self.now.rounds }
     {
         self.text.as_str()
@@ -78,6 +83,7 @@ impl AnsweredClient {
             text: _text,
             rounds: _,
             note: _note,
+            queries: _queries,
         } = self;
         client
     }

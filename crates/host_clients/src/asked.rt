@@ -1,15 +1,14 @@
 //! Requests of a host, and their plans.
-ghost use Rattle.std.specs.Prelude.{◌≡◌, ◌≤◌, length, IfOk, IfSome, IfNone, MatchOption, option_map, Option, None, Some, IsUtf8};
+ghost use Rattle.std.specs.Prelude.{◌≡◌, length, IfOk, IfSome, IfNone, MatchOption, option_map, Option, None, Some, IsUtf8};
 ghost use Rattle.serde_json.specs.Data.{Data};
 ghost use Rattle.serde_json.specs.Read.{read};
 ghost use Rattle.serde_json.specs.View.{view};
 ghost use Rattle.host_clients.specs.Asked.{AreVariables, IsOfNoRequest, PlansHost, request as request_asked};
 ghost use Rattle.host_clients.specs.Texts.{IsRequestWith, asked_in, flat_parts};
 
-use rounds_by_hand::HandedIn;
 use serde_json::Value;
 use serde_json::error::Category;
-use server::{ClientSession, PlannedRequest, Request};
+use server::{PlannedRequest, Queries, Request};
 use std::alloc::{AllocError, Global};
 use std::str;
 
@@ -26,7 +25,7 @@ pub struct FlatRequest<'h> {
 
 /// What a host asks, as it passes it.
 #[derive(Clone, Copy)]
-pub(crate) enum FlatAsked<'h> {
+pub enum FlatAsked<'h> {
     /// JSON text: a request, or an array of 1 to 16 of these.
     Line(&'h [u8]),
     /// A request by its parts.
@@ -81,44 +80,47 @@ impl FlatRequest<'_> {
         })
     }
 
-    // Returns what these texts ask of a client. Texts of no request ask what the empty text asks, which
+    // Returns what these texts ask of a server. Texts of no request ask what the empty text asks, which
     // is none.
     fn plan(
         &self,
         alloc: Global,
-        client: &mut ClientSession<HandedIn>,
+        queries: &mut Queries,
+        most: Option<usize>,
     ) -> Result<PlannedRequest, AllocError>
-        ensures planned { IfOk result (PlansHost client.old (request_asked (flat_parts self.now))) }
-        ensures fits { IfOk result (λ planned.
-            planned.loaders ≤ length client.new.session.loaders) }
-        ensures same { client.new ≡ client.old }
+        ensures planned { IfOk result
+            (PlansHost queries.old most (request_asked (flat_parts self.now))) }
+        ensures loaders { IfOk result (λ planned.
+            planned.loaders ≡ length queries.old.bindings.loaders) }
+        ensures same { queries.new ≡ queries.old }
     {
         let Some(variables) = read_variables(alloc, self.variables)? else {
-            return client.plan_text(&[]);
+            return queries.plan_text(alloc, &[], most);
         };
         match self.request(variables.as_ref()) {
-            Some(request) => client.plan(&request),
-            None => client.plan_text(&[]),
+            Some(request) => queries.plan(alloc, &request, most),
+            None => queries.plan_text(alloc, &[], most),
         }
     }
 }
 
 impl FlatAsked<'_> {
-    /// Returns what it asks of a client.
-    pub fn plan(
+    /// Returns what it asks of a server, of whose answer the text has at most `most` bytes.
+    pub(crate) fn plan(
         &self,
         alloc: Global,
-        client: &mut ClientSession<HandedIn>,
+        queries: &mut Queries,
+        most: Option<usize>,
     ) -> Result<PlannedRequest, AllocError>
         ensures planned { IfOk result
-            (PlansHost client.old (asked_in self.now)) }
-        ensures fits { IfOk result (λ planned.
-            planned.loaders ≤ length client.new.session.loaders) }
-        ensures same { client.new ≡ client.old }
+            (PlansHost queries.old most (asked_in self.now)) }
+        ensures loaders { IfOk result (λ planned.
+            planned.loaders ≡ length queries.old.bindings.loaders) }
+        ensures same { queries.new ≡ queries.old }
     {
         match self {
-            FlatAsked::Line(line) => client.plan_text(line),
-            FlatAsked::Request(request) => request.plan(alloc, client),
+            FlatAsked::Line(line) => queries.plan_text(alloc, line, most),
+            FlatAsked::Request(request) => request.plan(alloc, queries, most),
         }
     }
 }

@@ -2,17 +2,16 @@
 ghost use Rattle.std.specs.Prelude.{◌≡◌, ◌≢◌, ◌<◌, ◌↔◌, true, false, length, Some, IfOk, IfErr, IfSome, IfNone, OnOk, OnErr, IsErrOf};
 ghost use Rattle.std.specs.Prelude.{option_map, slice_get, IsUtf8};
 ghost use Rattle.flat_orders.specs.Orders.{keys_of};
-ghost use Rattle.host_clients.specs.Asked.{line as line_asked, request as request_asked};
 ghost use Rattle.host_clients.specs.AskedKeys.{flat_keys};
 ghost use Rattle.host_clients.specs.Clients.{Advances, Cancels, HasCount, HasLoader, IsBegun, IsBegunLoad, LacksLoader, TakesAnswerTo, TakesFailure, TakesReply};
 ghost use Rattle.host_clients.specs.Clients.{KeepsOrStops, StopsAt, client_in, is_busy, orders_in, pending_of, width_in};
 ghost use Rattle.host_clients.specs.Known.{items_in};
 ghost use Rattle.host_clients.specs.Laid.{AreKeys, laid_keys, laid_reply};
-ghost use Rattle.host_clients.specs.Refused.{BeginFault, FailureFault, LoadFault, LoaderFault, OrderFault, RowsFault};
-ghost use Rattle.host_clients.specs.Texts.{asked_in, flat_parts};
+ghost use Rattle.host_clients.specs.Refused.{AskFault, FailureFault, LoadFault, LoaderFault, OrderFault, RowsFault};
+ghost use Rattle.host_clients.specs.Texts.{asked_in};
 
 use crate::answered::AnsweredClient;
-use crate::asked::{FlatAsked, FlatRequest};
+use crate::asked::FlatAsked;
 use crate::asked_keys::FlatKeys;
 use crate::fault::Fault;
 use crate::loaded::LoadedClient;
@@ -23,7 +22,7 @@ use flat_rows::FlatReply;
 use load_memory::Item;
 use load_queue::FetchFault;
 use rounds_by_hand::HandedIn;
-use server::ClientSession;
+use server::{ClientSession, Queries};
 use std::alloc::Global;
 use std::{mem, str};
 
@@ -124,10 +123,21 @@ impl HostClient {
         *self = next;
     }
 
-    // Begins the answer to what was asked, as the calls below do it.
-    fn begin(&mut self, alloc: Global, asked: &FlatAsked<'_>) -> Result<(), Fault>
+    /// Begins the answer to what is asked, as the server of `queries` answers it, within the client's limit. What it does wrong is answered.
+    /// An answer to what was asked before is let go.
+    ///
+    /// # Errors
+    ///
+    /// [`Busy`](Fault::Busy) while a request is being answered or keys are loaded; [`OtherServer`](Fault::OtherServer) where that server has
+    /// another number of loaders; [`NoMemory`](Fault::NoMemory). The client is as it was.
+    pub fn begin(
+        &mut self,
+        alloc: Global,
+        queries: &mut Queries,
+        asked: &FlatAsked<'_>,
+    ) -> Result<(), Fault>
         ensures begun { OnOk result
-            (IsBegun self.old (asked_in asked.now) self.new) }
+            (IsBegun queries.old self.old (asked_in asked.now) self.new) }
         ensures kept { OnErr result
             (client_in self.new ≡ client_in self.old) }
         ensures busy { IsErrOf result Fault.Busy
@@ -135,7 +145,8 @@ impl HostClient {
         ensures unchanged { is_busy self.old ≡ true
             → self.new ≡ self.old }
         ensures fault { IfErr result
-            (BeginFault self.old) }
+            (AskFault queries.old self.old) }
+        ensures same { queries.new ≡ queries.old }
     {
         match mem::replace(self, HostClient::Moved).into_idle() {
             Err(busy) => {
@@ -143,52 +154,11 @@ impl HostClient {
                 Err(Fault::Busy)
             }
             Ok(client) => {
-                let (begun, result) = UnderWay::begin(alloc, client, asked);
+                let (begun, result) = UnderWay::begin(alloc, client, queries, asked);
                 self.put(begun);
                 result
             }
         }
-    }
-
-    /// Begins the answer to a request that is JSON text, or to an array of 1 to 16 of these. What it does wrong is answered. An answer to
-    /// what was asked before is let go.
-    ///
-    /// # Errors
-    ///
-    /// [`Busy`](Fault::Busy) while a request is being answered or keys are loaded; [`NoMemory`](Fault::NoMemory). The client is as it was.
-    pub fn begin_line(&mut self, alloc: Global, line: &[u8]) -> Result<(), Fault>
-        ensures begun { OnOk result (IsBegun self.old (line_asked line.now) self.new) }
-        ensures kept { OnErr result
-            (client_in self.new ≡ client_in self.old) }
-        ensures busy { IsErrOf result Fault.Busy
-            ↔ (is_busy self.old ≡ true) }
-        ensures unchanged { is_busy self.old ≡ true
-            → self.new ≡ self.old }
-        ensures fault { IfErr result
-            (BeginFault self.old) }
-    {
-        self.begin(alloc, &FlatAsked::Line(line))
-    }
-
-    /// Does what [`begin_line`](HostClient::begin_line) does, with a request by its parts. What isn't UTF-8 or no JSON is answered as what
-    /// is no request.
-    ///
-    /// # Errors
-    ///
-    /// Those of [`begin_line`](HostClient::begin_line).
-    pub fn begin_request(&mut self, alloc: Global, parts: &FlatRequest<'_>) -> Result<(), Fault>
-        ensures begun { OnOk result
-            (IsBegun self.old (request_asked (flat_parts parts.now)) self.new) }
-        ensures kept { OnErr result
-            (client_in self.new ≡ client_in self.old) }
-        ensures busy { IsErrOf result Fault.Busy
-            ↔ (is_busy self.old ≡ true) }
-        ensures unchanged { is_busy self.old ≡ true
-            → self.new ≡ self.old }
-        ensures fault { IfErr result
-            (BeginFault self.old) }
-    {
-        self.begin(alloc, &FlatAsked::Request(*parts))
     }
 
     /// Begins to load keys of a loader: those that aren't known are asked for in one round, of equal keys only the first, and then there is
@@ -212,14 +182,13 @@ impl HostClient {
     {
         let client = self.client_with(keys.loader)?;
         let read = keys.read(alloc, key_width(client.server(), keys.loader))?;
-        let server = client.server().clone()?;
         match mem::replace(self, HostClient::Moved).into_idle() {
             Err(busy) => {
                 self.put(busy);
                 Err(Fault::Busy)
             }
             Ok(client) => {
-                let loading = LoadUnderWay::begin(alloc, client, server, keys.loader, read);
+                let loading = LoadUnderWay::begin(alloc, client, keys.loader, read);
                 self.put(HostClient::Loading(loading));
                 Ok(())
             }

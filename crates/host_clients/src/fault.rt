@@ -57,6 +57,8 @@ pub enum Fault {
     NotAsked,
     /// A fault is of no key of the order, or its key doesn't come after that of the fault before.
     BadFaults,
+    /// What plans the request is of a server with another number of loaders than the client's.
+    OtherServer,
 }
 
 impl Fault {
@@ -87,6 +89,7 @@ impl Fault {
             Fault::NoKeyColumn => -20,
             Fault::NotAsked => -21,
             Fault::BadFaults => -22,
+            Fault::OtherServer => -23,
         }
     }
 
@@ -120,6 +123,7 @@ impl Fault {
             -20 => Some(Fault::NoKeyColumn),
             -21 => Some(Fault::NotAsked),
             -22 => Some(Fault::BadFaults),
+            -23 => Some(Fault::OtherServer),
             _ => None,
         }
     }
@@ -149,6 +153,7 @@ impl Fault {
             Fault::NoKeyColumn => "RZ_NO_KEY_COLUMN",
             Fault::NotAsked => "RZ_NOT_ASKED",
             Fault::BadFaults => "RZ_BAD_FAULTS",
+            Fault::OtherServer => "RZ_OTHER_SERVER",
         }
     }
 
@@ -181,6 +186,7 @@ impl Fault {
             Fault::BadFaults => {
                 "a fault is of no key of the order, or its key doesn't come after that of the fault before"
             }
+            Fault::OtherServer => "the queries are of a server with another number of loaders",
         }
     }
 }

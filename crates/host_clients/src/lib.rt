@@ -1,8 +1,8 @@
-//! Objects of the C library: servers, and clients whose rounds another language runs.
+//! Objects of the C library: servers, what is kept of their queries, and clients whose rounds another language runs.
 //!
 //! The layer above may rely on this: a [`HostClient`] answers one request at a time, or loads the keys of one loader, by rounds whose
 //! orders its host replies to. An answer that it holds is that of what was asked, by the definitions of serving, in a session of a client
-//! of its server: the loaders were asked exactly the batches of a lawful log (`IsAnswerOf` of `specs/UnderWay.antt`, an invariant of
+//! of the server that planned it: the loaders were asked exactly the batches of a lawful log (`IsAnswerOf` of `specs/UnderWay.antt`, an invariant of
 //! [`AnsweredClient`]). Outcomes that it holds are those of the keys, as a session loads them (`AreOutcomesOf` of `specs/Loads.antt`, an
 //! invariant of [`LoadedClient`]). A reply is what the host laid out (`TakesReply`), or is refused with its first fault, and the order
 //! waits as before. A refusal loses nothing.
@@ -25,7 +25,7 @@ mod opening;
 mod under_way;
 
 pub use answered::AnsweredClient;
-pub use asked::FlatRequest;
+pub use asked::{FlatAsked, FlatRequest};
 pub use asked_keys::FlatKeys;
 pub use client::{ClientProgress, HostClient};
 pub use fault::Fault;
@@ -41,5 +41,5 @@ pub use log::BatchLog;
 pub use object::Object;
 pub use opening::{FaultPlace, OpenFault, open_client, open_server};
 pub use rounds_by_hand::HandedIn;
-pub use server::Server;
+pub use server::{Queries, Server};
 pub use under_way::UnderWay;

@@ -29,7 +29,6 @@ use std::snapshot::Snapshot;
 /// A contract sees what is loaded by hand. What holds between calls is `HoldsLoading`.
 pub struct LoadUnderWay {
     hand: LoadByHand<HandedIn>,
-    server: Server,
     orders: FlatOrders,
 }
 
@@ -48,37 +47,32 @@ impl Model for LoadUnderWay {
 
     ghost view = { λ l. l.hand };
 
-    ghost invariant = { λ l. HoldsLoading l.hand l.server l.orders };
+    ghost invariant = { λ l. HoldsLoading l.hand l.orders };
 }
 
 impl Drop for LoadUnderWay {
     fn drop(self) {
         let LoadUnderWay {
             hand: _hand,
-            server: _server,
             orders: _orders,
         } = self;
     }
 }
 
 impl LoadUnderWay {
-    /// A load of these keys in the session of a client of this server. Nothing is done of it yet.
+    /// A load of these keys in the session of a client. Nothing is done of it yet.
     pub(crate) fn begin(
         alloc: Global,
         client: ClientSession<HandedIn>,
-        server: Server,
         loader: usize,
         keys: Vec<Key>,
     ) -> LoadUnderWay
-        requires loader { loader
-            < length client.session.loaders }
-        requires server { server ≡ client.server }
+        requires { loader < length client.session.loaders }
         ensures { result ≡ load_by_hand_of
             client loader (map key_of keys.items) handed }
     {
         LoadUnderWay {
             hand: client.load_by_hand(loader, keys),
-            server,
             orders: FlatOrders::new(alloc),
         }
     }
@@ -92,11 +86,7 @@ impl LoadUnderWay {
     pub(crate) fn advance(self, alloc: Global) -> (HostClient, Result<ClientProgress, Fault>)
         ensures { LoadsOnWith self result.0 result.1 }
     {
-        let LoadUnderWay {
-            hand,
-            server,
-            orders,
-        } = self;
+        let LoadUnderWay { hand, orders } = self;
         let mut hand = hand;
         match hand.advance() {
             Ok(LoadAdvance::Loaded(outcomes)) => match FlatOutcomes::of(alloc, &outcomes) {
@@ -113,21 +103,13 @@ impl LoadUnderWay {
             },
             Ok(LoadAdvance::Round) => match orders_of(alloc, hand.orders()) {
                 Ok(orders) => {
-                    let loading = LoadUnderWay {
-                        hand,
-                        server,
-                        orders,
-                    };
+                    let loading = LoadUnderWay { hand, orders };
                     (HostClient::Loading(loading), Ok(ClientProgress::Round))
                 }
                 Err(_) => (HostClient::Idle(hand.into_client()), Err(Fault::NoMemory)),
             },
             Ok(LoadAdvance::Waiting) => {
-                let loading = LoadUnderWay {
-                    hand,
-                    server,
-                    orders,
-                };
+                let loading = LoadUnderWay { hand, orders };
                 (HostClient::Loading(loading), Ok(ClientProgress::Waiting))
             }
             Ok(LoadAdvance::Over) => (HostClient::Idle(hand.into_client()), Err(Fault::Stopped)),
@@ -150,7 +132,7 @@ impl LoadUnderWay {
             (length (load_pending_in self.now.far) ≤ number) }
     {
         let order = self.hand.orders().get(number)?;
-        Some((&self.server, order))
+        Some((self.hand.server(), order))
     }
 
     /// Takes the answer to the order of this number. When out of memory, it is over, and nothing is stored.
@@ -189,7 +171,6 @@ impl LoadUnderWay {
     {
         let LoadUnderWay {
             hand,
-            server: _server,
             orders: _orders,
         } = self;
         hand.into_client()

@@ -1,10 +1,10 @@
 //! Objects that handles hold.
-ghost use Rattle.host_clients.specs.Objects.{MakesClient, Shares};
+ghost use Rattle.host_clients.specs.Objects.{MakesClient, MakesQueries, Shares};
 
 use crate::client::HostClient;
 use crate::fault::Fault;
 use crate::opening::open_client;
-use server::Server;
+use server::{Queries, Server};
 use std::alloc::Global;
 
 /// Object that a handle holds.
@@ -14,6 +14,8 @@ pub enum Object {
     Server(Server),
     /// A client of a server.
     Client(HostClient),
+    /// What requests ask of a server, kept for those that come again.
+    Queries(Queries),
 }
 
 // Returns the same server once more.
@@ -21,6 +23,13 @@ fn share_server(server: &Server) -> Result<Object, Fault>
     ensures { Shares (Object.Server server.now) result }
 {
     Ok(Object::Server(server.clone()?))
+}
+
+// What requests ask of a server: nothing yet.
+fn queries_of(alloc: Global, server: &Server) -> Result<Object, Fault>
+    ensures { MakesQueries (Object.Server server.now) result }
+{
+    Ok(Object::Queries(Queries::new(alloc, server.clone()?)))
 }
 
 // A client of a server, which knows nothing.
@@ -42,7 +51,21 @@ impl Object {
     {
         match self {
             Object::Server(server) => share_server(server),
-            Object::Client(_) => Err(Fault::BadHandle),
+            Object::Client(_) | Object::Queries(_) => Err(Fault::BadHandle),
+        }
+    }
+
+    /// What requests ask of the server: nothing yet.
+    ///
+    /// # Errors
+    ///
+    /// [`BadHandle`](Fault::BadHandle) where it is no server; [`NoMemory`](Fault::NoMemory).
+    pub fn queries(&self, alloc: Global) -> Result<Object, Fault>
+        ensures { MakesQueries self.now result }
+    {
+        match self {
+            Object::Server(server) => queries_of(alloc, server),
+            Object::Client(_) | Object::Queries(_) => Err(Fault::BadHandle),
         }
     }
 
@@ -56,7 +79,7 @@ impl Object {
     {
         match self {
             Object::Server(server) => client_of(alloc, server, limits),
-            Object::Client(_) => Err(Fault::BadHandle),
+            Object::Client(_) | Object::Queries(_) => Err(Fault::BadHandle),
         }
     }
 }

@@ -17,18 +17,21 @@ use flat_orders::FlatOrders;
 use load_memory::Item;
 use load_queue::FetchFault;
 use rounds_by_hand::{HandedIn, Pending, TakeFault};
-use server::{Answer, ByHand, ClientAdvance, ClientSession, Server};
+use server::{Answer, ByHand, ClientAdvance, ClientSession, Queries, Server};
 use std::alloc::{AllocError, Global};
 use std::marker::Model;
+use std::snapshot::Snapshot;
 
 /// Holds what a client was asked, on its way to the answer, with the orders of the round that is out.
 ///
-/// A contract sees what is answered by hand, and what was asked. What holds between calls is `HoldsUnderWay`.
+/// A contract sees what is answered by hand, the server that it was planned by, and what was asked. What holds between calls is
+/// `HoldsUnderWay`.
 pub struct UnderWay {
     hand: ByHand<HandedIn>,
-    server: Server,
     orders: FlatOrders,
     note: AskedNote,
+    // what planned it, for contracts alone: it takes no memory
+    queries: Snapshot<Queries>,
 }
 
 impl Model for UnderWay {
@@ -47,18 +50,18 @@ impl Model for UnderWay {
 
     ghost coded = { Prim.hlevel (codes, type_ref.the_row.coded, literal.the_row.coded, argument.the_row.coded, field.the_row.coded, inline.the_row.coded, set.the_row.coded, input.the_row.coded, handed.the_row.coded) };
 
-    ghost view = { λ u. record { hand = u.hand; asked = u.note.asked } };
+    ghost view = { λ u. record { hand = u.hand; server = u.queries.value; asked = u.note.asked } };
 
-    ghost invariant = { λ u. HoldsUnderWay u.hand u.server u.note.asked u.orders };
+    ghost invariant = { λ u. HoldsUnderWay u.queries.value u.hand u.note.asked u.orders };
 }
 
 impl Drop for UnderWay {
     fn drop(self) {
         let UnderWay {
             hand: _hand,
-            server: _server,
             orders: _orders,
             note: _note,
+            queries: _queries,
         } = self;
     }
 }
@@ -88,27 +91,31 @@ pub(crate) fn orders_of(alloc: Global, pending: &[Pending]) -> Result<FlatOrders
 }
 
 impl UnderWay {
-    /// Plans what the client is asked, or refuses it. Nothing is done of it yet.
+    /// Plans what the client is asked of the server of `queries`, or refuses it. Nothing is done of it yet.
     pub(crate) fn begin(
         alloc: Global,
         client: ClientSession<HandedIn>,
+        queries: &mut Queries,
         asked: &FlatAsked<'_>,
     ) -> (HostClient, Result<(), Fault>)
-        ensures { Begins client
+        ensures begun { Begins queries.old client
             (asked_in asked.now) result.0 result.1 }
+        ensures same { queries.new ≡ queries.old }
     {
-        let mut client = client;
-        let Ok(server) = client.server().clone() else {
+        let loaders = queries.server().bindings().loaders().len();
+        if loaders != client.session().loaders().len() {
+            return (HostClient::Idle(client), Err(Fault::OtherServer));
+        }
+        let Ok(planned) = asked.plan(alloc, queries, client.max_answer()) else {
             return (HostClient::Idle(client), Err(Fault::NoMemory));
         };
-        let Ok(planned) = asked.plan(alloc, &mut client) else {
-            return (HostClient::Idle(client), Err(Fault::NoMemory));
-        };
+        let note = AskedNote::of(asked);
+        let planned_by = Snapshot::of(&*queries);
         let under_way = UnderWay {
             hand: client.by_hand(planned),
-            server,
             orders: FlatOrders::new(alloc),
-            note: AskedNote::of(asked),
+            note,
+            queries: planned_by,
         };
         (HostClient::Asked(under_way), Ok(()))
     }
@@ -124,9 +131,9 @@ impl UnderWay {
     {
         let UnderWay {
             hand,
-            server,
             orders,
             note,
+            queries,
         } = self;
         let mut hand = hand;
         match hand.advance() {
@@ -137,6 +144,7 @@ impl UnderWay {
                     text,
                     rounds,
                     note,
+                    queries,
                 };
                 (HostClient::Answered(answered), Ok(ClientProgress::Done))
             }
@@ -144,9 +152,9 @@ impl UnderWay {
                 Ok(orders) => {
                     let under_way = UnderWay {
                         hand,
-                        server,
                         orders,
                         note,
+                        queries,
                     };
                     (HostClient::Asked(under_way), Ok(ClientProgress::Round))
                 }
@@ -155,9 +163,9 @@ impl UnderWay {
             Ok(ClientAdvance::Waiting) => {
                 let under_way = UnderWay {
                     hand,
-                    server,
                     orders,
                     note,
+                    queries,
                 };
                 (HostClient::Asked(under_way), Ok(ClientProgress::Waiting))
             }
@@ -181,7 +189,7 @@ impl UnderWay {
             (length (pending_in self.now.hand.far) ≤ number) }
     {
         let order = self.hand.orders().get(number)?;
-        Some((&self.server, order))
+        Some((self.hand.server(), order))
     }
 
     /// Takes the answer to the order of this number. When out of memory, it is over, and nothing is stored.
@@ -220,9 +228,9 @@ impl UnderWay {
     {
         let UnderWay {
             hand,
-            server: _server,
             orders: _orders,
             note: _note,
+            queries: _queries,
         } = self;
         hand.into_client()
     }

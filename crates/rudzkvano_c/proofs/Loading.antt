@@ -46,7 +46,9 @@ module _ (counts widths : List ℕ) (texts faults : List (List ℕ)) where
   outcomes-copied (object.Client c) (Ok copied) done rows are = both-copied c done rows are
   outcomes-copied (object.Client c) (Err e) done rows are = subst (CopiesOutcomes all_said c) (sym are) (none-copied c e rows)
   outcomes-copied (object.Server s) (Ok copied) done rows are = are
+  outcomes-copied (object.Queries s) (Ok copied) done rows are = are
   outcomes-copied (object.Server s) (Err e) done rows are = are ∙ rows
+  outcomes-copied (object.Queries s) (Err e) done rows are = are ∙ rows
 
 -- ---- what is copied of an object that has orders, or outcomes, or none
 
@@ -60,6 +62,7 @@ orders-copied (object.Client (Answered a)) orders said are done is = absurd are
 orders-copied (object.Client (Loaded d)) orders said are done is = absurd are
 orders-copied (object.Client Moved) orders said are done is = absurd are
 orders-copied (object.Server s) orders said are done is = absurd are
+orders-copied (object.Queries s) orders said are done is = absurd are
 
 pub no-orders-copied : (o : Object) (e : Fault) (said : List OrderOf) → AreNoOrdersIn o e → CopiesObject (CopiesOrders said) o (Err e)
 no-orders-copied (object.Client (Asked u)) e said none = absurd none
@@ -69,6 +72,7 @@ no-orders-copied (object.Client (Answered a)) e said none = ap (λ (f : Fault). 
 no-orders-copied (object.Client (Loaded d)) e said none = ap (λ (f : Fault). Err f) none
 no-orders-copied (object.Client Moved) e said none = ap (λ (f : Fault). Err f) none
 no-orders-copied (object.Server s) e said none = ap (λ (f : Fault). Err f) none
+no-orders-copied (object.Queries s) e said none = ap (λ (f : Fault). Err f) none
 
 module _ (counts widths : List ℕ) (texts : List (List ℕ)) where
   pub rows-copied : (o : Object) (outcomes : List OutcomeOf) → AreOutcomesIn o outcomes → (done : Result (Unit {0}) Fault)
@@ -82,6 +86,7 @@ module _ (counts widths : List ℕ) (texts : List (List ℕ)) where
   rows-copied (object.Client (Loading l)) outcomes are done said = absurd are
   rows-copied (object.Client Moved) outcomes are done said = absurd are
   rows-copied (object.Server s) outcomes are done said = absurd are
+  rows-copied (object.Queries s) outcomes are done said = absurd are
 
   pub no-rows-copied : (o : Object) (e : Fault) → AreNoOutcomesIn o e → CopiesObject (CopiesRows counts widths texts) o (Err e)
   no-rows-copied (object.Client (Loaded d)) e none = absurd none
@@ -91,6 +96,7 @@ module _ (counts widths : List ℕ) (texts : List (List ℕ)) where
   no-rows-copied (object.Client (Loading l)) e none = ap (λ (f : Fault). Err f) none
   no-rows-copied (object.Client Moved) e none = ap (λ (f : Fault). Err f) none
   no-rows-copied (object.Server s) e none = ap (λ (f : Fault). Err f) none
+  no-rows-copied (object.Queries s) e none = ap (λ (f : Fault). Err f) none
 
 module _ (faults : List (List ℕ)) where
   pub faults-copied : (o : Object) (outcomes : List OutcomeOf) → AreOutcomesIn o outcomes → (done : Result (Unit {0}) Fault) → OnOk done (faults ≡ all_faults outcomes)
@@ -103,6 +109,7 @@ module _ (faults : List (List ℕ)) where
   faults-copied (object.Client (Loading l)) outcomes are done said = absurd are
   faults-copied (object.Client Moved) outcomes are done said = absurd are
   faults-copied (object.Server s) outcomes are done said = absurd are
+  faults-copied (object.Queries s) outcomes are done said = absurd are
 
   pub no-faults-copied : (o : Object) (e : Fault) → AreNoOutcomesIn o e → CopiesObject (CopiesFaults faults) o (Err e)
   no-faults-copied (object.Client (Loaded d)) e none = absurd none
@@ -112,6 +119,7 @@ module _ (faults : List (List ℕ)) where
   no-faults-copied (object.Client (Loading l)) e none = ap (λ (f : Fault). Err f) none
   no-faults-copied (object.Client Moved) e none = ap (λ (f : Fault). Err f) none
   no-faults-copied (object.Server s) e none = ap (λ (f : Fault). Err f) none
+  no-faults-copied (object.Queries s) e none = ap (λ (f : Fault). Err f) none
 
 module _ (sizes : LoadSizes) where
   pub sizes-told : (o : Object) (outcomes : List OutcomeOf) → AreOutcomesIn o outcomes → sizes ≡ load_sizes outcomes → CopiesObject (TellsLoadSizes sizes) o (Ok tt)
@@ -122,6 +130,7 @@ module _ (sizes : LoadSizes) where
   sizes-told (object.Client (Loading l)) outcomes are told = absurd are
   sizes-told (object.Client Moved) outcomes are told = absurd are
   sizes-told (object.Server s) outcomes are told = absurd are
+  sizes-told (object.Queries s) outcomes are told = absurd are
 
   pub no-sizes-told : (o : Object) (e : Fault) → AreNoOutcomesIn o e → CopiesObject (TellsLoadSizes sizes) o (Err e)
   no-sizes-told (object.Client (Loaded d)) e none = absurd none
@@ -131,3 +140,4 @@ module _ (sizes : LoadSizes) where
   no-sizes-told (object.Client (Loading l)) e none = ap (λ (f : Fault). Err f) none
   no-sizes-told (object.Client Moved) e none = ap (λ (f : Fault). Err f) none
   no-sizes-told (object.Server s) e none = ap (λ (f : Fault). Err f) none
+  no-sizes-told (object.Queries s) e none = ap (λ (f : Fault). Err f) none

@@ -6,7 +6,7 @@ use Rattle.host_clients.specs.Faults.{code_of}
 use Rattle.host_clients.specs.declared.fault.Fault.{Fault}
 use Rattle.host_clients.specs.declared.log.BatchLog.{BatchLog}
 use Rattle.host_clients.specs.declared.object.Object.{Object}
-use Rattle.host_clients.specs.declared.object.Object.TheVariants.{Server, Client}
+use Rattle.host_clients.specs.declared.object.Object.TheVariants.{Server, Client, Queries}
 use Rattle.rudzkvano_c.specs.Held.{Copies, CopiesObject}
 use Rattle.rudzkvano_c.specs.Logged.{CopiesLog, IsLogOf}
 use Rattle.rudzkvano_c.proofs.Holding.{copies-some}
@@ -15,11 +15,13 @@ module _ (loader : ℕ) (rounds stored : List ℕ) (keys : List (List KeyOf)) wh
   -- it has no log
   log-refused : (o : Object) (e : Fault) → IsLogOf o loader (Err e) → CopiesObject (CopiesLog loader rounds stored keys) o (Err e)
   log-refused (Server s) e is = ap (λ (f : Fault). Err f) is
+  log-refused (Queries s) e is = ap (λ (f : Fault). Err f) is
   log-refused (Client c) e is = tt
 
   -- it has one, which isn't copied
   log-left : (o : Object) (l : BatchLog) (e : Fault) → IsLogOf o loader (Ok l) → CopiesObject (CopiesLog loader rounds stored keys) o (Err e)
   log-left (Server s) l e is = absurd is
+  log-left (Queries s) l e is = absurd is
   log-left (Client c) l e is = tt
 
   -- shows the same of what a handle holds

@@ -14,7 +14,7 @@ use Rattle.host_clients.specs.Known.{KeepsOrForgets, OnClient, PrimesSaid, Clear
 use Rattle.host_clients.specs.Laid.{AreKeyTexts, AreKeys, LaidKeys, LaidReply, TextsOf, items_at, key_at, keys_at, reply_at}
 use Rattle.host_clients.specs.Loads.{AreOutcomesOf, load_orders}
 use Rattle.host_clients.specs.Opening.{RefusesOpening}
-use Rattle.host_clients.specs.Refused.{BeginFault, ClearFault, FailureFault, LoadFault, PrimeFault, RowsFault}
+use Rattle.host_clients.specs.Refused.{AskFault, ClearFault, FailureFault, LoadFault, PrimeFault, RowsFault}
 use Rattle.host_clients.specs.UnderWay.{IsAnswerOf, orders_out}
 use Rattle.host_clients.specs.declared.client.HostClient.{HostClient}
 use Rattle.host_clients.specs.declared.client.HostClient.TheVariants.{Asked, Answered, Loading, Loaded}
@@ -36,6 +36,7 @@ use Rattle.rudzkvano_c.specs.declared.servers.SchemaFault.{SchemaFault}
 abbrev pub HoldsServer : (ServerOf → Type 0) → Option Object → Type 0
 HoldsServer holds (Some (object.Server s)) = holds s
 HoldsServer holds (Some (object.Client c)) = ⊥
+HoldsServer holds (Some (object.Queries s)) = ⊥
 HoldsServer holds None = ⊥
 
 -- says how a call went, by its code
@@ -51,7 +52,10 @@ abbrev pub MakesObject : (HostClient → HostClient → Result (Unit {0}) Fault 
     → Object → Object → Result (Unit {0}) Fault → Type 0
 MakesObject makes (object.Client c) (object.Client d) done = makes c d done
 MakesObject makes (object.Client c) (object.Server s) done = ⊥
+MakesObject makes (object.Client c) (object.Queries s) done = ⊥
 MakesObject makes (object.Server s) new done = (new ≡ object.Server s)
+    × (done ≡ Err fault.BadHandle)
+MakesObject makes (object.Queries s) new done = (new ≡ object.Queries s)
     × (done ≡ Err fault.BadHandle)
 
 -- says what a call makes of what a handle holds, and how it went; an empty handle stays empty
@@ -97,11 +101,18 @@ Opens text bindings was told old new code = (made : Result Object Fault)
 abbrev pub StaysUnderWay : HostClient → HostClient → Type 0
 StaysUnderWay old new = is_busy old ≡ true → new ≡ old
 
--- it is begun; or it is refused for that fault, and the client is as it was, and what is under way too
-abbrev pub BeginsWith : HostAsked → HostClient → HostClient → Result (Unit {0}) Fault → Type 0
-BeginsWith asked old new (Ok done) = IsBegun old asked new
-BeginsWith asked old new (Err e) = (client_in new ≡ client_in old) × StaysUnderWay old new
-    × BeginFault old e
+-- it is begun, planned by that server; or it is refused for that fault, and the client is as it was, and what is under way too
+abbrev pub BeginsWith : ServerOf → HostAsked
+    → HostClient → HostClient → Result (Unit {0}) Fault → Type 0
+BeginsWith server asked old new (Ok done) = IsBegun server old asked new
+BeginsWith server asked old new (Err e) = (client_in new ≡ client_in old)
+    × StaysUnderWay old new × AskFault server old e
+
+-- says the same of the server of the queries that are held; where none are, the client stays as it is, and the call is refused
+abbrev pub BeginsBy : Option Object → HostAsked
+    → HostClient → HostClient → Result (Unit {0}) Fault → Type 0
+BeginsBy (Some (object.Queries s)) asked old new done = BeginsWith s asked old new done
+BeginsBy held asked old new done = (new ≡ old) × (done ≡ Err fault.BadHandle)
 
 -- it is begun to load keys, which are well formed, and as wide as the loader's keys; or it is refused for that fault, and nothing has changed
 abbrev pub BeginsLoad : LaidKeys → HostClient → HostClient → Result (Unit {0}) Fault → Type 0
@@ -113,7 +124,10 @@ BeginsLoad keys old new (Err e) = (new ≡ old) × LoadFault keys old e
 abbrev pub AdvancesObject : Object → Object → Result ClientProgress Fault → Type 0
 AdvancesObject (object.Client c) (object.Client d) progress = Advances c d progress
 AdvancesObject (object.Client c) (object.Server s) progress = ⊥
+AdvancesObject (object.Client c) (object.Queries s) progress = ⊥
 AdvancesObject (object.Server s) new progress = (new ≡ object.Server s)
+    × (progress ≡ Err fault.BadHandle)
+AdvancesObject (object.Queries s) new progress = (new ≡ object.Queries s)
     × (progress ≡ Err fault.BadHandle)
 
 -- says what `rz_next` makes of a handle: of what it holds what a call to go on makes of it, by the code
@@ -196,11 +210,11 @@ TellsCleared loader key told = Tells loader key (Clears loader (key_at key)) (Cl
 
 -- ---- what is copied
 
--- The text is that of the answer, which is the answer of what was asked: in a session of a client of its server, whose loaders were asked
--- exactly the batches of a lawful log.
+-- The text is that of the answer, which is the answer of what was asked: in a session of a client of the server that planned it, whose
+-- loaders were asked exactly the batches of a lawful log.
 abbrev pub CopiesAnswer : List ℕ → HostClient → Result (Unit {0}) Fault → Type 0
 CopiesAnswer text (Answered a) done =
-    OnOk done ((text ≡ a.text) × IsAnswerOf a.client.server a.asked text a.rounds)
+    OnOk done ((text ≡ a.text) × IsAnswerOf a.server a.asked text a.rounds)
 CopiesAnswer text client done = done ≡ Err fault.Idle
 
 -- The outcomes are those of the keys that were asked for, one for each, in order: as a call of `load_many` gives them in a session of a
@@ -224,6 +238,7 @@ AreOrdersOf client orders = ⊥
 abbrev pub AreOrdersIn : Object → List OrderOf → Type 0
 AreOrdersIn (object.Client c) orders = AreOrdersOf c orders
 AreOrdersIn (object.Server s) orders = ⊥
+AreOrdersIn (object.Queries s) orders = ⊥
 
 -- says why an object has none
 abbrev pub LacksOrders : HostClient → Fault → Type 0
@@ -234,12 +249,14 @@ LacksOrders client e = e ≡ fault.NoOrder
 abbrev pub AreNoOrdersIn : Object → Fault → Type 0
 AreNoOrdersIn (object.Client c) e = LacksOrders c e
 AreNoOrdersIn (object.Server s) e = e ≡ fault.BadHandle
+AreNoOrdersIn (object.Queries s) e = e ≡ fault.BadHandle
 
 -- says what is copied of an object that is a client
 abbrev pub CopiesObject : (HostClient → Result (Unit {0}) Fault → Type 0)
     → Object → Result (Unit {0}) Fault → Type 0
 CopiesObject copies (object.Client c) done = copies c done
 CopiesObject copies (object.Server s) done = done ≡ Err fault.BadHandle
+CopiesObject copies (object.Queries s) done = done ≡ Err fault.BadHandle
 
 -- says what is copied of the client that a handle holds
 abbrev pub Copies : (HostClient → Result (Unit {0}) Fault → Type 0) → Option Object → ℤ → Type 0
@@ -251,6 +268,7 @@ abbrev pub CopiesServer : (ServerOf → Result (Unit {0}) Fault → Type 0)
     → Object → Result (Unit {0}) Fault → Type 0
 CopiesServer copies (object.Server s) done = copies s done
 CopiesServer copies (object.Client c) done = done ≡ Err fault.BadHandle
+CopiesServer copies (object.Queries s) done = done ≡ Err fault.BadHandle
 
 abbrev pub CopiesOfServer : (ServerOf → Result (Unit {0}) Fault → Type 0)
     → Option Object → ℤ → Type 0

@@ -28,6 +28,7 @@ HasOutcomes outcomes client = ⊥
 abbrev pub AreOutcomesIn : Object → List OutcomeOf → Type 0
 AreOutcomesIn (object.Client c) outcomes = HasOutcomes outcomes c
 AreOutcomesIn (object.Server s) outcomes = ⊥
+AreOutcomesIn (object.Queries s) outcomes = ⊥
 
 -- says why an object has no outcomes
 abbrev pub LacksOutcomes : Fault → HostClient → Type 0
@@ -37,6 +38,7 @@ LacksOutcomes e client = e ≡ fault.Idle
 abbrev pub AreNoOutcomesIn : Object → Fault → Type 0
 AreNoOutcomesIn (object.Client c) e = LacksOutcomes e c
 AreNoOutcomesIn (object.Server s) e = e ≡ fault.BadHandle
+AreNoOutcomesIn (object.Queries s) e = e ≡ fault.BadHandle
 
 -- with the client's faults these numbers and texts say its outcomes
 abbrev pub CopiesRows : List ℕ → List ℕ → List (List ℕ)

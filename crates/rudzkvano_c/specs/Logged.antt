@@ -9,7 +9,7 @@ use Rattle.host_clients.specs.declared.fault.Fault.{Fault}
 use Rattle.host_clients.specs.declared.fault.Fault.TheVariants as fault
 use Rattle.host_clients.specs.declared.log.BatchLog.{BatchLog}
 use Rattle.host_clients.specs.declared.object.Object.{Object}
-use Rattle.host_clients.specs.declared.object.Object.TheVariants.{Server, Client}
+use Rattle.host_clients.specs.declared.object.Object.TheVariants.{Server, Client, Queries}
 use Rattle.rudzkvano_c.specs.declared.keys.LogSizes.{LogSizes}
 
 -- the log of a client's loader is that
@@ -21,6 +21,8 @@ HasLog l client loader =
 abbrev pub IsLogOf : Object → ℕ → Result BatchLog Fault → Type 0
 IsLogOf (Server s) loader (Ok l) = ⊥
 IsLogOf (Server s) loader (Err e) = e ≡ fault.BadHandle
+IsLogOf (Queries s) loader (Ok l) = ⊥
+IsLogOf (Queries s) loader (Err e) = e ≡ fault.BadHandle
 IsLogOf (Client c) loader (Ok l) = HasLog l c loader
 IsLogOf (Client c) loader (Err e) = Unit {0}
 

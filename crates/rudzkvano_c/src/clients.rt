@@ -58,7 +58,7 @@ fn limit_answers(object: &mut Object, most: usize) -> Result<(), Fault>
 {
     match object {
         Object::Client(client) => client.limit_answers(limit_of(most)),
-        Object::Server(_) => Err(Fault::BadHandle),
+        Object::Server(_) | Object::Queries(_) => Err(Fault::BadHandle),
     }
 }
 
@@ -88,7 +88,7 @@ fn restart(object: &mut Object) -> Result<(), Fault>
 {
     match object {
         Object::Client(client) => client.restart(),
-        Object::Server(_) => Err(Fault::BadHandle),
+        Object::Server(_) | Object::Queries(_) => Err(Fault::BadHandle),
     }
 }
 

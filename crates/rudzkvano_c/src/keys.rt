@@ -57,7 +57,7 @@ fn prime(
             let added = client.prime_flat(alloc, key.loader, key.ends, key.bytes, item);
             tell(added, primed)
         }
-        Object::Server(_) => Err(Fault::BadHandle),
+        Object::Server(_) | Object::Queries(_) => Err(Fault::BadHandle),
     }
 }
 
@@ -116,7 +116,7 @@ fn clear(
             let there = client.clear_flat(alloc, key.loader, key.ends, key.bytes);
             tell(there, was_known)
         }
-        Object::Server(_) => Err(Fault::BadHandle),
+        Object::Server(_) | Object::Queries(_) => Err(Fault::BadHandle),
     }
 }
 
@@ -155,7 +155,7 @@ fn clear_all(object: &mut Object, loader: usize) -> Result<(), Fault>
 {
     match object {
         Object::Client(client) => client.clear_all(loader),
-        Object::Server(_) => Err(Fault::BadHandle),
+        Object::Server(_) | Object::Queries(_) => Err(Fault::BadHandle),
     }
 }
 
@@ -183,7 +183,7 @@ fn log_of(alloc: Global, object: &Object, loader: usize) -> Result<BatchLog, Fau
 {
     match object {
         Object::Client(client) => client.log(alloc, loader),
-        Object::Server(_) => Err(Fault::BadHandle),
+        Object::Server(_) | Object::Queries(_) => Err(Fault::BadHandle),
     }
 }
 
@@ -213,7 +213,7 @@ fn tell_log_sizes(
             *sizes = log_sizes(alloc, client, loader)?;
             Ok(())
         }
-        Object::Server(_) => Err(Fault::BadHandle),
+        Object::Server(_) | Object::Queries(_) => Err(Fault::BadHandle),
     }
 }
 

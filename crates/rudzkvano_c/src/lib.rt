@@ -1,4 +1,4 @@
-//! Rudzkvano for C: handles of servers and of clients, and all data in buffers of the caller. `clients/c/rudzkvano.h` declares the calls.
+//! Rudzkvano for C: handles of servers, of queries and of clients, and all data in buffers of the caller. `clients/c/rudzkvano.h` declares the calls.
 //!
 //! A caller may rely on this: what a handle holds is known to every contract here (`held`), and each call says what it makes of it. What
 //! `rz_answer` copies is the answer of what was asked (`IsAnswerOf` of `host_clients/specs/UnderWay.antt`), and what `rz_loaded` copies are
@@ -12,5 +12,6 @@ mod codes;
 mod handle;
 mod keys;
 mod loads;
+mod queries;
 mod requests;
 mod servers;

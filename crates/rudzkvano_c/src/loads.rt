@@ -30,7 +30,7 @@ fn begin_load(alloc: Global, object: &mut Object, keys: &FlatKeys<'_>) -> Result
 {
     match object {
         Object::Client(client) => client.begin_load(alloc, keys),
-        Object::Server(_) => Err(Fault::BadHandle),
+        Object::Server(_) | Object::Queries(_) => Err(Fault::BadHandle),
     }
 }
 
@@ -77,7 +77,7 @@ fn outcomes_of(object: &Object) -> Result<&FlatOutcomes, Fault>
     match object {
         Object::Client(HostClient::Loaded(loaded)) => Ok(loaded.outcomes()),
         Object::Client(_) => Err(Fault::Idle),
-        Object::Server(_) => Err(Fault::BadHandle),
+        Object::Server(_) | Object::Queries(_) => Err(Fault::BadHandle),
     }
 }
 

@@ -2,15 +2,15 @@
 //!
 //! A call has as many parameters as it has buffers: a struct of slices can't cross from C, and structs of
 //! pointers and lengths would be read by code that no contract reaches.
-ghost use Rattle.std.specs.Prelude.{◌≡◌, IfOk, IfErr};
+ghost use Rattle.std.specs.Prelude.{◌≡◌, Some, IfOk, IfErr};
 ghost use Rattle.load_memory.specs.Cells.{cut};
 ghost use Rattle.flat_orders.specs.Orders.{orders_said};
 ghost use Rattle.flat_rows.specs.Keyed.{laid_rows};
-ghost use Rattle.host_clients.specs.Asked.{line as line_asked, parts_asked, request as request_asked};
+ghost use Rattle.host_clients.specs.Asked.{line as line_asked, parts_asked};
 ghost use Rattle.host_clients.specs.Clients.{Cancels};
 ghost use Rattle.host_clients.specs.Laid.{laid_reply, reply_at};
-ghost use Rattle.host_clients.specs.Texts.{flat_parts};
-ghost use Rattle.rudzkvano_c.specs.Held.{AdvancesHeld, AdvancesObject, AreNoOrdersIn, AreOrdersIn, BeginsWith, Copies, CopiesAnswer, CopiesObject, CopiesOrders, Makes, MakesObject};
+ghost use Rattle.host_clients.specs.Texts.{asked_in};
+ghost use Rattle.rudzkvano_c.specs.Held.{AdvancesHeld, AdvancesObject, AreNoOrdersIn, AreOrdersIn, BeginsBy, Copies, CopiesAnswer, CopiesObject, CopiesOrders, Makes, MakesObject};
 ghost use Rattle.rudzkvano_c.specs.Held.{TakesFailed, TakesRows, TakesRowsByKey, rows_at};
 ghost use Rattle.rudzkvano_c.specs.Told.{IsRowTold};
 ghost use Rattle.rudzkvano_c.specs.Sizes.{TellsSizes, sizes_in, sizes_of};
@@ -18,7 +18,7 @@ ghost use Rattle.rudzkvano_c.specs.Sizes.{TellsSizes, sizes_in, sizes_of};
 use crate::codes::{code_of, progress_code};
 use crate::handle::Handle;
 use host_clients::{
-    ClientProgress, Fault, FlatOrders, FlatReply, FlatRequest, HostClient, KeyedRefusal,
+    ClientProgress, Fault, FlatAsked, FlatOrders, FlatReply, FlatRequest, HostClient, KeyedRefusal,
     KeyedReply, Object,
 };
 use std::alloc::Global;
@@ -36,43 +36,66 @@ pub struct Sizes {
     pub rounds: u64,
 }
 
-fn begin(alloc: Global, object: &mut Object, line: &[u8]) -> Result<(), Fault>
-    ensures { MakesObject (BeginsWith (line_asked line.now))
+// What a client makes of what it is asked, by what is kept of queries.
+fn begin_by(
+    alloc: Global,
+    object: &mut Object,
+    queries: &mut Object,
+    asked: &FlatAsked<'_>,
+) -> Result<(), Fault>
+    ensures begun { MakesObject (BeginsBy (Some queries.old) (asked_in asked.now))
         object.old object.new result }
+    ensures kept { queries.new ≡ queries.old }
 {
-    match object {
-        Object::Client(client) => client.begin_line(alloc, line),
-        Object::Server(_) => Err(Fault::BadHandle),
+    match (object, queries) {
+        (Object::Client(client), Object::Queries(queries)) => client.begin(alloc, queries, asked),
+        _ => Err(Fault::BadHandle),
     }
+}
+
+// The same, by what another handle holds.
+fn begin(
+    alloc: Global,
+    object: &mut Object,
+    queries: &mut Handle,
+    asked: &FlatAsked<'_>,
+) -> Result<(), Fault>
+    ensures begun { MakesObject (BeginsBy queries.old.held (asked_in asked.now))
+        object.old object.new result }
+    ensures kept { queries.new.held ≡ queries.old.held }
+{
+    let Some(mut lent) = queries.take(alloc) else {
+        return Err(Fault::BadHandle);
+    };
+    let begun = begin_by(alloc, object, &mut lent, asked);
+    queries.put(alloc, lent);
+    begun
 }
 
 /// Begins the answer to a request line.
 ///
 /// # Promise
 ///
-/// The request is planned for the client as it is, and nothing is asked of loaders yet (`IsBegun`); or, refused,
-/// the client is as it was, and the code says why: it is busy, or memory ran out (`BeginFault`)
+/// The request is planned by the server of the queries for the client as it is, and nothing is asked of loaders yet
+/// (`IsBegun`); or, refused, the client is as it was, and the code says why: it is busy, that server has another
+/// number of loaders, or memory ran out (`AskFault`)
 #[unsafe(no_mangle)]
-pub extern "C" fn rz_begin(alloc: Global, client: &mut Handle, line: &[u8]) -> i32
-    ensures { Makes (BeginsWith (line_asked line.now))
+pub extern "C" fn rz_begin(
+    alloc: Global,
+    client: &mut Handle,
+    queries: &mut Handle,
+    line: &[u8],
+) -> i32
+    ensures begun { Makes (BeginsBy queries.old.held (line_asked line.now))
         client.old.held client.new.held result }
+    ensures kept { queries.new.held ≡ queries.old.held }
 {
     let Some(mut object) = client.take(alloc) else {
         return Fault::BadHandle.code();
     };
-    let begun = begin(alloc, &mut object, line);
+    let begun = begin(alloc, &mut object, queries, &FlatAsked::Line(line));
     client.put(alloc, object);
     code_of(begun)
-}
-
-fn begin_request(alloc: Global, object: &mut Object, request: &FlatRequest<'_>) -> Result<(), Fault>
-    ensures { MakesObject (BeginsWith (request_asked (flat_parts request.now)))
-        object.old object.new result }
-{
-    match object {
-        Object::Client(client) => client.begin_request(alloc, request),
-        Object::Server(_) => Err(Fault::BadHandle),
-    }
 }
 
 /// Begins the answer to a request by its parts.
@@ -84,12 +107,14 @@ fn begin_request(alloc: Global, object: &mut Object, request: &FlatRequest<'_>) 
 pub extern "C" fn rz_begin_request(
     alloc: Global,
     client: &mut Handle,
+    queries: &mut Handle,
     query: &[u8],
     operation_name: &[u8],
     variables: &[u8],
 ) -> i32
-    ensures { Makes (BeginsWith (parts_asked query.now operation_name.now variables.now))
+    ensures begun { Makes (BeginsBy queries.old.held (parts_asked query.now operation_name.now variables.now))
         client.old.held client.new.held result }
+    ensures kept { queries.new.held ≡ queries.old.held }
 {
     let Some(mut object) = client.take(alloc) else {
         return Fault::BadHandle.code();
@@ -99,7 +124,7 @@ pub extern "C" fn rz_begin_request(
         operation_name,
         variables,
     };
-    let begun = begin_request(alloc, &mut object, &request);
+    let begun = begin(alloc, &mut object, queries, &FlatAsked::Request(request));
     client.put(alloc, object);
     code_of(begun)
 }
@@ -110,7 +135,7 @@ fn cancel(object: &mut Object) -> Result<(), Fault>
 {
     match object {
         Object::Client(client) => client.cancel(),
-        Object::Server(_) => Err(Fault::BadHandle),
+        Object::Server(_) | Object::Queries(_) => Err(Fault::BadHandle),
     }
 }
 
@@ -137,7 +162,7 @@ fn advance(alloc: Global, object: &mut Object) -> Result<ClientProgress, Fault>
 {
     match object {
         Object::Client(client) => client.advance(alloc),
-        Object::Server(_) => Err(Fault::BadHandle),
+        Object::Server(_) | Object::Queries(_) => Err(Fault::BadHandle),
     }
 }
 
@@ -209,7 +234,7 @@ fn tell_sizes(object: &Object, sizes: &mut Sizes) -> Result<(), Fault>
             *sizes = sizes_in(client);
             Ok(())
         }
-        Object::Server(_) => Err(Fault::BadHandle),
+        Object::Server(_) | Object::Queries(_) => Err(Fault::BadHandle),
     }
 }
 
@@ -242,7 +267,7 @@ fn orders_of(object: &Object) -> Result<&FlatOrders, Fault>
         Object::Client(HostClient::Asked(under_way)) => Ok(under_way.orders()),
         Object::Client(HostClient::Loading(loading)) => Ok(loading.orders()),
         Object::Client(_) => Err(Fault::NoOrder),
-        Object::Server(_) => Err(Fault::BadHandle),
+        Object::Server(_) | Object::Queries(_) => Err(Fault::BadHandle),
     }
 }
 
@@ -298,7 +323,7 @@ fn take_rows(
 {
     match object {
         Object::Client(client) => client.take_rows(alloc, order, reply),
-        Object::Server(_) => Err(Fault::BadHandle),
+        Object::Server(_) | Object::Queries(_) => Err(Fault::BadHandle),
     }
 }
 
@@ -363,7 +388,7 @@ fn take_keyed_rows(
 {
     match object {
         Object::Client(client) => tell_row(client.take_keyed_rows(alloc, order, reply), row),
-        Object::Server(_) => Err(Fault::BadHandle),
+        Object::Server(_) | Object::Queries(_) => Err(Fault::BadHandle),
     }
 }
 
@@ -411,7 +436,7 @@ fn take_failed(alloc: Global, object: &mut Object, order: usize, text: &[u8]) ->
 {
     match object {
         Object::Client(client) => client.take_failed(alloc, order, text),
-        Object::Server(_) => Err(Fault::BadHandle),
+        Object::Server(_) | Object::Queries(_) => Err(Fault::BadHandle),
     }
 }
 
@@ -445,7 +470,7 @@ fn copy_answer(object: &Object, bytes: &mut [u8]) -> Result<(), Fault>
     let answered = match object {
         Object::Client(HostClient::Answered(answered)) => answered,
         Object::Client(_) => return Err(Fault::Idle),
-        Object::Server(_) => return Err(Fault::BadHandle),
+        Object::Server(_) | Object::Queries(_) => return Err(Fault::BadHandle),
     };
     let text = answered.text().as_bytes();
     if bytes.len() != text.len() {
@@ -460,7 +485,7 @@ fn copy_answer(object: &Object, bytes: &mut [u8]) -> Result<(), Fault>
 /// # Promise
 ///
 /// Where it gives 0, the bytes are the text of the answer that the handle holds, and that answers what was begun
-/// (`IsAnswerOf`): in a session of a client of its server, from one state to a later one, as `server` answers it
+/// (`IsAnswerOf`): in a session of a client of the server that planned it, from one state to a later one, as `server` answers it
 /// (`AnswersAsked`)
 #[unsafe(no_mangle)]
 pub extern "C" fn rz_answer(alloc: Global, client: &mut Handle, bytes: &mut [u8]) -> i32

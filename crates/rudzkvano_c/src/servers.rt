@@ -166,7 +166,7 @@ fn tell_sizes(alloc: Global, object: &Object, sizes: &mut LoaderSizes) -> Result
             *sizes = sizes_of(alloc, server)?;
             Ok(())
         }
-        Object::Client(_) => Err(Fault::BadHandle),
+        Object::Client(_) | Object::Queries(_) => Err(Fault::BadHandle),
     }
 }
 
@@ -203,7 +203,7 @@ fn copy_loaders(
 {
     match object {
         Object::Server(server) => LoaderTexts::of(alloc, server)?.copy_to(kinds, ends, bytes),
-        Object::Client(_) => Err(Fault::BadHandle),
+        Object::Client(_) | Object::Queries(_) => Err(Fault::BadHandle),
     }
 }
 

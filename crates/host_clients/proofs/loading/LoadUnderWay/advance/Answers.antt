@@ -14,7 +14,7 @@ invariant_of-loaded c =
 pub invariant_of-loading : goal.invariant_of-loading
 invariant_of-loading c =
     let e = c.advance.ensures in
-    holds-load-after c.self.inside.hand c.advance.new.self e.asked e.underway e.same c.self.inside.server c.self.inside.orders c.in-Ok-orders_of.orders c.self.invariant
+    holds-load-after c.self.inside.hand c.advance.new.self e.asked e.underway e.same c.self.inside.orders c.in-Ok-orders_of.orders c.self.invariant
     (c.in-Ok-orders_of.ensures ∙ ap (map order_in) c.orders.ensures)
 
 pub invariant_of-loading-in-Ok-Waiting : goal.invariant_of-loading-in-Ok-Waiting

@@ -8,13 +8,13 @@ use Rattle.host_clients.proofs.loading.LoadUnderWay.take.Goals as goal
 pub invariant_of-self : goal.invariant_of-self
 invariant_of-self c =
     let e = c.answer.ensures in
-    holds-load-taken c.self.inside.hand c.answer.new.self c.args.number c.args.answer c.in-Ok.ensures.taken c.in-Ok.ensures.underway e.client e.asked c.self.inside.server
-    c.self.inside.orders c.self.invariant
+    holds-load-taken c.self.inside.hand c.answer.new.self c.args.number c.args.answer c.in-Ok.ensures.taken c.in-Ok.ensures.underway e.client e.asked c.self.inside.orders
+    c.self.invariant
 
 pub invariant_of-self-in-Err-NoMemory : goal.invariant_of-self-in-Err-NoMemory
 invariant_of-self-in-Err-NoMemory c =
     let e = c.answer.ensures in let is : c.answer.result ≡ Err NoMemory = (let i = c.in-Err-NoMemory.is in let f = c.in-Err-NoMemory.field-0-is in cc) in
-    holds-load-over c.self.inside.hand c.answer.new.self c.self.inside.server c.self.inside.orders c.new.result c.in-Err-NoMemory.ensures.stopped e.client e.asked (e.refused.over is)
+    holds-load-over c.self.inside.hand c.answer.new.self c.self.inside.orders c.new.result c.in-Err-NoMemory.ensures.stopped e.client e.asked (e.refused.over is)
     c.new.ensures c.self.invariant
 
 pub returns-in-Ok-clause-taken : goal.returns-in-Ok-clause-taken

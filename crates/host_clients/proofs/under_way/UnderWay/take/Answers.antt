@@ -8,24 +8,23 @@ use Rattle.host_clients.proofs.under_way.UnderWay.take.Goals as goal
 pub invariant_of-self : goal.invariant_of-self
 invariant_of-self c =
     let e = c.answer.ensures in
-    holds-taken c.self.inside.hand c.answer.new.self c.args.number c.args.answer c.in-Ok.ensures.taken c.in-Ok.ensures.underway e.client e.planned c.self.inside.server c.self.inside.note.asked c.self.inside.orders
+    holds-taken c.self.inside.hand c.answer.new.self c.args.number c.args.answer c.in-Ok.ensures.taken c.in-Ok.ensures.underway e.client e.planned c.self.inside.queries.value c.self.inside.note.asked c.self.inside.orders
     c.self.invariant
 
 pub invariant_of-self-in-Err-NoMemory : goal.invariant_of-self-in-Err-NoMemory
 invariant_of-self-in-Err-NoMemory c =
     let e = c.answer.ensures in let is : c.answer.result ≡ Err NoMemory = (let i = c.in-Err-NoMemory.is in let f = c.in-Err-NoMemory.field-0-is in cc) in
-    holds-over c.self.inside.hand c.answer.new.self c.self.inside.server c.self.inside.note.asked c.new.result c.in-Err-NoMemory.ensures.stopped e.client e.planned (e.refused.over is) c.new.ensures c.self.invariant.is_of
-    c.self.invariant.server_is
+    holds-over c.self.inside.queries.value c.self.inside.hand c.answer.new.self c.self.inside.note.asked c.new.result c.in-Err-NoMemory.ensures.stopped e.planned (e.refused.over is) c.new.ensures c.self.invariant.is_of
 
 pub returns-in-Ok-clause-taken : goal.returns-in-Ok-clause-taken
 returns-in-Ok-clause-taken c =
     let e = c.answer.ensures in
     rw (← c.self.view_is)
-    (takes-it c.self.inside.hand c.answer.new.self c.args.number c.args.answer c.in-Ok.ensures.taken c.in-Ok.ensures.underway e.client e.planned c.self.inside.note.asked)
+    (takes-it c.self.inside.hand c.answer.new.self c.args.number c.args.answer c.in-Ok.ensures.taken c.in-Ok.ensures.underway e.client e.planned c.self.inside.queries.value c.self.inside.note.asked)
 
 pub returns-in-Err-NoMemory-clause-stopped : goal.returns-in-Err-NoMemory-clause-stopped
 returns-in-Err-NoMemory-clause-stopped c = λ stops.
     let e = c.answer.ensures in let is : c.answer.result ≡ Err NoMemory = (let i = c.in-Err-NoMemory.is in let f = c.in-Err-NoMemory.field-0-is in cc) in
     rw (← c.self.view_is)
-    (stopped-at c.self.inside.hand c.answer.new.self c.args.number c.self.inside.note.asked c.in-Err-NoMemory.ensures.stopped e.client e.planned
+    (stopped-at c.self.inside.queries.value c.self.inside.hand c.answer.new.self c.args.number c.self.inside.note.asked c.in-Err-NoMemory.ensures.stopped e.client e.planned
     (waits-at (pending_in c.self.inside.hand.far) c.args.number c.answer.result is e.refused.no_order e.refused.answered) (e.refused.over is))
