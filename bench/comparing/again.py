@@ -4,7 +4,7 @@
 Each of DOCUMENTS random documents over examples/ (2,000 if left out) is asked with up to four values of its variables, each twice, with the
 others in between, alone and in arrays: so its document and its plans are kept, and used again. Each answer is that of a run to which every
 text is new, since a comment at its end tells it from all others. The ways are those of builds.py, and the library for C, if it is given,
-with one client for all. It prints what differs, the last line counts, and the status is 1 where something does.
+with one client for all and with one for each line. It prints what differs, the last line counts, and the status is 1 where something does.
 """
 import json
 import os
@@ -49,8 +49,8 @@ def lines_of(draw, count):
     return again, new
 
 
-def by_library(library, lines):
-    """The answers of one client over the library for C, to the lines one after the other."""
+def by_library(library, lines, *, alone):
+    """The answers over the library for C, to the lines one after the other: of one client that starts again, or alone, of a client for each."""
     from answer_worlds import answer, read_table, read_text
     from rudzkvano import Library, Server
 
@@ -58,12 +58,19 @@ def by_library(library, lines):
     tables = {name: read_table(f"{EXAMPLES}/{name}.csv") for name in NAMES}
 
     def answered(client, line):
-        client.restart()
         client.begin(line)
         return answer(client, tables)
 
+    def answered_alone(server, line):
+        with server.client({}) as client:
+            return answered(client, line)
+
+    def answered_again(client, line):
+        client.restart()
+        return answered(client, line)
+
     with Server(schema, bindings, Library(library)) as server, server.client({}) as client:
-        return [answered(client, line) for line in lines]
+        return [answered_alone(server, line) if alone else answered_again(client, line) for line in lines]
 
 
 def differing(ways, again, new):
@@ -87,7 +94,8 @@ def main():
 
     ways = [(mode or "no options", by_program(mode)) for mode in MODES]
     if library:
-        ways.append(("the library for C", lambda lines: by_library(library, lines)))
+        ways.append(("the library for C", lambda lines: by_library(library, lines, alone=False)))
+        ways.append(("the library for C, a client for each line", lambda lines: by_library(library, lines, alone=True)))
     wrong = list(differing(ways, again, new))
     for name, first in wrong:
         print("differs with", name, *first)

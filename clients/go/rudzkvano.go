@@ -17,7 +17,6 @@ import (
 	"encoding/json"
 	"fmt"
 	"math"
-	"reflect"
 	"runtime"
 	"strings"
 	"sync"
@@ -110,7 +109,7 @@ func (e *Error) Error() string { return e.Name + ": " + e.Text }
 
 // ---- Calls.
 
-// handle holds a server or a client of the library. It is in one call at a time, whatever the goroutines are.
+// handle holds a server, queries or a client of the library. It is in one call at a time, whatever the goroutines are.
 type handle struct {
 	mutex sync.Mutex
 	at    C.rz_handle
@@ -122,10 +121,15 @@ func newHandle() *handle {
 	return h
 }
 
-func (h *handle) close() {
+// close frees what the handle holds, and finds out whether that was something.
+func (h *handle) close() bool {
 	h.mutex.Lock()
 	defer h.mutex.Unlock()
+	if h.at.at == nil {
+		return false
+	}
 	C.rz_close(&h.at)
+	return true
 }
 
 func (h *handle) call(do func(at *C.rz_handle) C.int32_t) (int, error) {
@@ -220,16 +224,60 @@ func (k *keyLists) lists() [][]Key {
 
 // ---- Servers.
 
-// maxIdle is how many clients a server keeps for the next requests.
-const maxIdle = 16
-
 // Server is a schema with its bindings. Goroutines may share it.
 type Server struct {
 	handle  *handle
+	pool    *pool
 	loaders []Loader
+}
+
+// pool is what a server shares with its clients: a handle of the server, and the queries that no call uses. Queries keep what requests ask, for those
+// that come again. They are lent to the call that begins a request, so there are at most as many as calls that began at the same time.
+type pool struct {
+	server  *handle
 	mutex   sync.Mutex
-	// idle clients know no rows, but the documents of queries, which needn't be parsed again.
-	idle []*memory
+	queries []*handle
+	// users counts the server and its clients. The last that is closed frees the pool.
+	users int
+}
+
+func (p *pool) take() (*handle, error) {
+	p.mutex.Lock()
+	if last := len(p.queries) - 1; last >= 0 {
+		queries := p.queries[last]
+		p.queries = p.queries[:last]
+		p.mutex.Unlock()
+		return queries, nil
+	}
+	p.mutex.Unlock()
+	made := newHandle()
+	_, err := p.server.call(func(at *C.rz_handle) C.int32_t { return C.rz_queries(at, &made.at) })
+	return made, err
+}
+
+func (p *pool) give(queries *handle) {
+	p.mutex.Lock()
+	defer p.mutex.Unlock()
+	p.queries = append(p.queries, queries)
+}
+
+func (p *pool) join() {
+	p.mutex.Lock()
+	defer p.mutex.Unlock()
+	p.users++
+}
+
+func (p *pool) leave() {
+	p.mutex.Lock()
+	defer p.mutex.Unlock()
+	if p.users--; p.users > 0 {
+		return
+	}
+	p.server.close()
+	for _, queries := range p.queries {
+		queries.close()
+	}
+	p.queries = nil
 }
 
 // checkVersion refuses a library that doesn't go with the header that this package is compiled with: one of another major number, or an older one.
@@ -251,7 +299,7 @@ func Open(schema, bindings string) (*Server, error) {
 	if err := checkVersion(uint32(C.rz_version())); err != nil {
 		return nil, err
 	}
-	server := &Server{handle: newHandle()}
+	server := &Server{handle: newHandle(), pool: &pool{server: newHandle(), users: 1}}
 	var fault C.rz_fault
 	schemaBytes, bindingsBytes := []byte(schema), []byte(bindings)
 	_, err := server.handle.call(func(at *C.rz_handle) C.int32_t {
@@ -264,6 +312,9 @@ func Open(schema, bindings string) (*Server, error) {
 			})
 			return nil, &SchemaFault{int(fault.number), int(fault.line), int(fault.column), fault.in_bindings != 0, reason}
 		}
+		return nil, err
+	}
+	if _, err := server.handle.call(func(at *C.rz_handle) C.int32_t { return C.rz_share(at, &server.pool.server.at) }); err != nil {
 		return nil, err
 	}
 	if err := server.readLoaders(); err != nil {
@@ -292,15 +343,11 @@ func (s *Server) readLoaders() error {
 // Loaders has the loaders of the bindings.
 func (s *Server) Loaders() []Loader { return append([]Loader(nil), s.loaders...) }
 
-// Close frees the server. Clients that are open may be used further.
+// Close frees the server, if none of its clients is open. Those that are may be used further, and the last of them frees it.
 func (s *Server) Close() {
-	s.handle.close()
-	s.mutex.Lock()
-	defer s.mutex.Unlock()
-	for _, memory := range s.idle {
-		memory.handle.close()
+	if s.handle.close() {
+		s.pool.leave()
 	}
-	s.idle = nil
 }
 
 // Answer answers a request, and starts with a memory of nothing. The error is that of the context where it is done: then no further batch is
@@ -311,15 +358,12 @@ func (s *Server) Answer(ctx context.Context, request Request, loaders Loaders, o
 
 // AnswerText is Answer, and returns the text of the response, which is JSON.
 func (s *Server) AnswerText(ctx context.Context, request Request, loaders Loaders, options *Options) ([]byte, error) {
-	if err := s.check(loaders); err != nil {
-		return nil, err
-	}
-	memory, err := s.memory(options)
+	client, err := s.Client(loaders, options)
 	if err != nil {
 		return nil, err
 	}
-	defer s.keep(memory)
-	return memory.answer(ctx, request, loaders, options)
+	defer client.Close()
+	return client.AnswerText(ctx, request)
 }
 
 // Client makes a client, which knows nothing.
@@ -346,39 +390,6 @@ func (s *Server) check(functions Loaders) error {
 		}
 	}
 	return nil
-}
-
-// memory returns an idle client with these options, or makes one.
-func (s *Server) memory(options *Options) (*memory, error) {
-	limits, err := s.limits(options)
-	if err != nil {
-		return nil, err
-	}
-	s.mutex.Lock()
-	for place := len(s.idle) - 1; place >= 0; place-- {
-		if memory := s.idle[place]; reflect.DeepEqual(memory.limits, limits) {
-			s.idle = append(s.idle[:place], s.idle[place+1:]...)
-			s.mutex.Unlock()
-			return memory, memory.limitAnswers(options)
-		}
-	}
-	s.mutex.Unlock()
-	return s.newMemory(limits, options)
-}
-
-// keep has a client stand by, in place of the one that has stood by longest where there are enough. One that a panic left busy isn't kept.
-func (s *Server) keep(memory *memory) {
-	if memory.restart() != nil {
-		memory.handle.close()
-		return
-	}
-	s.mutex.Lock()
-	defer s.mutex.Unlock()
-	if len(s.idle) == maxIdle {
-		s.idle[0].handle.close()
-		s.idle = s.idle[1:]
-	}
-	s.idle = append(s.idle, memory)
 }
 
 func (s *Server) limits(options *Options) ([]uint32, error) {
@@ -411,14 +422,20 @@ func limit(most int) uint32 {
 }
 
 func (s *Server) newMemory(limits []uint32, options *Options) (*memory, error) {
-	made := &memory{newHandle(), s.loaders, limits, map[string]error{}}
+	s.pool.join()
+	made := &memory{newHandle(), s.pool, s.loaders, map[string]error{}}
 	_, err := s.handle.call(func(at *C.rz_handle) C.int32_t {
-		return C.rz_client(at, &made.handle.at, wordsAt(limits), C.size_t(len(limits)))
+		code := C.rz_client(at, &made.handle.at, wordsAt(limits), C.size_t(len(limits)))
+		if code < 0 || options == nil || options.MaxAnswer == 0 {
+			return code
+		}
+		return C.rz_limit_answers(&made.handle.at, C.size_t(options.MaxAnswer))
 	})
 	if err != nil {
+		s.pool.leave()
 		return nil, err
 	}
-	return made, made.limitAnswers(options)
+	return made, nil
 }
 
 func numberOf(loaders []Loader, name string) (int, error) {
@@ -440,11 +457,11 @@ func decoded(text []byte, err error) (*Response, error) {
 
 // ---- Answers.
 
-// memory is a client of the library: what it knows, and how many keys a batch of each loader may have.
+// memory is a client of the library, and the pool that it begins requests by.
 type memory struct {
 	handle  *handle
+	pool    *pool
 	loaders []Loader
-	limits  []uint32
 	// unread are the columns that are left out of what is known, each with the reason.
 	unread map[string]error
 }
@@ -464,15 +481,6 @@ type outcome struct {
 	err      error
 	time     time.Duration
 	panicked any
-}
-
-func (m *memory) limitAnswers(options *Options) error {
-	most := 0
-	if options != nil {
-		most = options.MaxAnswer
-	}
-	_, err := m.handle.call(func(at *C.rz_handle) C.int32_t { return C.rz_limit_answers(at, C.size_t(most)) })
-	return err
 }
 
 func (m *memory) restart() error {
@@ -534,11 +542,16 @@ func (m *memory) begin(request Request) error {
 			return err
 		}
 	}
-	_, err := m.handle.call(func(at *C.rz_handle) C.int32_t {
+	queries, err := m.pool.take()
+	if err != nil {
+		return err
+	}
+	defer m.pool.give(queries)
+	_, err = m.handle.call(func(at *C.rz_handle) C.int32_t {
 		if request.JSON != nil {
-			return C.rz_begin(at, bytesAt(request.JSON), C.size_t(len(request.JSON)))
+			return C.rz_begin(at, &queries.at, bytesAt(request.JSON), C.size_t(len(request.JSON)))
 		}
-		return C.rz_begin_request(at, bytesAt(query), C.size_t(len(query)), bytesAt(operation), C.size_t(len(operation)),
+		return C.rz_begin_request(at, &queries.at, bytesAt(query), C.size_t(len(query)), bytesAt(operation), C.size_t(len(operation)),
 			bytesAt(variables), C.size_t(len(variables)))
 	})
 	return err
@@ -848,4 +861,8 @@ func (c *Client) Log(loader string) ([]Batch, error) {
 }
 
 // Close frees the client.
-func (c *Client) Close() { c.memory.handle.close() }
+func (c *Client) Close() {
+	if c.memory.handle.close() {
+		c.memory.pool.leave()
+	}
+}

@@ -190,6 +190,60 @@ func TestTwoHundredRequestsAtTheSameTime(t *testing.T) {
 	group.Wait()
 }
 
+// Each goroutine begins with another line, and has other limits. Its requests go to the server and to a client in turn.
+func TestGoroutinesThatShareAServerAnswerAsStored(t *testing.T) {
+	world := readWorld("")
+	defer world.server.Close()
+	var group sync.WaitGroup
+	for number := 0; number < 8; number++ {
+		group.Add(1)
+		go func(number int) {
+			defer group.Done()
+			loaders, options := world.loaders(number%2 == 0, now), &Options{MaxBatch: number}
+			client := must(world.server.Client(loaders, options))
+			defer client.Close()
+			for turn := 0; turn < 500; turn++ {
+				place := (10*number + turn) % len(world.requests)
+				request, wanted := Request{JSON: world.requests[place]}, string(world.answers[place])
+				expect(t, number, answer(world.server.AnswerText(context.Background(), request, loaders, options)), wanted)
+				expect(t, number, answer(client.AnswerText(context.Background(), request)), wanted)
+			}
+		}(number)
+	}
+	group.Wait()
+	if kept := len(world.server.pool.queries); kept < 1 || kept > 8 {
+		t.Errorf("8 goroutines leave %d handles of queries", kept)
+	}
+}
+
+func TestClientsGoOnAfterTheirServer(t *testing.T) {
+	world := readWorld("")
+	loaders, ctx := world.loaders(true, now), context.Background()
+	clients := make([]*Client, 3)
+	for place := range clients {
+		clients[place] = must(world.server.Client(loaders, nil))
+	}
+	world.server.Close()
+	_, err := world.server.AnswerText(ctx, Request{JSON: world.requests[0]}, loaders, nil)
+	expect(t, "closed", err.(*Error).Name, "RZ_BAD_HANDLE")
+	var group sync.WaitGroup
+	for _, client := range clients {
+		group.Add(1)
+		go func(client *Client) {
+			defer group.Done()
+			for place, request := range world.requests {
+				expect(t, string(request), answer(client.AnswerText(ctx, Request{JSON: request})), string(world.answers[place]))
+			}
+			client.Close()
+			client.Close()
+		}(client)
+	}
+	group.Wait()
+	world.server.Close()
+	pool := world.server.pool
+	expect(t, "freed with the last of them", []any{pool.users, len(pool.queries), pool.server.close()}, []any{0, 0, false})
+}
+
 // answersOfOthers has the answers of query_cli to a file of lines, or else of the host in C over tables in memory.
 func answersOfOthers(t *testing.T, path string) []byte {
 	program, options := os.Getenv("RUDZKVANO_QUERY_CLI"), []string{"--schema", "schema.graphql", "--bindings", "bindings.txt"}
@@ -691,44 +745,70 @@ func resident() int {
 	return 4 * must(strconv.Atoi(pages))
 }
 
-// TestMemoryStaysFlat answers RUDZKVANO_REQUESTS requests, 10,000 by default.
-func TestMemoryStaysFlat(t *testing.T) {
-	requests, err := strconv.Atoi(os.Getenv("RUDZKVANO_REQUESTS"))
+// staysFlat answers some requests, and then RUDZKVANO_REQUESTS others, 10,000 by default, which take no more memory.
+func staysFlat(t *testing.T, what string, first int, answer func(number int)) {
+	count, err := strconv.Atoi(os.Getenv("RUDZKVANO_REQUESTS"))
 	if err != nil {
-		requests = 10000
+		count = 10000
 	}
 	// malloc has an arena for each thread, which grows by itself
 	runtime.LockOSThread()
 	defer runtime.UnlockOSThread()
-	cancelled, cancel := context.WithCancel(context.Background())
-	cancel()
-	answerAll := func(count int) {
-		world := readWorld("")
-		for number := 0; number < count; number++ {
-			if number%1000 == 999 {
-				world.server.Close()
-				world = readWorld("")
-			}
-			place, loaders, ctx := number%len(world.requests), world.loaders(number%3 == 0, now), context.Background()
-			request, wanted := Request{JSON: world.requests[place]}, string(world.answers[place])
-			switch number % 8 {
-			case 0: // left to the garbage collector
-				expect(t, number, answer(must(world.server.Client(loaders, nil)).AnswerText(ctx, request)), wanted)
-			case 1:
-				_, err := world.server.AnswerText(cancelled, Request{Query: "{users{id}}"}, loaders, nil)
-				expect(t, number, err, context.Canceled)
-			default:
-				expect(t, number, answer(world.server.AnswerText(ctx, request, loaders, nil)), wanted)
-			}
+	before := 0
+	for number := 0; number < first+count; number++ {
+		if number == first {
+			before = resident()
 		}
-		world.server.Close()
+		answer(number)
 	}
-	answerAll(5000)
-	before := resident()
-	answerAll(requests)
 	grown := resident() - before
-	t.Logf("%d requests: %d KiB, grown by %d KiB", requests, before, grown)
+	t.Logf("%d %s: %d KiB, grown by %d KiB", count, what, before, grown)
 	if grown > 4096 {
 		t.Errorf("grown by %d KiB", grown)
 	}
+}
+
+func TestMemoryStaysFlat(t *testing.T) {
+	cancelled, cancel := context.WithCancel(context.Background())
+	cancel()
+	world := readWorld("")
+	defer func() { world.server.Close() }()
+	staysFlat(t, "requests", 5000, func(number int) {
+		if number%1000 == 999 {
+			world.server.Close()
+			world = readWorld("")
+		}
+		place, loaders, ctx := number%len(world.requests), world.loaders(number%3 == 0, now), context.Background()
+		request, wanted := Request{JSON: world.requests[place]}, string(world.answers[place])
+		switch number % 8 {
+		case 0: // left to the garbage collector
+			expect(t, number, answer(must(world.server.Client(loaders, nil)).AnswerText(ctx, request)), wanted)
+		case 1:
+			_, err := world.server.AnswerText(cancelled, Request{Query: "{users{id}}"}, loaders, nil)
+			expect(t, number, err, context.Canceled)
+		default:
+			expect(t, number, answer(world.server.AnswerText(ctx, request, loaders, nil)), wanted)
+		}
+	})
+}
+
+// Queries that weren't asked before go to the server and to twenty clients in turn, each with other limits.
+func TestMemoryStaysFlatOverNewQueries(t *testing.T) {
+	world := readWorld("")
+	defer world.server.Close()
+	loaders, ctx := world.loaders(true, now), context.Background()
+	limits, clients := make([]Options, 20), make([]*Client, 20)
+	for place := range clients {
+		limits[place].MaxBatch = place
+		clients[place] = must(world.server.Client(loaders, &limits[place]))
+		defer clients[place].Close()
+	}
+	staysFlat(t, "new requests", 5000, func(number int) {
+		place, request := number/2%20, Request{Query: fmt.Sprintf("{a%d:user(id:1){name}}", number)}
+		ask := func() ([]byte, error) { return clients[place].AnswerText(ctx, request) }
+		if number%2 == 0 {
+			ask = func() ([]byte, error) { return world.server.AnswerText(ctx, request, loaders, &limits[place]) }
+		}
+		expect(t, number, answer(ask()), fmt.Sprintf(`{"data":{"a%d":{"name":"Ada"}}}`, number))
+	})
 }

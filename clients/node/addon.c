@@ -4,8 +4,8 @@
    place where each ends among the words. JavaScript counts these places in UTF-16 units and the library in bytes: they are the same where all
    texts are ASCII, and else they are converted here.
 
-   The first HEAD words are the head. A call leaves its code in word 0. One call does what one step needs: a reply is handed in and the next
-   round is read, or the answer. */
+   The first HEAD words are the head. A call leaves its code in word 0. One call does what one step needs: a client that answers once is opened
+   and the request begun, a reply is handed in and the next round is read, or the answer, and that client is closed. */
 #define NAPI_VERSION 8
 #include "../c/rudzkvano.h"
 #include <node_api.h>
@@ -15,7 +15,7 @@
 
 /* Codes beside those of the library. NEED_ROOM: a round is out that needs as many words as word 1 says; `look` reads it then. TEXT_TOO_LONG: a
    text is longer than a string may be. Where an answer took more than KEPT_BYTES, the rest is given back. */
-enum { HEAD = 8, NEED_ROOM = 3, TEXT_TOO_LONG = -1000, MOST_ARGUMENTS = 4, KEPT_BYTES = 1 << 20 };
+enum { HEAD = 8, NEED_ROOM = 3, TEXT_TOO_LONG = -1000, MOST_ARGUMENTS = 5, KEPT_BYTES = 1 << 20 };
 
 /* What one environment (Node's main thread, or a worker) shares with its JavaScript. `bytes` is where texts are put together and taken apart.
    `most_units` is how many UTF-16 units a string may have. */
@@ -27,10 +27,17 @@ typedef struct {
     size_t room, most_units;
 } border;
 
-/* A server or a client. `once`: the client is made to forget all that it knows as soon as its answer is read. `loads`: it was begun to load
-   keys last, and not to answer a request. */
+/* The queries of a server, by which its clients begin requests: freed with the last of these `users`, which are the server and the clients. */
 typedef struct {
     rz_handle handle;
+    size_t users;
+} queries;
+
+/* A server or a client, or nothing yet. `once`: the client is closed as soon as its answer is read, or the request is given up. `loads`: it was
+   begun to load keys last, and not to answer a request. */
+typedef struct {
+    rz_handle handle;
+    queries *queries;
     bool once, loads;
 } held;
 
@@ -45,7 +52,7 @@ static napi_value refused(napi_env env, const char *why) {
     return NULL;
 }
 
-/* Reads the arguments of a call, the first of which is a server or a client where `handle` says so. */
+/* Reads the arguments of a call, the first of which is what `hold` returned where `handle` says so. */
 static bool arguments(napi_env env, napi_callback_info info, call *call, bool handle) {
     size_t count = MOST_ARGUMENTS;
     void *data;
@@ -133,6 +140,37 @@ static napi_value string_of(napi_env env, border *border, size_t len, uint32_t *
     return status == napi_ok ? string : tell(border, TEXT_TOO_LONG);
 }
 
+/* ---- What is held. */
+
+/* Closes a server or a client. */
+static void let_go(held *held) {
+    rz_close(&held->handle);
+    if (held->queries && !--held->queries->users) {
+        rz_close(&held->queries->handle);
+        free(held->queries);
+    }
+    held->queries = NULL;
+}
+
+/* Opens a client of a server. The head has the number of limits, which come after it, and how many bytes an answer may have, in two words. */
+static int32_t open_client(border *border, held *client, held *server) {
+    uint32_t *words = border->words;
+    if (HEAD + (size_t)words[0] > border->words_len) return RZ_BAD_SIZE;
+    int32_t code = rz_client(&server->handle, &client->handle, words + HEAD, words[0]);
+    if (code < 0) return code;
+    client->queries = server->queries;
+    client->queries->users++;
+    size_t most = (size_t)words[2] << 32 | words[1];
+    return most ? rz_limit_answers(&client->handle, most) : RZ_DONE;
+}
+
+/* Opens the client of a call that names its server; else it is to be open. */
+static int32_t opened(napi_env env, call *call) {
+    held *server;
+    if (napi_get_value_external(env, call->values[1], (void **)&server) == napi_ok) return open_client(call->border, call->held, server);
+    return call->held->queries ? RZ_DONE : RZ_BAD_HANDLE;
+}
+
 /* ---- The steps of a request, or of keys that are loaded. */
 
 /* The orders of the round that is out. The head has RZ_ROUND and the numbers of orders, keys and texts. After it come for each order its
@@ -155,12 +193,12 @@ static napi_value read_round(napi_env env, border *border, rz_handle *client, co
     return string_of(env, border, sizes->bytes, words + ends, sizes->texts);
 }
 
-/* The answer. The head has RZ_DONE, and whether the client was made to forget, as the code of that. */
+/* The answer. The head has RZ_DONE. */
 static napi_value read_answer(napi_env env, border *border, held *client, const rz_sizes_t *sizes) {
     if (!make_room(border, sizes->answer)) return tell(border, RZ_NO_MEMORY);
     int32_t code = rz_answer(&client->handle, border->bytes, sizes->answer);
     if (code < 0) return tell(border, code);
-    border->words[1] = client->once ? (uint32_t)rz_restart(&client->handle) : RZ_DONE;
+    if (client->once) let_go(client);
     tell(border, RZ_DONE);
     napi_value answer = string_of(env, border, sizes->answer, NULL, 0);
     give_back(border);
@@ -220,23 +258,26 @@ static napi_value look(napi_env env, napi_callback_info info) {
     return read_state(env, call.border, call.held, RZ_ROUND);
 }
 
-/* begin(client, line): begins the answer to JSON text, and goes on. */
+/* begin(client, server, line): begins the answer to JSON text, and goes on. Where there is a server, the client is first opened, as `client` does. */
 static napi_value begin(napi_env env, napi_callback_info info) {
     call call;
     size_t len;
-    if (!arguments(env, info, &call, true) || !put_text(env, call.border, call.values[1], 0, &len)) return refused(env, "begin");
-    return go_begun(env, call.border, call.held, rz_begin(&call.held->handle, call.border->bytes, len), false);
+    if (!arguments(env, info, &call, true) || !put_text(env, call.border, call.values[2], 0, &len)) return refused(env, "begin");
+    int32_t code = opened(env, &call);
+    if (code >= 0) code = rz_begin(&call.held->handle, &call.held->queries->handle, call.border->bytes, len);
+    return go_begun(env, call.border, call.held, code, false);
 }
 
-/* beginRequest(client, query, operation, variables): begins the answer to a query, and goes on. */
+/* beginRequest(client, server, query, operation, variables): begins the answer to a query in the same way. */
 static napi_value begin_request(napi_env env, napi_callback_info info) {
     call call;
     size_t lens[3], at = 0;
     if (!arguments(env, info, &call, true)) return refused(env, "beginRequest");
     for (int i = 0; i < 3; at += lens[i++])
-        if (!put_text(env, call.border, call.values[i + 1], at, &lens[i])) return refused(env, "beginRequest");
+        if (!put_text(env, call.border, call.values[i + 2], at, &lens[i])) return refused(env, "beginRequest");
     const uint8_t *query = call.border->bytes, *operation = query + lens[0], *variables = operation + lens[1];
-    int32_t code = rz_begin_request(&call.held->handle, query, lens[0], operation, lens[1], variables, lens[2]);
+    int32_t code = opened(env, &call);
+    if (code >= 0) code = rz_begin_request(&call.held->handle, &call.held->queries->handle, query, lens[0], operation, lens[1], variables, lens[2]);
     return go_begun(env, call.border, call.held, code, false);
 }
 
@@ -285,11 +326,13 @@ static napi_value fail(napi_env env, napi_callback_info info) {
     return go_on(env, call.border, call.held, rz_take_failed(&call.held->handle, call.border->words[0], call.border->bytes, len));
 }
 
+/* cancel(client): gives up what was begun. */
 static napi_value cancel(napi_env env, napi_callback_info info) {
     call call;
     if (!arguments(env, info, &call, true)) return refused(env, "cancel");
     give_back(call.border);
-    return tell(call.border, rz_cancel(&call.held->handle));
+    if (call.held->once) let_go(call.held);
+    return tell(call.border, call.held->once ? RZ_DONE : rz_cancel(&call.held->handle));
 }
 
 /* ---- What is known. */
@@ -351,14 +394,6 @@ static napi_value restart(napi_env env, napi_callback_info info) {
     return tell(call.border, rz_restart(&call.held->handle));
 }
 
-/* limitAnswers(client, bytes) */
-static napi_value limit_answers(napi_env env, napi_callback_info info) {
-    call call;
-    int64_t most;
-    if (!arguments(env, info, &call, true) || napi_get_value_int64(env, call.values[1], &most) != napi_ok) return refused(env, "limitAnswers");
-    return tell(call.border, rz_limit_answers(&call.held->handle, (size_t)most));
-}
-
 /* log(client): the batches of the loader that the head has. The head gets the numbers of batches, keys and texts. After it come for each batch
    its round, whether its replies were stored, and how many keys it has, for each key how many texts it has, and the ends. */
 static napi_value read_log(napi_env env, napi_callback_info info) {
@@ -386,27 +421,24 @@ static napi_value read_log(napi_env env, napi_callback_info info) {
 
 /* ---- Servers and clients. */
 
-static void let_go(napi_env env, void *data, void *hint) {
+static void free_held(napi_env env, void *data, void *hint) {
     (void)env, (void)hint;
-    held *held = data;
-    rz_close(&held->handle);
-    free(held);
+    let_go(data);
+    free(data);
 }
 
-/* A value that holds this handle, or none where the code is a refusal. What it holds is freed with it, if it wasn't closed. */
-static napi_value value_of(napi_env env, border *border, int32_t code, rz_handle handle, bool once) {
+/* hold(once): what a server or a client may be put into. What it holds is freed with it, if it wasn't closed. */
+static napi_value hold(napi_env env, napi_callback_info info) {
+    call call;
+    bool once;
     napi_value value;
-    held *made = code < 0 ? NULL : malloc(sizeof *made);
-    if (!made) {
-        rz_close(&handle);
-        return tell(border, code < 0 ? code : RZ_NO_MEMORY);
+    if (!arguments(env, info, &call, false) || napi_get_value_bool(env, call.values[0], &once) != napi_ok) return refused(env, "hold");
+    held *made = calloc(1, sizeof *made);
+    if (!made || napi_create_external(env, made, free_held, NULL, &value) != napi_ok) {
+        free(made);
+        return refused(env, "out of memory");
     }
-    *made = (held){handle, once, false};
-    if (napi_create_external(env, made, let_go, NULL, &value) != napi_ok) {
-        let_go(env, made, NULL);
-        return tell(border, RZ_NO_MEMORY);
-    }
-    tell(border, RZ_DONE);
+    made->once = once;
     return value;
 }
 
@@ -423,22 +455,31 @@ static napi_value sentence_on(napi_env env, border *border, const rz_fault *faul
     return sentence;
 }
 
-/* open(schema, bindings): the fault's number, line, column and in_bindings are left in the words 1 to 4, and it returns what it says. */
+/* Makes the queries of a server that was opened. */
+static int32_t open_queries(held *server) {
+    queries *made = calloc(1, sizeof *made);
+    if (!made) return RZ_NO_MEMORY;
+    server->queries = made;
+    made->users = 1;
+    return rz_queries(&server->handle, &made->handle);
+}
+
+/* open(server, schema, bindings): the fault's number, line, column and in_bindings are left in the words 1 to 4, and it returns what it says. */
 static napi_value open_server(napi_env env, napi_callback_info info) {
     call call;
     size_t schema, bindings;
-    if (!arguments(env, info, &call, false) || !put_text(env, call.border, call.values[0], 0, &schema)) return refused(env, "open");
-    if (!put_text(env, call.border, call.values[1], schema, &bindings)) return refused(env, "open");
-    rz_handle server = {0};
+    if (!arguments(env, info, &call, true) || !put_text(env, call.border, call.values[1], 0, &schema)) return refused(env, "open");
+    if (!put_text(env, call.border, call.values[2], schema, &bindings)) return refused(env, "open");
     rz_fault fault = {0};
-    int32_t code = rz_open(&server, call.border->bytes, schema, call.border->bytes + schema, bindings, &fault);
+    int32_t code = rz_open(&call.held->handle, call.border->bytes, schema, call.border->bytes + schema, bindings, &fault);
+    if (code >= 0) code = open_queries(call.held);
     uint32_t *words = call.border->words;
     words[1] = fault.number;
     words[2] = (uint32_t)fault.line;
     words[3] = (uint32_t)fault.column;
     words[4] = fault.in_bindings;
     if (code == RZ_BAD_SCHEMA) return sentence_on(env, call.border, &fault, schema, bindings);
-    return value_of(env, call.border, code, server, false);
+    return tell(call.border, code);
 }
 
 /* loaders(server): the head gets how many there are. After it come for each loader its kind, and the ends of the four texts of each. */
@@ -460,23 +501,18 @@ static napi_value read_loaders(napi_env env, napi_callback_info info) {
     return string_of(env, call.border, sizes.bytes, ends, 4 * sizes.loaders);
 }
 
-/* client(server, once): the head has the number of limits, which come after it. */
-static napi_value make_client(napi_env env, napi_callback_info info) {
+/* client(client, server): opens a client. */
+static napi_value client(napi_env env, napi_callback_info info) {
     call call;
-    bool once;
-    if (!arguments(env, info, &call, true) || napi_get_value_bool(env, call.values[1], &once) != napi_ok) return refused(env, "client");
-    uint32_t *words = call.border->words;
-    if (HEAD + (size_t)words[0] > call.border->words_len) return tell(call.border, RZ_BAD_SIZE);
-    rz_handle client = {0};
-    int32_t code = rz_client(&call.held->handle, &client, words + HEAD, words[0]);
-    return value_of(env, call.border, code, client, once);
+    if (!arguments(env, info, &call, true)) return refused(env, "client");
+    return tell(call.border, opened(env, &call));
 }
 
 /* close(server or client) */
 static napi_value close_held(napi_env env, napi_callback_info info) {
     call call;
     if (!arguments(env, info, &call, true)) return refused(env, "close");
-    rz_close(&call.held->handle);
+    let_go(call.held);
     return NULL;
 }
 
@@ -548,10 +584,10 @@ NAPI_MODULE_INIT() {
         const char *name;
         napi_callback call;
     } calls[] = {{"share", share}, {"limitTexts", limit_texts}, {"room", room}, {"version", version}, {"codeName", code_name},
-                 {"codeText", code_text}, {"open", open_server}, {"loaders", read_loaders}, {"client", make_client}, {"close", close_held},
+                 {"codeText", code_text}, {"hold", hold}, {"open", open_server}, {"loaders", read_loaders}, {"client", client}, {"close", close_held},
                  {"begin", begin}, {"beginRequest", begin_request}, {"beginLoad", begin_load}, {"look", look}, {"reply", reply}, {"fail", fail},
                  {"cancel", cancel}, {"prime", prime}, {"clear", clear}, {"clearAll", clear_all}, {"restart", restart},
-                 {"limitAnswers", limit_answers}, {"log", read_log}};
+                 {"log", read_log}};
     if (rz_version() < RZ_VERSION || rz_version() >> 16 != RZ_VERSION >> 16) return refused(env, "the library is older or newer than rudzkvano.h");
     border *border = calloc(1, sizeof *border);
     if (!border || !make_room(border, 4096)) return refused(env, "out of memory");

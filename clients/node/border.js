@@ -73,6 +73,9 @@ function call(name, head, ...values) {
 
 /** Cuts texts off the front of a string, one after another. */
 class Cutter {
+  /** One stays, since V8 drops the code that it made for a kind of objects with the last of them. */
+  static kept = new Cutter('', 0);
+
   constructor(text, place) {
     this.text = text;
     this.place = place;
@@ -86,10 +89,9 @@ class Cutter {
   }
 
   /** So many keys of a loader: texts, or pairs of them. A loader by no column has no keys. */
-  keys(loader, count) {
-    const keys = [];
-    if (loader.columns.length === 1) for (let i = 0; i < count; i++) keys.push(this.next());
-    if (loader.columns.length === 2) for (let i = 0; i < count; i++) keys.push([this.next(), this.next()]);
+  keys({ columns: { length } }, count) {
+    const keys = new Array(length === 0 ? 0 : count);
+    for (let i = 0; i < keys.length; i++) keys[i] = length === 1 ? this.next() : [this.next(), this.next()];
     return keys;
   }
 }
@@ -99,10 +101,10 @@ function readRound(loaders, text) {
   const { words } = border;
   const count = words[1];
   const cutter = new Cutter(text, HEAD + 2 * count + words[2]);
-  const orders = [];
+  const orders = new Array(count);
   for (let number = 0; number < count; number++) {
     const loader = loaders[words[HEAD + number]];
-    orders.push({ number, loader, keys: cutter.keys(loader, words[HEAD + count + number]) });
+    orders[number] = { number, loader, keys: cutter.keys(loader, words[HEAD + count + number]) };
   }
   return orders;
 }

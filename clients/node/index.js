@@ -15,8 +15,11 @@ const { Run } = require('./run.js');
 const BAD_SCHEMA = -4;
 /** More keys than any limit of a batch may have. */
 const MOST_WORD = 0xffffffff;
-/** How many clients a server keeps between requests. Each has the documents of the queries that it has read. */
-const MOST_IDLE = 16;
+/** The words that a client without limits is opened with. */
+const NO_LIMITS = [0, 0, 0];
+
+/** What holds nothing now, for clients that answer once. */
+const spare = [];
 
 /** A schema or its bindings are refused: by the fault S`number`, at this line and column, which are 0 where it has none. */
 class SchemaFault extends RudzkvanoError {
@@ -50,19 +53,17 @@ function settle(resolve, reject, error, result, read) {
 
 /** A schema with its bindings. */
 class Server {
-  #handle;
+  #handle = addon.hold(false);
   #introspection;
   #byName;
-  #idle = [];
   #closed = false;
   /** The batch functions that were checked last. */
   #checked;
 
   constructor({ schema, bindings }) {
-    const opened = addon.open(schema, bindings);
-    if (code() === BAD_SCHEMA) throw new SchemaFault(border.words.subarray(1, 5), opened);
+    const fault = addon.open(this.#handle, schema, bindings);
+    if (code() === BAD_SCHEMA) throw new SchemaFault(border.words.subarray(1, 5), fault);
     if (code() < 0) throw new RudzkvanoError(code());
-    this.#handle = opened;
     this.#introspection = new Introspection(schema);
     this.loaders = Object.freeze(readLoaders(this.#handle));
     this.#byName = new Map(this.loaders.map((loader) => [loader.name, loader]));
@@ -82,14 +83,15 @@ class Server {
   client(loaders = {}, options = {}) {
     this.#check(loaders);
     checkForms(this.loaders, options.rows);
-    const handle = this.#open(this.#limits(options.maxBatch), false);
+    const limits = this.#limits(options);
+    const handle = addon.hold(false);
+    call('client', limits, handle, this.#handle);
     return new Client(handle, this.loaders, this.#introspection, loaders, options);
   }
 
   /** Frees what the server holds. Its clients, and the requests that are being answered, go on. */
   close() {
     this.#closed = true;
-    for (const { handle } of this.#idle.splice(0)) addon.close(handle);
     addon.close(this.#handle);
   }
 
@@ -99,9 +101,10 @@ class Server {
       checkForms(this.loaders, options.rows);
       const introspected = this.#introspection.answerText(request, options);
       if (introspected !== undefined) return resolve(read(introspected));
-      const client = this.#take(this.#limits(options.maxBatch), countOf(options.maxAnswer, 'maxAnswer'));
-      const run = new Run(client, this.loaders, functions, options, (error, text) => {
-        this.#giveBack(client, run.forgot);
+      const limits = this.#limits(options);
+      const handle = spare.pop() ?? addon.hold(true);
+      const run = new Run({ handle, server: this.#handle, limits }, this.loaders, functions, options, (error, text) => {
+        spare.push(handle);
         settle(resolve, reject, error, text, read);
       });
       run.start(request);
@@ -117,38 +120,20 @@ class Server {
     this.#checked = functions;
   }
 
+  /** The words that a client is opened with. */
+  #limits({ maxBatch, maxAnswer }) {
+    if (this.#closed) throw new Error('the server is closed');
+    if (maxBatch === undefined && maxAnswer === undefined) return NO_LIMITS;
+    const [batches, bytes] = [this.#batches(maxBatch), countOf(maxAnswer, 'maxAnswer')];
+    return [batches.length, bytes % 2 ** 32, Math.floor(bytes / 2 ** 32), 0, 0, 0, 0, 0, ...batches];
+  }
+
   /** For each loader how many keys one batch may have; or no element. */
-  #limits(maxBatch) {
+  #batches(maxBatch) {
     if (maxBatch === undefined) return [];
     if (typeof maxBatch !== 'object') return this.loaders.map(() => limitOf(maxBatch));
     for (const name in maxBatch) if (!this.#byName.has(name)) throw new TypeError(`the bindings have no loader ${name}`);
     return this.loaders.map(({ name }) => limitOf(maxBatch[name]));
-  }
-
-  #open(limits, once) {
-    if (this.#closed) throw new Error('the server is closed');
-    return call('client', [limits.length, 0, 0, 0, 0, 0, 0, 0, ...limits], this.#handle, once);
-  }
-
-  /** A client that knows nothing, with these limits: one that was given back, since it has read documents, or a new one. */
-  #take(limits, mostBytes) {
-    const key = limits.join();
-    let place = this.#idle.length - 1;
-    while (place >= 0 && this.#idle[place].key !== key) place--;
-    const client = place < 0 ? { handle: this.#open(limits, true), key, mostBytes: 0, unread: new Map() } : this.#idle[place];
-    if (place >= 0) this.#idle.splice(place, 1);
-    if (client.mostBytes !== mostBytes) call('limitAnswers', [], client.handle, mostBytes);
-    client.mostBytes = mostBytes;
-    return client;
-  }
-
-  /** Has a client stand by, in place of the one that has stood by longest where there are enough. */
-  #giveBack(client, forgot) {
-    client.unread.clear();
-    if (!forgot) addon.restart(client.handle);
-    if ((!forgot && code() !== 0) || this.#closed) return void addon.close(client.handle);
-    this.#idle.push(client);
-    if (this.#idle.length > MOST_IDLE) addon.close(this.#idle.shift().handle);
   }
 }
 
@@ -169,7 +154,6 @@ class Client {
     this.#introspection = introspection;
     this.#functions = functions;
     this.#options = options;
-    call('limitAnswers', [], handle, countOf(options.maxAnswer, 'maxAnswer'));
   }
 
   answer(request, options) {

@@ -6,7 +6,7 @@ const { isDate, isNativeError } = require('node:util/types');
 const { border, makeRoom, FIRST_WORDS, HEAD, KEPT_WORDS } = require('./border.js');
 const { plainText } = require('./faults.js');
 const { Aligned, InAnyOrder } = require('./forms.js');
-const { separated, wellFormed } = require('./text.js');
+const { unpaired, wellFormed } = require('./text.js');
 
 /** In the place of a number of rows: the key has a fault. */
 const KEY_FAULT = 0xffffffff;
@@ -46,8 +46,8 @@ function isRow(element) {
   return typeof element === 'object' && element !== null && !Array.isArray(element) && !isFault(element);
 }
 
-function checkRow(loader, row) {
-  if (!isRow(row)) throw new TypeError(`loader ${loader.name}: a row of type ${typeName(row)}`);
+function noRow(loader, element) {
+  return new TypeError(`loader ${loader.name}: a row of type ${typeName(element)}`);
 }
 
 function checkArray(loader, returned) {
@@ -104,15 +104,20 @@ function ofItems(loader, keys, elements, faultOf) {
     const key = keys[next++];
     if (element === null || element === undefined) {
       counts.push(0);
+    } else if (isRow(element)) {
+      counts.push(1);
+      rows.push(element);
     } else if (Array.isArray(element)) {
       counts.push(element.length);
-      for (const row of element) rows.push(row);
+      for (const row of element) {
+        if (!isRow(row)) throw noRow(loader, row);
+        rows.push(row);
+      }
     } else if (isFault(element)) {
       counts.push(KEY_FAULT);
       faults.push(faultOf(element, [key]));
     } else {
-      counts.push(1);
-      rows.push(element);
+      throw noRow(loader, element);
     }
   }
   return { rows, counts, faults };
@@ -127,7 +132,7 @@ function ofRows(loader, returned) {
   if (isArrays(returned)) {
     const { columns, rows } = returned;
     for (const row of rows) {
-      if (!Array.isArray(row)) throw new TypeError(`loader ${loader.name}: a row of type ${typeName(row)}`);
+      if (!Array.isArray(row)) throw noRow(loader, row);
       if (row.length !== columns.length) throw new RangeError(`loader ${loader.name}: a row of ${row.length} values for ${columns.length} columns`);
     }
     return unsorted(loader, rows, columns);
@@ -135,7 +140,7 @@ function ofRows(loader, returned) {
   checkArray(loader, returned);
   const place = placeOfOther(loader, returned);
   if (place < 0) return unsorted(loader, returned);
-  checkRow(loader, returned[place]);
+  if (!isRow(returned[place])) throw noRow(loader, returned[place]);
   throw new TypeError(`loader ${loader.name}: row ${place + 1} has no column ${lacking(loader, returned[place])}`);
 }
 
@@ -158,8 +163,25 @@ function refuseDoubt(loader, keys, elements) {
   throw doubt(`row ${other + 1} has no column ${lacking(loader, elements[other])}, which row ${whole[0] + 1} has`);
 }
 
+/** The reply of an array of which each element is nothing or the row of the key in its place, so that it says the same however it is read. */
+function ofOwnRows({ columns }, keys, elements) {
+  if (columns.length !== 1 || elements.length !== keys.length) return undefined;
+  const [column] = columns;
+  const [rows, counts] = [[], []];
+  for (const element of elements) {
+    if (element !== null && element !== undefined) {
+      if (!isRow(element) || textOf(element[column]) !== keys[counts.length]) return undefined;
+      rows.push(element);
+    }
+    counts.push(element ? 1 : 0);
+  }
+  return { rows, counts, faults: [] };
+}
+
 /** The reply of an array of which nobody says how it is to be read. */
 function ofBareArray(loader, keys, elements, faultOf) {
+  const own = ofOwnRows(loader, keys, elements);
+  if (own) return own;
   if (placeOfOther(loader, elements) < 0) return unsorted(loader, elements);
   if (elements.length !== keys.length) {
     throw new RangeError(`loader ${loader.name}: ${elements.length} items for ${keys.length} keys, which aren't all rows with its columns`);
@@ -211,16 +233,15 @@ const NO_TEXT = Symbol('no text');
  * Adds the members of rows to a text, and their ends to the words from a place on. Returns undefined where not all rows have these columns, and
  * NO_TEXT.
  */
-function writeRows(loader, columns, rows, text, words, place) {
+function writeRows(columns, rows, text, words, place) {
   for (const row of rows) {
-    checkRow(loader, row);
     let column = 0;
     for (const name in row) {
       if (name !== columns[column++]) return undefined;
       const value = row[name];
       const own = typeof value === 'string' ? value : textOf(value);
       if (own === undefined) return NO_TEXT;
-      text += own;
+      text += unpaired(own);
       words[place++] = text.length;
     }
     if (column !== columns.length) return undefined;
@@ -228,12 +249,12 @@ function writeRows(loader, columns, rows, text, words, place) {
   return text;
 }
 
-function writeArrays(loader, columns, rows, text, words, place) {
+function writeArrays(columns, rows, text, words, place) {
   for (const row of rows) {
     for (let column = 0; column < columns.length; column++) {
       const own = textOf(row[column]);
       if (own === undefined) return NO_TEXT;
-      text += own;
+      text += unpaired(own);
       words[place++] = text.length;
     }
   }
@@ -242,16 +263,15 @@ function writeArrays(loader, columns, rows, text, words, place) {
 
 function writeTexts(texts, text, words, place) {
   for (const it of texts) {
-    text += it;
+    text += unpaired(it);
     words[place++] = text.length;
   }
   return text;
 }
 
 /** A reply whose rows are arrays, in which each row has the columns of all. */
-function widened(loader, reply) {
+function widened(reply) {
   if (reply.columns) return reply;
-  for (const row of reply.rows) checkRow(loader, row);
   const columns = [...new Set(reply.rows.flatMap(namesIn))];
   return { ...reply, columns, rows: reply.rows.map((row) => columns.map((name) => row[name])) };
 }
@@ -315,7 +335,7 @@ function whose(loader, keys, { columns, rows, counts, isKeyed }, row) {
 
 /** A reply of texts, without the columns in which a value has none. `unread` says of each why it is left out, and by which key. */
 function readable(loader, keys, reply) {
-  const wide = widened(loader, reply);
+  const wide = widened(reply);
   const { columns, rows, isKeyed } = wide;
   const texts = rows.map((row) => row.map(textOf));
   const unread = [];
@@ -343,14 +363,14 @@ function write(loader, keys, reply, place) {
   const texts = end + faults.length;
   const text = withWords(texts, (words) => {
     const names = writeTexts(columns, '', words, 0);
-    const fields = (reply.columns ? writeArrays : writeRows)(loader, columns, rows, names, words, columns.length);
+    const fields = (reply.columns ? writeArrays : writeRows)(columns, rows, names, words, columns.length);
     if (typeof fields !== 'string') return fields;
-    const all = separated(writeTexts(faults, fields, words, end), words, 0, texts);
+    const all = writeTexts(faults, fields, words, end);
     const shared = makeRoom(place + texts);
     for (let i = 0; i < texts; i++) shared[place + i] = words[i];
     return all;
   });
-  if (text === undefined) return write(loader, keys, widened(loader, reply), place);
+  if (text === undefined) return write(loader, keys, widened(reply), place);
   if (text === NO_TEXT) return write(loader, keys, readable(loader, keys, reply), place);
   if (rows.length > 0 && columns.length === 0) throw new TypeError(`loader ${loader.name}: a row has no columns`);
   return { text, columns, texts, unread };
@@ -380,8 +400,7 @@ function writeReply(loader, keys, returned, form, faultOf) {
 
 /** Leaves texts, and how many there are of each key, among the words, from a place on. Returns them as one. */
 function writeKeys(texts, place) {
-  const words = makeRoom(place + texts.length);
-  return separated(writeTexts(texts, '', words, place), words, place, place + texts.length);
+  return writeTexts(texts, '', makeRoom(place + texts.length), place);
 }
 
 /** Leaves a key and what is to be known of it among the words, and returns the texts of both. */

@@ -12,15 +12,15 @@ const { jsonOf } = require('./text.js');
 
 /** The step that begins the answer to a request, and goes on. */
 function requestStep(request) {
-  if (typeof request === 'string') return (handle) => addon.begin(handle, request);
+  if (typeof request === 'string') return (handle, server) => addon.begin(handle, server, request);
   const { query, operationName, variables } = request;
   const operation = operationName ?? '';
   if (typeof query !== 'string' || typeof operation !== 'string' || operationName === '') {
     const line = jsonOf(request, 'a request');
-    return (handle) => addon.begin(handle, line);
+    return (handle, server) => addon.begin(handle, server, line);
   }
   const values = variables === undefined || variables === null ? '' : jsonOf(variables, 'variables');
-  return (handle) => addon.beginRequest(handle, query, operation, values);
+  return (handle, server) => addon.beginRequest(handle, server, query, operation, values);
 }
 
 /** The step that begins to load keys, which are arrays of texts, and goes on. */
@@ -35,13 +35,19 @@ function loadStep(loader, keys) {
 }
 
 class Run {
+  /** One stays, since V8 drops the code that it made for a kind of objects with the last of them. */
+  static kept = new Run({}, [], {}, {});
+
   /**
-   * `client` has the handle, and the columns that are left out of what it knows. `functions` are the batch functions by name. `ended` is called once:
-   * with an error, or with undefined and the answer's text or the outcomes of what was loaded, as `{ outcomes }`.
+   * `client` has the handle, and the columns that are left out of what it knows; one that answers once also its server, and the words that it is
+   * opened with. `functions` are the batch functions by name. `ended` is called once: with an error, or with undefined and the answer's text or the
+   * outcomes of what was loaded, as `{ outcomes }`.
    */
-  constructor({ handle, unread }, loaders, functions, { signal, onRound, onError, rows }, ended) {
+  constructor({ handle, unread, server, limits }, loaders, functions, { signal, onRound, onError, rows }, ended) {
     this.handle = handle;
     this.unread = unread;
+    this.server = server;
+    this.limits = limits;
     this.loaders = loaders;
     this.functions = functions;
     this.onRound = onRound;
@@ -54,8 +60,6 @@ class Run {
     this.rounds = 0;
     /** What `onRound` is to be told of the round that is out. */
     this.batches = undefined;
-    /** Whether the client has forgotten all that it knew, after the answer was read. */
-    this.forgot = false;
     /** Whether keys are loaded. */
     this.loads = false;
   }
@@ -80,7 +84,8 @@ class Run {
       this.signal?.throwIfAborted();
       if (this.over) return;
       this.signal?.addEventListener('abort', this.abort);
-      this.go(this.left(step(this.handle)));
+      if (this.server) makeRoom(this.limits.length).set(this.limits);
+      this.go(this.left(step(this.handle, this.server)));
     } catch (error) {
       this.stop(error);
     }
@@ -91,7 +96,6 @@ class Run {
     switch (code()) {
       case DONE:
         if (this.loads) return { outcomes: readOutcomes(text) };
-        this.forgot = border.words[1] === DONE;
         return withExtensions(this.explained(text));
       case ROUND:
         return readRound(this.loaders, text);
@@ -169,7 +173,7 @@ class Run {
       text = this.handIn(order, reply);
     }
     if (this.over) return undefined;
-    for (const it of reply.unread) this.unread.set(it.column, { ...it, loader });
+    for (const it of reply.unread) (this.unread ??= new Map()).set(it.column, { ...it, loader });
     return this.told(order, this.left(text));
   }
 
@@ -192,7 +196,7 @@ class Run {
 
   /** The text of an answer, whose errors say of a column that was left out why it was. */
   explained(text) {
-    if (this.unread.size === 0) return text;
+    if (!this.unread?.size) return text;
     const reasons = new Map();
     return editErrors(text, (error) => {
       const [, column] = /^no column ([^]*)$/.exec(error.message) ?? [];

@@ -9,26 +9,9 @@ function wellFormed(text) {
   return SURROGATE.test(text) ? text.replace(LONE, '\ufffd') : text;
 }
 
-/** Whether a pair of surrogates is around a place: a lone half is before it, and another after it. */
-function isSplit(text, place) {
-  return (text.charCodeAt(place - 1) & 0xfc00) === 0xd800 && (text.charCodeAt(place) & 0xfc00) === 0xdc00;
-}
-
-/**
- * A string of texts, of which so many of these numbers are the ends, where no half of one text makes a pair with a half of the next. The ends stay.
- */
-function separated(text, ends, from, to) {
-  if (!SURROGATE.test(text)) return text;
-  let parts = '';
-  let start = 0;
-  for (let i = from; i < to; i++) {
-    const end = ends[i];
-    if (end > start && isSplit(text, end)) {
-      parts += `${text.slice(start, end - 1)}\ufffd`;
-      start = end;
-    }
-  }
-  return parts + text.slice(start);
+/** A text that makes no pair with the start of the next one: a first half at its end, which is a lone one, is U+FFFD. */
+function unpaired(text) {
+  return (text.charCodeAt(text.length - 1) & 0xfc00) === 0xd800 ? `${text.slice(0, -1)}\ufffd` : text;
 }
 
 /** The JSON text of a value that has a number without JSON, as NaN, is refused. A lone half is U+FFFD. */
@@ -46,4 +29,4 @@ function refuseNumbers(value, what) {
   });
 }
 
-module.exports = { jsonOf, separated, wellFormed };
+module.exports = { jsonOf, unpaired, wellFormed };

@@ -7,7 +7,8 @@ from typing import Any
 
 from .cases import CaseError
 from .rounds import Asked, counts_text, log_of, run_rounds
-from .sources import Client, Loader, LoadFault, Manner, Progress, Refused, Sources, World, buffer_of, flat, in_one_voice
+from .sources import COUNTS, SIZES, Client, Loader, LoadFault, Manner, Progress, Refused, Sources, World, flat, in_one_voice
+from .sources import pointer_to, texts_of, words_of
 
 # calls that tell of a session, and leave it as it is
 TELLING = ("asked", "calls", "known", "batches")
@@ -164,18 +165,15 @@ class Calls:
 def call_number(client: Client, call: str, loader: int, rest: str) -> None:
     """Makes a call on the loader of a number, which the package doesn't take."""
     calls, told = client._library.calls, array("Q", bytes(32))
-    told_at = told.buffer_info()[0]
     key, _, name = rest.partition(" ")
-    ends, data = flat(keys_in(key))
-    shapes = array("I", [1] * len(ends))
-    ends_of_row, row = flat(["name", name])
-    key_texts = *buffer_of(ends), data, len(data)
+    keys = keys_in(key)
+    number, shapes, key_texts, row = SIZES[loader], words_of([1] * len(keys)), texts_of(*flat(keys)), texts_of(*flat(["name", name]))
     made: dict[str, Callable[[], int]] = {
-        "load": lambda: client._call(calls.rz_begin_load, loader, *buffer_of(shapes), *key_texts),
-        "prime": lambda: client._call(calls.rz_prime, loader, *key_texts, 1, 1, *buffer_of(ends_of_row), row, len(row), told_at),
-        "clear": lambda: client._call(calls.rz_clear, loader, *key_texts, told_at),
-        "clear all": lambda: client._call(calls.rz_clear_all, loader),
-        "batches": lambda: client._call(calls.rz_log_sizes, loader, told_at),
+        "load": lambda: client._call(calls.rz_begin_load, number, *shapes, *key_texts),
+        "prime": lambda: client._call(calls.rz_prime, number, *key_texts, SIZES[1], COUNTS[1], *row, pointer_to(told)),
+        "clear": lambda: client._call(calls.rz_clear, number, *key_texts, pointer_to(told)),
+        "clear all": lambda: client._call(calls.rz_clear_all, number),
+        "batches": lambda: client._call(calls.rz_log_sizes, number, pointer_to(told)),
     }
     made[{"load_many": "load", "clear": "clear all" if key == "all" else "clear"}.get(call, call)]()
 

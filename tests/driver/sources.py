@@ -5,7 +5,6 @@ import csv
 import io
 import re
 import sys
-from array import array
 from collections import Counter
 from collections.abc import Callable
 from dataclasses import dataclass, field
@@ -17,7 +16,7 @@ from .cases import TOP, Case, CaseError, plain
 sys.path.insert(0, str(TOP / "clients/python"))
 
 from rudzkvano import Client, Keys, LoadFault, Loader, Order, Progress, Refused, Round, Server  # noqa: E402, F401
-from rudzkvano.library import buffer_of, flat  # noqa: E402
+from rudzkvano.library import COUNTS, SIZES, flat, pointer_to, texts_of, words_of  # noqa: E402, F401
 
 Rows = list[dict[str, str]]
 NO_LIGHT = "no light"
@@ -205,11 +204,10 @@ def refuse(client: Client, order: Order, items: list[Rows]) -> None:
     """Has the library refuse such items for another number of keys. The order waits as before."""
     rows = [row for item in items for row in item]
     columns = list(rows[0]) if rows else []
-    counts = array("I", map(len, items))
-    ends, data = flat([*columns, *(text for row in rows for text in row.values())])
-    call = client._library.calls.rz_take_rows
+    counts = words_of([len(item) for item in items])
+    texts = texts_of(*flat([*columns, *(text for row in rows for text in row.values())]))
     try:
-        client._call(call, order.number, len(columns), *buffer_of(counts), *buffer_of(ends), data, len(data))
+        client._call(client._library.calls.rz_take_rows, SIZES[order.number], SIZES[len(columns)], *counts, *texts)
     except Refused as refused:
         if refused.name == "RZ_BAD_COUNT" and client.next() == Progress.WAITING:
             return

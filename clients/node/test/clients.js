@@ -41,7 +41,9 @@ describe('options', () => {
     const { length } = '{"data":{"user":{"name":"Ada"}}}';
     assert.equal((await server.answerText({ query }, users, { maxAnswer: length })).length, length);
     assert.equal(await server.answerText({ query }, users, { maxAnswer: length - 1 }), '{"errors":[{"message":"answer too long"}]}');
-    assert.equal((await server.answerText({ query }, users)).length, length);
+    for (const maxAnswer of [0, undefined, 2 ** 32 + length - 1]) {
+      assert.equal((await server.answerText({ query }, users, { maxAnswer })).length, length);
+    }
   });
 
   it('onRound is told of each round', async () => {
@@ -242,14 +244,20 @@ describe('a client', () => {
 
   it('outlives its server', async () => {
     const { server: closed } = openWorld();
-    const client = closed.client(users);
-    const answer = closed.answerText({ query }, { ...users, userById: (keys) => wait(5).then(() => users.userById(keys)) });
+    const clients = [{}, { maxBatch: 1 }, { maxAnswer: 1000 }].map((options) => closed.client(users, options));
+    const late = { ...users, userById: (keys) => wait(5).then(() => users.userById(keys)) };
+    const answers = [1, 2].map(() => closed.answerText({ query: '{user(id:1){best{name}}}' }, late));
     closed.close();
-    assert.equal(await client.answerText({ query }), ada);
-    assert.equal(await answer, ada);
+    closed.close();
+    const requests = [{ query }, { query }, { query: 'query($id:ID!){user(id:$id){name}}', variables: { id: 1 } }];
+    for (const client of clients) {
+      for (const request of requests) assert.equal(await client.answerText(request), ada);
+      assert.equal((await client.loadMany('userById', [2]))[0][0].name, 'Bob');
+      client.close();
+    }
+    assert.deepEqual(await Promise.all(answers), Array(2).fill('{"data":{"user":{"best":{"name":"Bob"}}}}'));
     await assert.rejects(closed.answer({ query }, users), /the server is closed/);
     assert.throws(() => closed.client(users), /the server is closed/);
-    client.close();
   });
 
   it('answers in a worker', async () => {

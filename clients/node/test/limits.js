@@ -3,7 +3,7 @@
 
 const assert = require('node:assert/strict');
 const { constants } = require('node:buffer');
-const { describe, it, mock } = require('node:test');
+const { describe, it } = require('node:test');
 const { addon, border } = require('../border.js');
 const { openWorld } = require('./tables.js');
 
@@ -61,16 +61,22 @@ describe('what a large request needed', () => {
   });
 });
 
-describe('clients that stand by', () => {
-  it('shut out none with other limits', async () => {
-    const { server } = openWorld();
-    const ask = (maxBatch) => server.answer({ query }, users('Ada'), { maxBatch });
-    await Promise.all(Array.from({ length: 20 }, () => ask(1)));
-    const opened = mock.method(addon, 'client');
-    await ask(2);
-    await ask(2);
-    assert.equal(opened.mock.callCount(), 1);
-    opened.mock.restore();
-    server.close();
+describe('what a server keeps of queries', () => {
+  /** A text that takes long to read, with an operation that takes little to answer. */
+  const others = Array.from({ length: 300 }, (_, i) => `a${i}:user(id:${i}){name}`).join(' ');
+  const ask = (name, limits) =>
+    server.answer({ query: `query ${name}{user(id:1){name}} query All{${others}}`, operationName: name }, users('Ada'), limits);
+
+  /** The processor time that 50 answers take. */
+  async function took(answer) {
+    const start = process.cpuUsage();
+    for (let i = 1; i <= 50; i++) assert.deepEqual(await answer(i), { data: { user: { name: 'Ada' } } });
+    const { user, system } = process.cpuUsage(start);
+    return user + system;
+  }
+
+  it('is shared by answers with other limits', async () => {
+    const [anew, again] = [await took((i) => ask(`Q${i}`)), await took((i) => ask('Same', { maxBatch: i, maxAnswer: 1000 + i }))];
+    assert.ok(again < anew / 2, `${anew} and ${again} microseconds`);
   });
 });

@@ -90,6 +90,14 @@ describe('memory', () => {
     const requests = lines('requests.jsonl');
     const each = Object.keys(forms).map((form) => loadersOver(server, tables, form, async (rows) => rows));
     const failing = { ...each[0], userById: async () => { throw new Error('down'); } };
+    /** Answers by a client of a server that is closed. */
+    const ofClosed = async (i) => {
+      const closed = new Server({ schema, bindings });
+      const client = closed.client(each[0]);
+      closed.close();
+      await client.answer({ query: `{a${i}:user(id:1){name}}` });
+      if (i % 200 === 5) client.close();
+    };
     const pass = async (from, to) => {
       for (let i = from; i < to; i++) {
         await server.answer(requests[i % requests.length], each[i % each.length]);
@@ -97,6 +105,7 @@ describe('memory', () => {
         if (i % 10 === 1) await server.answer({ query: '{user(id:1){name}}' }, each[0], { signal: AbortSignal.abort() }).catch(() => {});
         if (i % 100 === 2) server.client(each[0]).prime('userById', i, { name: 'Ada' });
         if (i % 1000 === 3) new Server({ schema, bindings });
+        if (i % 100 === 5) await ofClosed(i);
         if (i % 1000 === 4) await collect();
       }
     };

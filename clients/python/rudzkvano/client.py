@@ -6,7 +6,7 @@ import asyncio
 import json
 from array import array
 from collections.abc import Callable, Coroutine, Iterable, Mapping, Sequence
-from ctypes import string_at
+from ctypes import byref, c_uint32
 from enum import IntEnum
 from functools import wraps
 from itertools import chain
@@ -14,8 +14,10 @@ from time import perf_counter
 from types import MappingProxyType
 from typing import Any, Concatenate, NamedTuple, ParamSpec, TypeAlias, TypeVar, Union
 
+from .desks import Opened
 from .errors import OnError, edit_errors, fault_text, has_extensions, message_of, parted
-from .library import BUSY, NO_COLUMN, NO_KEY_COLUMN, NOT_ASKED, Held, Library, Refused, buffer_of, cut, flat, words
+from .library import BUSY, COUNTS, NO_COLUMN, NO_KEY_COLUMN, NOT_ASKED, SIZES, Argument, Held, Refused
+from .library import buffers, cut, flat, pointer_to, texts_of, words, words_of
 from .limits import checked_limit
 from .loaders import Batch, Form, Keys, Loaded, Loader, Loaders, OnRound, Order, Ran, Round
 from .rows import Keyed, Misfit, Reply, Unread, item_of, outcomes_of, reply_of, text_of, unread_of, without_casts
@@ -37,6 +39,8 @@ class Progress(IntEnum):
     WAITING = 2
 
 
+# the number of a row, which nobody reads
+_ANY_ROW = Argument(byref(c_uint32()))
 _P = ParamSpec("_P")
 _T = TypeVar("_T")
 
@@ -73,34 +77,26 @@ class Client(Held):
     the answer, and `outcomes` what was loaded.
     """
 
-    def __init__(self, library: Library, loaders: Sequence[Loader], limits: tuple[int, ...]) -> None:
-        super().__init__(library)
-        self._calls, self._loaders, self._limits = library.calls, loaders, limits
-        self._asks = Asks()
+    def __init__(self, opened: Opened, loaders: Sequence[Loader], asks: Asks, limits: Sequence[int], max_answer: int | None) -> None:
+        super().__init__(opened._library)
+        opened._call(self._calls.rz_client, self._handle, *words_of(limits))
+        self._opened, self._loaders, self._asks = opened, loaders, asks
         self._max_answer: int | None = None
         # columns that were left out of a reply, with the loader and the reason
         self._unread: dict[str, tuple[Loader, Unread]] = {}
         self._has_extensions = False
-        self._sizes = array("Q", bytes(48))
-        self._sizes_at = self._sizes.buffer_info()[0]
-        self._words, self._bytes = words(0), array("B")
-        self._make_room(64, 512)
-
-    def _ask_by(self, asks: Asks, max_answer: int | None) -> None:
-        """Asks by these functions from now on."""
-        self._asks = asks
-        if max_answer != self._max_answer:
+        if max_answer is not None:
             self.limit_answers(max_answer)
 
     # ---- Answers.
 
     def answer(self, query: Query, variables: Variables = None, operation_name: str | None = None) -> Any:
         """The response: a dict with `data` and `errors`, or for a list of requests a list of these."""
-        return json.loads(self.answer_text(query, variables, operation_name))
+        return read_json(self.answer_text(query, variables, operation_name))
 
     async def answer_async(self, query: Query, variables: Variables = None, operation_name: str | None = None) -> Any:
         """The response, with batch functions that may be coroutines. The batches of a round run at the same time."""
-        return json.loads(await self.answer_text_async(query, variables, operation_name))
+        return read_json(await self.answer_text_async(query, variables, operation_name))
 
     def answer_text(self, query: Query, variables: Variables = None, operation_name: str | None = None) -> str:
         """The text of the response."""
@@ -270,24 +266,24 @@ class Client(Held):
     def _begin(self, line: str | bytes) -> None:
         """Begins the answer to a request that is JSON text, or to an array of 1 to 16 of these."""
         text = line.encode(errors="surrogatepass") if isinstance(line, str) else line
-        self._call(self._calls.rz_begin, text, len(text))
+        self._call(self._calls.rz_begin, self._opened.desk().queries, text, SIZES[len(text)])
 
     def _begin_request(self, query: str, operation_name: str | None = None, variables: Variables = None) -> None:
         """Begins the answer to a query."""
         text = query.encode(errors="surrogatepass")
         name = operation_name.encode(errors="surrogatepass") if operation_name else b""
         given = b"" if variables is None else _json(variables).encode()
-        self._call(self._calls.rz_begin_request, text, len(text), name, len(name), given, len(given))
+        texts = text, SIZES[len(text)], name, SIZES[len(name)], given, SIZES[len(given)]
+        self._call(self._calls.rz_begin_request, self._opened.desk().queries, *texts)
 
     def _begin_load(self, loader: str, keys: Iterable[Any]) -> None:
         """Begins to load keys of a loader."""
         asked = self._loader(loader)
         texts = [_key_texts(asked, key) for key in keys]
-        shapes = array("I", [len(asked.columns)]) * len(texts)
-        ends, data = flat(list(chain.from_iterable(texts)))
-        self._call(self._calls.rz_begin_load, asked.number, *buffer_of(shapes), *buffer_of(ends), data, len(data))
+        shapes = words_of([len(asked.columns)] * len(texts))
+        self._call(self._calls.rz_begin_load, SIZES[asked.number], *shapes, *texts_of(*flat(list(chain.from_iterable(texts)))))
 
-    def _call(self, call: Callable[..., int], *arguments: object) -> int:
+    def _call(self, call: Callable[..., int], *arguments: Argument | bytes) -> int:
         """Makes a call. Whoever makes one has taken the client."""
         code = call(self._handle, *arguments)
         if code < 0:
@@ -300,31 +296,13 @@ class Client(Held):
             raise self._library.refused(code)
         return code
 
-    def _read_sizes(self) -> list[int]:
-        """How many orders, keys, texts and bytes a round has, how many bytes the answer has, and how many rounds it took."""
-        self._call(self._calls.rz_sizes, self._sizes_at)
-        return self._sizes.tolist()
-
-    def _make_room(self, count_words: int, count_bytes: int) -> None:
-        if len(self._words) < count_words:
-            self._words = words(2 * count_words)
-            self._words_at = self._words.buffer_info()[0]
-        if len(self._bytes) < count_bytes:
-            self._bytes = array("B", bytes(2 * count_bytes))
-            self._bytes_at = self._bytes.buffer_info()[0]
-
     def _orders(self) -> list[Order]:
         """The orders of the round that is out."""
-        orders, keys, texts, size, _, _ = self._read_sizes()
-        heads = 2 * orders + keys
-        self._make_room(heads + texts, size)
-        at = self._words_at
-        counts_at, lengths_at, ends_at = at + 4 * orders, at + 8 * orders, at + 4 * heads
-        self._call(self._calls.rz_orders, at, orders, counts_at, orders, lengths_at, keys, ends_at, texts, self._bytes_at, size)
-        told = self._words[: heads + texts].tolist()
-        loaders = [self._loaders[number] for number in told[:orders]]
-        lists = _keys(loaders, told[orders : 2 * orders], cut(told[heads:], string_at(self._bytes_at, size)))
-        return list(map(Order, range(orders), loaders, lists))
+        count, told, texts = self._opened.desk().orders(self)
+        loaders = [self._loaders[number] for number in told[:count]]
+        counts, keys = told[count : 2 * count], sum(told[count : 2 * count])
+        lists = _keys(loaders, counts, cut(told[2 * count + keys :], texts))
+        return list(map(Order, range(count), loaders, lists))
 
     def _reply(self, order: Order, returned: Any) -> None:
         """Takes the reply to an order: what a batch function returns."""
@@ -336,7 +314,7 @@ class Client(Held):
             unread = unread_of(order.loader, order.keys, reply)
         else:
             columns, rows, ends, data, _, unread = self._with_faults(order.loader, reply)
-            self._call(self._calls.rz_take_rows, order.number, columns, *buffer_of(rows), *buffer_of(ends), data, len(data))
+            self._call(self._calls.rz_take_rows, SIZES[order.number], SIZES[columns], *words_of(rows), *texts_of(ends, data))
         for column, why in unread.items():
             self._unread[column] = order.loader, why
 
@@ -354,20 +332,17 @@ class Client(Held):
     def _hand_in(self, order: Order, reply: Keyed, faults: Mapping[int, Exception]) -> None:
         texts = [self._fault_text(error, order.loader, [order.keys[place]]) for place, error in faults.items()]
         columns, rows, ends, data, _ = reply.with_faults(texts) if faults else reply
-        places, row = array("I", faults), words(1)
-        size = len(columns), rows, *buffer_of(places), *buffer_of(ends)
-        self._call(self._calls.rz_take_keyed_rows, order.number, *size, data, len(data), row.buffer_info()[0])
+        size = SIZES[order.number], SIZES[len(columns)], COUNTS[rows]
+        self._call(self._calls.rz_take_keyed_rows, *size, *words_of(tuple(faults)), *texts_of(ends, data), _ANY_ROW)
 
     def _fail(self, order: Order, text: str) -> None:
         """Takes it that the batch of an order failed as a whole."""
         data = text.encode()
-        self._call(self._calls.rz_take_failed, order.number, data, len(data))
+        self._call(self._calls.rz_take_failed, SIZES[order.number], data, SIZES[len(data)])
 
     def _text(self) -> str:
         """The text of the answer."""
-        data = array("B", bytes(self._read_sizes()[4]))
-        self._call(self._calls.rz_answer, *buffer_of(data))
-        text = str(data, "utf-8")
+        text = self._opened.desk().answer(self)
         if not self._unread and not self._has_extensions:
             return text
         reasons: dict[str, str] = {}
@@ -388,12 +363,11 @@ class Client(Held):
     def _outcomes(self) -> list[Loaded]:
         """For each key that was loaded its rows, or a `LoadFault`."""
         sizes = array("Q", bytes(48))
-        self._call(self._calls.rz_load_sizes, sizes.buffer_info()[0])
+        self._call(self._calls.rz_load_sizes, pointer_to(sizes))
         keys, rows, texts, size, faults, fault_size = sizes
         counts, widths, ends, fault_ends = map(words, (keys, rows, texts, faults))
         data, fault_data = array("B", bytes(size)), array("B", bytes(fault_size))
-        buffers = (counts, widths, ends, data, fault_ends, fault_data)
-        self._call(self._calls.rz_loaded, *(part for buffer in buffers for part in buffer_of(buffer)))
+        self._call(self._calls.rz_loaded, *buffers(counts, widths, ends, data, fault_ends, fault_data))
         reasons = cut(fault_ends.tolist(), fault_data.tobytes())
         return outcomes_of(counts.tolist(), widths.tolist(), cut(ends.tolist(), data.tobytes()), reasons)
 
@@ -419,21 +393,20 @@ class Client(Held):
     @_alone
     def rounds(self) -> int:
         """How many rounds the answer took."""
-        return self._read_sizes()[5]
+        return self._opened.desk().sizes(self)[5]
 
     # ---- What is known.
 
-    def _restart(self) -> None:
-        """Forgets all keys, logs and rounds. The documents of queries are kept."""
+    @_alone
+    def restart(self) -> None:
+        """Forgets all keys, logs and rounds."""
         self._call(self._calls.rz_restart)
         self._unread.clear()
-
-    restart = _alone(_restart)
 
     @_alone
     def limit_answers(self, most: int | None) -> None:
         """From now on an answer has at most `most` bytes; None is no limit."""
-        self._call(self._calls.rz_limit_answers, 0 if most is None else checked_limit("max_answer", most))
+        self._call(self._calls.rz_limit_answers, SIZES[0 if most is None else checked_limit("max_answer", most)])
         self._max_answer = most
 
     @_alone
@@ -441,44 +414,39 @@ class Client(Held):
         """Knows these rows of a key, unless something is known of it: rows, one row, None or an error. Returns whether they were added."""
         asked, primed = self._loader(loader), words(1)
         texts = _key_texts(asked, key)
-        columns, counts, row_ends, data, _, _ = self._with_faults(asked, item_of(asked, _key_of(texts), rows))
-        key_ends, key_data = flat(texts)
-        row_texts = *buffer_of(row_ends), data, len(data)
-        key_buffers = *buffer_of(key_ends), key_data, len(key_data)
-        self._call(self._calls.rz_prime, asked.number, *key_buffers, columns, counts[0], *row_texts, primed.buffer_info()[0])
+        columns, counts, ends, data, _, _ = self._with_faults(asked, item_of(asked, _key_of(texts), rows))
+        item = SIZES[columns], COUNTS[counts[0]], *texts_of(ends, data)
+        self._call(self._calls.rz_prime, SIZES[asked.number], *texts_of(*flat(texts)), *item, pointer_to(primed))
         return bool(primed[0])
 
     @_alone
     def clear(self, loader: str, key: Any) -> bool:
         """Forgets a key. Returns whether something was known of it."""
         asked, was_known = self._loader(loader), words(1)
-        ends, data = flat(_key_texts(asked, key))
-        self._call(self._calls.rz_clear, asked.number, *buffer_of(ends), data, len(data), was_known.buffer_info()[0])
+        self._call(self._calls.rz_clear, SIZES[asked.number], *texts_of(*flat(_key_texts(asked, key))), pointer_to(was_known))
         return bool(was_known[0])
 
     @_alone
     def clear_all(self, loader: str) -> None:
         """Forgets all keys of a loader."""
-        self._call(self._calls.rz_clear_all, self._loader(loader).number)
+        self._call(self._calls.rz_clear_all, SIZES[self._loader(loader).number])
 
     @_alone
     def log(self, loader: str) -> list[Batch]:
         """The batches that a loader was asked for since the client was made or restarted."""
         asked, sizes = self._loader(loader), array("Q", bytes(32))
-        self._call(self._calls.rz_log_sizes, asked.number, sizes.buffer_info()[0])
+        self._call(self._calls.rz_log_sizes, SIZES[asked.number], pointer_to(sizes))
         batches, keys, texts, size = sizes
-        buffers = [*map(words, (batches, batches, batches, keys, texts)), array("B", bytes(size))]
-        self._call(self._calls.rz_log, asked.number, *(part for buffer in buffers for part in buffer_of(buffer)))
-        rounds, stored, counts, _, ends, data = buffers
+        rounds, stored, counts, lengths, ends = map(words, (batches, batches, batches, keys, texts))
+        data = array("B", bytes(size))
+        self._call(self._calls.rz_log, SIZES[asked.number], *buffers(rounds, stored, counts, lengths, ends, data))
         lists = _keys([asked] * batches, counts.tolist(), cut(ends.tolist(), data.tobytes()))
         return list(map(Batch, rounds, map(bool, stored), lists))
 
+    @_alone
     def close(self) -> None:
         """Frees the client. It is refused by RZ_BUSY while the client answers; further calls are refused by RZ_BAD_HANDLE."""
-        if not self.closed:
-            self._take_alone()
-            self._lock.release()
-            super().close()
+        self._free()
 
     def _loader(self, name: str) -> Loader:
         for loader in self._loaders:
@@ -487,8 +455,13 @@ class Client(Held):
         raise ValueError(f"the bindings have no loader {name}")
 
 
-def _json(value: object) -> str:
-    return json.dumps(value, allow_nan=False)
+_json = json.JSONEncoder(allow_nan=False).encode
+_DECODER = json.JSONDecoder()
+
+
+def read_json(text: str) -> Any:
+    """What JSON text that begins and ends without blanks says."""
+    return _DECODER.raw_decode(text)[0]
 
 
 def _keys(loaders: list[Loader], counts: list[int], texts: list[str]) -> list[Keys]:

@@ -4,14 +4,14 @@ from __future__ import annotations
 
 import ctypes
 import os
-import threading
-import weakref
 from array import array
 from collections.abc import Callable, Mapping, Sequence
-from ctypes import addressof, c_char_p, c_int32, c_size_t, c_uint32, c_void_p
+from ctypes import byref, c_size_t, c_uint32, c_void_p
 from itertools import accumulate
 from pathlib import Path
-from typing import Any, TypeVar
+from struct import pack
+from threading import Lock
+from typing import Any, NewType, TypeVar
 
 # The version of clients/c/rudzkvano.h that this package calls: 65536 * major + 256 * minor + patch.
 HEADER_VERSION = 131072
@@ -22,44 +22,28 @@ KEY_FAULT = 0xFFFFFFFF
 BATCH_FAULT = 0xFFFFFFFE
 SAME_COLUMNS = 0xFFFFFFFF
 
-# h: a handle, t: a text that is read, b: a buffer (bytes or words), n: a size, u: a word, p: what a call fills with a value
-_ARGUMENTS = {
-    "h": (c_void_p,),
-    "t": (c_char_p, c_size_t),
-    "b": (c_void_p, c_size_t),
-    "n": (c_size_t,),
-    "u": (c_uint32,),
-    "p": (c_void_p,),
-}
-_CALLS = {
-    "rz_open": "http",
-    "rz_fault_text": "pttb",
-    "rz_loaders_sizes": "hp",
-    "rz_loaders": "hbbb",
-    "rz_client": "hhb",
-    "rz_limit_answers": "hn",
-    "rz_restart": "h",
-    "rz_begin": "ht",
-    "rz_begin_request": "httt",
-    "rz_cancel": "h",
-    "rz_next": "h",
-    "rz_sizes": "hp",
-    "rz_orders": "hbbbbb",
-    "rz_take_rows": "hnnbbt",
-    "rz_take_keyed_rows": "hnnubbtp",
-    "rz_take_failed": "hnt",
-    "rz_answer": "hb",
-    "rz_prime": "hnbtnubtp",
-    "rz_clear": "hnbtp",
-    "rz_clear_all": "hn",
-    "rz_begin_load": "hnbbt",
-    "rz_load_sizes": "hp",
-    "rz_loaded": "hbbbbbb",
-    "rz_log_sizes": "hnp",
-    "rz_log": "hnbbbbbb",
-}
-# what an address of no elements may be
-_NOTHING = ctypes.c_uint64()
+# how large the numbers are that are made into arguments only once
+_MADE_ONCE = 4096
+
+# What a call of the library is passed. No plain number is one, since `ctypes` takes it for an `int` of C: SIZES and COUNTS have the arguments.
+Argument = NewType("Argument", object)
+
+
+class _Numbers(dict[int, Argument]):
+    """Numbers as arguments of a type of C."""
+
+    def __init__(self, kind: type[c_size_t] | type[c_uint32]) -> None:
+        super().__init__()
+        self._kind = kind
+
+    def __missing__(self, number: int) -> Argument:
+        argument = Argument(self._kind.from_param(number))
+        if number < _MADE_ONCE:
+            self[number] = argument
+        return argument
+
+
+SIZES, COUNTS = _Numbers(c_size_t), _Numbers(c_uint32)
 
 
 class RudzkvanoError(Exception):
@@ -108,32 +92,25 @@ class Library:
         self.calls.rz_version.restype = c_uint32
         _check_version(found, self.calls.rz_version())
         self.calls.rz_close.restype = None
-        self.calls.rz_close.argtypes = (c_void_p,)
-        for name in ("rz_code_name", "rz_code_text"):
+        for name in ("rz_code_name", "rz_code_text", "rz_fault_text"):
             getattr(self.calls, name).restype = c_size_t
-            getattr(self.calls, name).argtypes = (c_int32, c_void_p, c_size_t)
-        self.calls.rz_fault_text.restype = c_size_t
-        for name, kinds in _CALLS.items():
-            getattr(self.calls, name).argtypes = sum((_ARGUMENTS[kind] for kind in kinds), ())
 
     def version(self) -> tuple[int, int, int]:
         return _parts(self.calls.rz_version())
 
     def refused(self, code: int) -> Refused:
         """The error of a code."""
-        return Refused(code, self._words_on("rz_code_name", code), self._words_on("rz_code_text", code))
+        return Refused(code, self._words_by("rz_code_name", code), self._words_by("rz_code_text", code))
 
-    def fault_text(self, fault: array[int], texts: Sequence[Any]) -> str:
+    def fault_text(self, fault: object, texts: Sequence[object]) -> str:
         """What a fault of a schema or its bindings says, of the same texts, each with its length."""
-        arguments = fault.buffer_info()[0], *texts
-        words = ctypes.create_string_buffer(self.calls.rz_fault_text(*arguments, None, 0))
-        length = self.calls.rz_fault_text(*arguments, addressof(words), len(words))
-        return words.raw[:length].decode()
+        return self._words_by("rz_fault_text", fault, *texts)
 
-    def _words_on(self, call: str, code: int) -> str:
-        words = ctypes.create_string_buffer(256)
-        length = getattr(self.calls, call)(code, addressof(words), 256)
-        return words.raw[:length].decode()
+    def _words_by(self, name: str, *arguments: object) -> str:
+        call = getattr(self.calls, name)
+        text = ctypes.create_string_buffer(call(*arguments, None, SIZES[0]))
+        length = call(*arguments, text, SIZES[len(text)])
+        return text.raw[:length].decode()
 
 
 def _check_version(path: str, version: int) -> None:
@@ -160,25 +137,22 @@ def _default_path() -> str | Path:
     raise FileNotFoundError(f"no {name}: give its path as the argument library or in the environment as RUDZKVANO_LIBRARY")
 
 
-def _close(library: Library, lock: threading.Lock, handle: c_void_p) -> None:
-    with lock:
-        library.calls.rz_close(addressof(handle))
-
-
 _Held = TypeVar("_Held", bound="Held")
 
 
 class Held:
     """What a handle holds. The handle is in one call at a time, whatever the threads are, and is freed with this object at the latest."""
 
-    def __init__(self, library: Library) -> None:
-        self._library, self._lock, self._holder = library, threading.Lock(), c_void_p()
-        self._handle = addressof(self._holder)
-        self._closing = weakref.finalize(self, _close, library, self._lock, self._holder)
-        # a thread that is in a call when the interpreter ends isn't waited for
-        self._closing.atexit = False
+    # until there is a handle
+    _closed = True
 
-    def _call(self, call: Callable[..., int], *arguments: object) -> int:
+    def __init__(self, library: Library) -> None:
+        self._library, self._calls, self._lock = library, library.calls, Lock()
+        # this argument keeps the handle
+        self._handle: Any = byref(c_void_p())
+        self._closed = False
+
+    def _call(self, call: Callable[..., int], *arguments: Argument | bytes) -> int:
         with self._lock:
             code = call(self._handle, *arguments)
         if code < 0:
@@ -187,11 +161,20 @@ class Held:
 
     @property
     def closed(self) -> bool:
-        return not self._closing.alive
+        return self._closed
 
     def close(self) -> None:
         """Frees what is held. Further calls are refused by RZ_BAD_HANDLE."""
-        self._closing()
+        with self._lock:
+            self._free()
+
+    def _free(self) -> None:
+        if not self._closed:
+            self._closed = True
+            self._calls.rz_close(self._handle)
+
+    # what nobody has any more is in no call
+    __del__ = _free
 
     def __enter__(self: _Held) -> _Held:
         return self
@@ -204,19 +187,32 @@ def words(count: int) -> array[int]:
     return array("I", bytes(4 * count))
 
 
-def buffer_of(elements: array[int]) -> tuple[int, int]:
-    """The address and the length of a buffer, as C is passed them. Whoever calls this keeps the buffer until the call has returned."""
-    address, count = elements.buffer_info()
-    return address or addressof(_NOTHING), count
+def pointer_to(elements: array[Any], start: int = 0) -> Argument:
+    """The argument for a buffer, from this place on. Whoever calls this keeps the buffer until the call has returned."""
+    return Argument(c_void_p.from_param(elements.buffer_info()[0] + elements.itemsize * start))
 
 
-def flat(texts: list[str]) -> tuple[array[int], bytes]:
+def buffers(*arrays: array[int]) -> list[Argument]:
+    """The arguments for buffers with their lengths."""
+    return [argument for elements in arrays for argument in (pointer_to(elements), SIZES[len(elements)])]
+
+
+def words_of(numbers: Sequence[int]) -> tuple[bytes, Argument]:
+    """The arguments for words that are read."""
+    return pack(f"{len(numbers)}I", *numbers), SIZES[len(numbers)]
+
+
+def texts_of(ends: Sequence[int], data: bytes) -> tuple[bytes, Argument, bytes, Argument]:
+    """The arguments for texts that are read."""
+    return *words_of(ends), data, SIZES[len(data)]
+
+
+def flat(texts: list[str]) -> tuple[list[int], bytes]:
     """Where each text ends, and their bytes."""
     whole = "".join(texts)
     data = whole.encode()
     lengths = map(len, texts) if len(data) == len(whole) else map(len, map(str.encode, texts))
-    # an array is made of a list in a fraction of the time that other iterables take
-    return array("I", list(accumulate(lengths))), data
+    return list(accumulate(lengths)), data
 
 
 def cut(ends: list[int], data: bytes) -> list[str]:

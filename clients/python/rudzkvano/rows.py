@@ -3,7 +3,6 @@ of loaded keys."""
 
 from __future__ import annotations
 
-from array import array
 from collections.abc import Callable, Iterable, Iterator, Mapping, Sequence
 from datetime import date, datetime
 from decimal import Decimal
@@ -38,8 +37,8 @@ class Reply(NamedTuple):
     """
 
     columns: int
-    rows: array[int]
-    ends: array[int]
+    rows: list[int]
+    ends: list[int]
     data: bytes
     faults: Sequence[tuple[Any, Exception]] = ()
     unread: Mapping[str, Unread] = _NOTHING
@@ -55,7 +54,7 @@ class Keyed(NamedTuple):
 
     columns: Sequence[str]
     rows: int
-    ends: array[int]
+    ends: list[int]
     data: bytes
     unread: Mapping[str, tuple[int, Exception]]
 
@@ -64,10 +63,10 @@ class Keyed(NamedTuple):
         return self._replace(ends=ends, data=data)
 
 
-def _and_faults(ends: array[int], data: bytes, texts: list[str]) -> tuple[array[int], bytes]:
+def _and_faults(ends: list[int], data: bytes, texts: list[str]) -> tuple[list[int], bytes]:
     """The texts of a reply, and then those of the faults."""
     fault_ends, fault_data = flat(texts)
-    return ends + array("I", [len(data) + end for end in fault_ends]), data + fault_data
+    return ends + [len(data) + end for end in fault_ends], data + fault_data
 
 
 class Misfit(ValueError):
@@ -362,7 +361,7 @@ def without_casts(loader: Loader, keys: Keys, reply: Keyed) -> tuple[Keyed, dict
         if it not in wanted:
             casts[_as_cast(key)] = key
     faults = {place: _fault_of_cast(loader, key, keys[place]) for cast, key in casts.items() for place in alike[cast]}
-    width, texts = len(reply.columns), cut(reply.ends.tolist(), reply.data)
+    width, texts = len(reply.columns), cut(reply.ends, reply.data)
     kept = [text for place, text in enumerate(texts) if place < width or compared[place // width - 1] in wanted]
     ends, data = flat(kept)
     return reply._replace(rows=len(kept) // width - 1, ends=ends, data=data), dict(sorted(faults.items()))
@@ -396,7 +395,7 @@ def unread_of(loader: Loader, keys: Keys, reply: Keyed) -> Mapping[str, Unread]:
 
 def _keys_of(loader: Loader, reply: Keyed) -> list[Any]:
     """The keys of rows, in the columns of the loader."""
-    width, texts = len(reply.columns), cut(reply.ends.tolist(), reply.data)
+    width, texts = len(reply.columns), cut(reply.ends, reply.data)
     parts = [texts[width + reply.columns.index(column) :: width] for column in loader.columns]
     return parts[0] if len(parts) == 1 else list[Any](zip(*parts))
 
@@ -483,10 +482,10 @@ def _flat_reply(loader: Loader, keys: Sequence[Any], counts: list[int], read: _T
     unread = {column: _unread(loader, column, why, *_owner(keys, counts, row)) for column, (row, why) in read.unread.items()}
     if unread and not read.columns:
         raise next(iter(unread.values())).error
-    return Reply(len(read.columns), array("I", counts), *_flat_texts(loader, read), faults, unread)
+    return Reply(len(read.columns), counts, *_flat_texts(loader, read), faults, unread)
 
 
-def _flat_texts(loader: Loader, read: _Texts) -> tuple[array[int], bytes]:
+def _flat_texts(loader: Loader, read: _Texts) -> tuple[list[int], bytes]:
     try:
         return flat([*read.columns, *read.texts])
     except TypeError:

@@ -2,26 +2,21 @@
 
 from __future__ import annotations
 
-import json
 import os
 from array import array
 from collections.abc import Mapping
-from threading import Lock
 from typing import TYPE_CHECKING, Any, TypeAlias, TypedDict, Union
 
-from .client import Asks, Client, Introspect, Query, Variables
+from .client import Asks, Client, Introspect, Query, Variables, read_json
+from .desks import Opened
 from .errors import OnError
 from .introspection import GraphQL, Introspection
-from .library import BAD_SCHEMA, Held, Library, Refused, SchemaFault, buffer_of, cut, words
+from .library import BAD_SCHEMA, SIZES, Argument, Library, Refused, SchemaFault, buffers, cut, pointer_to, words
 from .limits import checked_limit
 from .loaders import Forms, Loader, Loaders, OnRound, checked_forms
 
 if TYPE_CHECKING:
     from typing_extensions import Unpack
-
-# how many clients that are answering nothing a server keeps: each keeps the documents of its queries
-_KEPT_CLIENTS = 16
-_NOTHING = Asks()
 
 MaxBatch: TypeAlias = Union[int, Mapping[str, int], None]
 
@@ -43,34 +38,34 @@ class Options(_AskOptions, total=False):
     max_answer: Union[int, None]
 
 
-class Server(Held):
+class Server:
     """A schema with its bindings. `library` is the path of the C library, or a Library."""
 
+    closed = False
+
     def __init__(self, schema: str, bindings: str, library: str | os.PathLike[str] | Library | None = None) -> None:
-        super().__init__(library if isinstance(library, Library) else Library(library))
+        self._library = library if isinstance(library, Library) else Library(library)
+        self._opened = Opened(self._library)
         texts, fault = (schema.encode(), bindings.encode()), array("Q", bytes(24))
-        arguments = [part for text in texts for part in (text, len(text))]
+        arguments: list[Argument | bytes] = [texts[0], SIZES[len(texts[0])], texts[1], SIZES[len(texts[1])]]
         try:
-            self._call(self._library.calls.rz_open, *arguments, fault.buffer_info()[0])
+            self._opened._call(self._library.calls.rz_open, *arguments, pointer_to(fault))
         except Refused as refused:
             if refused.code != BAD_SCHEMA:
                 raise
             line, column, rest = fault
             place = rest & 0xFFFFFFFF, line, column, bool(rest >> 32)
-            raise SchemaFault(refused, *place, self._library.fault_text(fault, arguments)) from None
+            raise SchemaFault(refused, *place, self._library.fault_text(pointer_to(fault), arguments)) from None
         self.loaders = self._read_loaders()
         self._names = frozenset(loader.name for loader in self.loaders)
         self._schema = schema
         self._introspection: Introspection | None = None
-        # those that ended last stand last
-        self._idle: list[Client] = []
-        self._idle_lock = Lock()
 
     def _read_loaders(self) -> tuple[Loader, ...]:
         sizes = array("Q", bytes(16))
-        self._call(self._library.calls.rz_loaders_sizes, sizes.buffer_info()[0])
+        self._opened._call(self._library.calls.rz_loaders_sizes, pointer_to(sizes))
         kinds, ends, data = words(sizes[0]), words(4 * sizes[0]), array("B", bytes(sizes[1]))
-        self._call(self._library.calls.rz_loaders, *buffer_of(kinds), *buffer_of(ends), *buffer_of(data))
+        self._opened._call(self._library.calls.rz_loaders, *buffers(kinds, ends, data))
         texts = cut(ends.tolist(), data.tobytes())
         loaders = []
         for number, kind in enumerate(kinds):
@@ -87,7 +82,7 @@ class Server(Held):
         **options: Unpack[Options],
     ) -> Any:
         """The response: a dict with `data` and `errors`, or for a list of requests a list of these. Nothing is remembered."""
-        return json.loads(self.answer_text(query, loaders, variables, operation_name, **options))
+        return read_json(self.answer_text(query, loaders, variables, operation_name, **options))
 
     async def answer_async(
         self,
@@ -98,7 +93,7 @@ class Server(Held):
         **options: Unpack[Options],
     ) -> Any:
         """The response, with batch functions that may be coroutines. The batches of a round run at the same time."""
-        return json.loads(await self.answer_text_async(query, loaders, variables, operation_name, **options))
+        return read_json(await self.answer_text_async(query, loaders, variables, operation_name, **options))
 
     def answer_text(
         self,
@@ -109,11 +104,8 @@ class Server(Held):
         **options: Unpack[Options],
     ) -> str:
         """The text of the response."""
-        client = self._lent(loaders, **options)
-        try:
+        with self.client(loaders, **options) as client:
             return client.answer_text(query, variables, operation_name)
-        finally:
-            self._take_back(client)
 
     async def answer_text_async(
         self,
@@ -124,11 +116,8 @@ class Server(Held):
         **options: Unpack[Options],
     ) -> str:
         """The text of the response, with batch functions that may be coroutines."""
-        client = self._lent(loaders, **options)
-        try:
+        with self.client(loaders, **options) as client:
             return await client.answer_text_async(query, variables, operation_name)
-        finally:
-            self._take_back(client)
 
     def client(self, loaders: Loaders, **options: Unpack[Options]) -> Client:
         """A client with a memory of its own, which goes on from request to request. It knows nothing."""
@@ -136,42 +125,17 @@ class Server(Held):
 
     def close(self) -> None:
         """Frees the server. Its clients go on."""
-        super().close()
-        with self._idle_lock:
-            idle, self._idle = self._idle, []
-        for client in idle:
-            client.close()
+        # what is open goes with the last of them, and the new handle is empty
+        self._opened, self.closed = Opened(self._library), True
+
+    def __enter__(self) -> Server:
+        return self
+
+    def __exit__(self, *_: object) -> None:
+        self.close()
 
     def _made(self, loaders: Loaders, max_batch: MaxBatch = None, max_answer: int | None = None, **asks: Unpack[_AskOptions]) -> Client:
-        functions, limits = self._asks(loaders, **asks), self._limits(max_batch)
-        client = self._new_client(limits)
-        client._ask_by(functions, max_answer)
-        return client
-
-    def _lent(self, loaders: Loaders, max_batch: MaxBatch = None, max_answer: int | None = None, **asks: Unpack[_AskOptions]) -> Client:
-        """A client that knows nothing, for one request. It may have answered others before, and keeps the documents of their queries."""
-        functions, limits = self._asks(loaders, **asks), self._limits(max_batch)
-        client = self._taken(limits) or self._new_client(limits)
-        client._ask_by(functions, max_answer)
-        return client
-
-    def _taken(self, limits: tuple[int, ...]) -> Client | None:
-        """An idle client with these limits."""
-        with self._idle_lock:
-            for place in reversed(range(len(self._idle))):
-                if self._idle[place]._limits == limits:
-                    return self._idle.pop(place)
-        return None
-
-    def _take_back(self, client: Client) -> None:
-        """Has a client stand by, in place of the one that has stood by longest where there are enough."""
-        client._restart()
-        client._ask_by(_NOTHING, client._max_answer)
-        with self._idle_lock:
-            self._idle.append(client)
-            ended = self._idle.pop(0) if len(self._idle) > _KEPT_CLIENTS or self.closed else None
-        if ended is not None:
-            ended.close()
+        return Client(self._opened, self.loaders, self._asks(loaders, **asks), self._limits(max_batch), max_answer)
 
     def _asks(
         self,
@@ -205,8 +169,3 @@ class Server(Held):
         for name, limit in by_name.items():
             checked_limit(f"max_batch of loader {name}", limit, 65535)
         return tuple(by_name.get(loader.name, 0) for loader in self.loaders)
-
-    def _new_client(self, limits: tuple[int, ...]) -> Client:
-        client, most = Client(self._library, self.loaders, limits), array("I", limits)
-        self._call(self._library.calls.rz_client, client._handle, *buffer_of(most))
-        return client

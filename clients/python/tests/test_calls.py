@@ -160,20 +160,12 @@ class Refusals(Calls):
                     Library(path)
                 self.assertEqual(str(raised.exception), f"{path} {why}")
 
-    def test_idle_clients_are_bounded_in_all(self) -> None:
+    def test_clients_of_all_limits(self) -> None:
         asked: list[Any] = []
         functions = {"userById": worlds.noted(asked, self.functions["userById"])}
         for limit in range(1, 100):
             self.assertEqual(self.server.answer(USER, functions, max_batch=limit), ADA)
-        self.assertEqual(len(self.server._idle), 16)
-        kept = list(self.server._idle)
-        self.server.answer(USER, functions, max_batch=99)
-        self.assertEqual(self.server._idle, kept, "the one with these limits is taken again")
-        self.server.answer(USER, functions, max_batch=90)
-        self.assertIs(self.server._idle[-1], kept[6])
-        self.assertEqual(len(asked), 101)
-        self.server.close()
-        self.assertTrue(all(client.closed for client in kept))
+        self.assertEqual(len(asked), 99)
 
 
 class Faults(Calls):
@@ -508,6 +500,17 @@ class Threads(Calls):
             self.refused("RZ_BUSY", client.answer, USER)
             leave.set()
             self.assertEqual(answer.result(10), ADA)
+
+
+    def test_a_client_in_one_thread_after_another(self) -> None:
+        with self.server.client(self.functions) as client:
+            for number in range(20):
+                with ThreadPoolExecutor(1) as pool:
+                    found = pool.submit(client.answer, MISSING_NAME, {"i": number % 3 + 1}).result(10)
+                self.assertEqual(found["data"]["user"]["name"], ("Ada", "Bob", "Cy")[number % 3])
+            self.server.close()
+            with ThreadPoolExecutor(1) as pool:
+                self.assertEqual(pool.submit(client.answer, USER).result(10), ADA, "it goes on after its server, in a new thread")
 
 
 class Tasks(Calls):

@@ -6,6 +6,7 @@ import gc
 import os
 import sys
 import unittest
+from concurrent.futures import ThreadPoolExecutor
 from typing import Any
 
 import worlds
@@ -56,6 +57,17 @@ class Memory(unittest.TestCase):
         def run(count: int) -> None:
             for at in range(count):
                 self.server.answer_text(lines[at % len(lines)], self.functions)
+
+        self.flat(run)
+
+    def test_threads(self) -> None:
+        def answer(number: int) -> str:
+            return self.server.answer_text(f"{{user(id:1){{name a{number}:id}}}}", self.functions)
+
+        def run(count: int) -> None:
+            for at in range(count // 20):
+                with ThreadPoolExecutor(2) as pool:
+                    list(pool.map(answer, range(20 * at, 20 * at + 20)))
 
         self.flat(run)
 

@@ -140,7 +140,7 @@ impl Outcomes {
     }
 }
 
-/// What holds a server or a client, or nothing. It frees what it holds.
+/// What holds a server, queries or a client, or nothing. It frees what it holds.
 #[repr(C)]
 pub struct Handle {
     at: *mut c_void,
@@ -188,12 +188,14 @@ extern "C" {
         bytes: *mut u8,
         bytes_len: usize,
     ) -> i32;
+    fn rz_queries(server: &mut Handle, queries: &mut Handle) -> i32;
     fn rz_client(server: &mut Handle, client: &mut Handle, limits: *const u32, limits_len: usize) -> i32;
     fn rz_limit_answers(client: &mut Handle, bytes: usize) -> i32;
     fn rz_restart(client: &mut Handle) -> i32;
-    fn rz_begin(client: &mut Handle, line: *const u8, line_len: usize) -> i32;
+    fn rz_begin(client: &mut Handle, queries: &mut Handle, line: *const u8, line_len: usize) -> i32;
     fn rz_begin_request(
         client: &mut Handle,
+        queries: &mut Handle,
         query: *const u8,
         query_len: usize,
         operation: *const u8,
@@ -362,6 +364,10 @@ impl Handle {
         unsafe { rz_loaders(self, kinds.as_mut_ptr(), kinds.len(), ends.as_mut_ptr(), ends.len(), bytes.as_mut_ptr(), bytes.len()) }
     }
 
+    pub fn queries(&mut self, queries: &mut Self) -> i32 {
+        unsafe { rz_queries(self, queries) }
+    }
+
     pub fn client(&mut self, client: &mut Self, limits: &[u32]) -> i32 {
         unsafe { rz_client(self, client, limits.as_ptr(), limits.len()) }
     }
@@ -374,14 +380,13 @@ impl Handle {
         unsafe { rz_restart(self) }
     }
 
-    pub fn begin(&mut self, line: &[u8]) -> i32 {
-        unsafe { rz_begin(self, line.as_ptr(), line.len()) }
+    pub fn begin(&mut self, queries: &mut Self, line: &[u8]) -> i32 {
+        unsafe { rz_begin(self, queries, line.as_ptr(), line.len()) }
     }
 
-    pub fn begin_request(&mut self, query: &str, operation: &str, variables: &str) -> i32 {
-        unsafe {
-            rz_begin_request(self, query.as_ptr(), query.len(), operation.as_ptr(), operation.len(), variables.as_ptr(), variables.len())
-        }
+    pub fn begin_request(&mut self, queries: &mut Self, query: &str, operation: &str, variables: &str) -> i32 {
+        let (query_at, operation_at, variables_at) = (query.as_ptr(), operation.as_ptr(), variables.as_ptr());
+        unsafe { rz_begin_request(self, queries, query_at, query.len(), operation_at, operation.len(), variables_at, variables.len()) }
     }
 
     pub fn cancel(&mut self) -> i32 {

@@ -253,16 +253,34 @@ pub enum Progress {
     Waiting,
 }
 
-/// How many clients a server keeps for the next requests.
-const IDLE: usize = 16;
-
 /// A schema with its bindings. Threads share it: a handle of the library is in one call at a time, which a lock sees to. Only the making of a
-/// client takes that lock, so answers don't wait for each other.
+/// client or of queries takes that lock, so no answer waits until another is done.
 pub struct Server {
-    handle: Mutex<Handle>,
+    pool: Arc<Pool>,
     loaders: Arc<[Arc<Loader>]>,
-    // these know no rows, but the documents of queries, which needn't be parsed again
-    idle: Mutex<Vec<Client>>,
+}
+
+/// What a server shares with its clients: its handle, and the queries that no call uses. Queries keep what requests ask, for those that come again.
+/// They are lent to the call that begins a request, so there are at most as many as calls that began at the same time.
+struct Pool {
+    server: Mutex<Handle>,
+    queries: Mutex<Vec<Handle>>,
+}
+
+impl Pool {
+    fn take(&self) -> Result<Handle, Error> {
+        // not matched on, which would hold the lock
+        let kept = locked(&self.queries).pop();
+        if let Some(queries) = kept {
+            return Ok(queries);
+        }
+        let mut made = Handle::empty();
+        went_well(locked(&self.server).queries(&mut made)).map(|_| made)
+    }
+
+    fn give(&self, queries: Handle) {
+        locked(&self.queries).push(queries);
+    }
 }
 
 /// What a lock guards. No call that it guards leaves it half done, so a panic elsewhere doesn't spoil it.
@@ -286,7 +304,8 @@ impl Server {
         }
         went_well(code)?;
         let loaders = read_loaders(&mut handle)?;
-        Ok(Self { handle: Mutex::new(handle), loaders, idle: Mutex::default() })
+        let pool = Pool { server: Mutex::new(handle), queries: Mutex::default() };
+        Ok(Self { pool: Arc::new(pool), loaders })
     }
 
     /// The loaders of the bindings.
@@ -301,12 +320,7 @@ impl Server {
     /// [`Error::NoLoader`] where the bindings don't have a loader that is named, [`Error::Cancelled`] where it was cancelled, and
     /// [`Error::Refused`] for a limit that is too large or where memory runs out.
     pub fn answer_text(&self, request: &Request<'_>, loaders: &mut Loaders<'_>, options: &Options) -> Result<String, Error> {
-        let mut client = self.idle_client(options)?;
-        let answer = client.answer_text(request, loaders);
-        if client.restart().is_ok() {
-            self.keep(client);
-        }
-        answer
+        self.client(options)?.answer_text(request, loaders)
     }
 
     /// A client, which knows nothing.
@@ -315,36 +329,12 @@ impl Server {
     ///
     /// As those of [`Server::answer_text`].
     pub fn client(&self, options: &Options) -> Result<Client, Error> {
-        self.new_client(self.limits(options)?, options)
-    }
-
-    fn idle_client(&self, options: &Options) -> Result<Client, Error> {
-        let limits = self.limits(options)?;
-        let idle = {
-            let mut idle = locked(&self.idle);
-            let place = idle.iter().rposition(|client| client.limits == limits);
-            place.map(|place| idle.remove(place))
-        };
-        match idle {
-            Some(mut client) => went_well(client.handle.limit_answers(options.max_answer)).map(|_| client),
-            None => self.new_client(limits, options),
+        let (limits, mut handle) = (self.limits(options)?, Handle::empty());
+        went_well(locked(&self.pool.server).client(&mut handle, &limits))?;
+        if options.max_answer > 0 {
+            went_well(handle.limit_answers(options.max_answer))?;
         }
-    }
-
-    /// Has a client stand by, in place of the one that has stood by longest where there are enough.
-    fn keep(&self, client: Client) {
-        let mut idle = locked(&self.idle);
-        if idle.len() == IDLE {
-            idle.remove(0);
-        }
-        idle.push(client);
-    }
-
-    fn new_client(&self, limits: Vec<u32>, options: &Options) -> Result<Client, Error> {
-        let mut handle = Handle::empty();
-        went_well(locked(&self.handle).client(&mut handle, &limits))?;
-        went_well(handle.limit_answers(options.max_answer))?;
-        Ok(Client { handle, loaders: Arc::clone(&self.loaders), limits })
+        Ok(Client { handle, pool: Arc::clone(&self.pool), loaders: Arc::clone(&self.loaders) })
     }
 
     /// How many keys a batch of each loader may have.
@@ -390,8 +380,8 @@ fn number_of(loaders: &[Arc<Loader>], name: &str) -> Result<usize, Error> {
 /// of these, in any order.
 pub struct Client {
     handle: Handle,
+    pool: Arc<Pool>,
     loaders: Arc<[Arc<Loader>]>,
-    limits: Vec<u32>,
 }
 
 impl Client {
@@ -477,12 +467,14 @@ impl Client {
     ///
     /// [`Error::Refused`] where a request is being answered.
     pub fn begin(&mut self, request: &Request<'_>) -> Result<(), Error> {
+        let mut queries = self.pool.take()?;
         let code = match *request {
-            Request::Json(text) => self.handle.begin(text),
+            Request::Json(text) => self.handle.begin(&mut queries, text),
             Request::Query { query, operation_name, variables } => {
-                self.handle.begin_request(query, operation_name.unwrap_or_default(), variables.unwrap_or_default())
+                self.handle.begin_request(&mut queries, query, operation_name.unwrap_or_default(), variables.unwrap_or_default())
             }
         };
+        self.pool.give(queries);
         went_well(code).map(drop)
     }
 

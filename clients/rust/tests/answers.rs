@@ -71,6 +71,48 @@ fn two_hundred_requests_at_the_same_time() {
     });
 }
 
+/// Each thread begins with another line, and has other limits. Its requests go to the server and to a client in turn.
+#[test]
+fn threads_that_share_a_server_answer_as_stored() {
+    let world = &World::read("");
+    thread::scope(|scope| {
+        for number in 0..8 {
+            let options = Options { max_batch: number, ..Options::default() };
+            let mut client = world.server.client(&options).expect("a client");
+            scope.spawn(move || {
+                let mut loaders = world.loaders(number % 2 == 0, || ());
+                let lines = world.requests.iter().zip(&world.answers).cycle().skip(10 * number as usize);
+                for (place, (request, wanted)) in lines.take(2000).enumerate() {
+                    let line = Request::Json(request.as_bytes());
+                    let answer = match place % 2 {
+                        0 => world.server.answer_text(&line, &mut loaders, &options),
+                        _ => client.answer_text(&line, &mut loaders),
+                    };
+                    assert_eq!(answer.as_ref(), Ok(wanted), "{request}");
+                }
+            });
+        }
+    });
+}
+
+#[test]
+fn clients_go_on_after_their_server() {
+    let world = &World::read("");
+    let server = World::read("").server;
+    let clients: Vec<_> = (0..3).map(|_| server.client(&Options::default()).expect("a client")).collect();
+    drop(server);
+    thread::scope(|scope| {
+        for mut client in clients {
+            scope.spawn(move || {
+                for (request, wanted) in world.requests.iter().zip(&world.answers) {
+                    let answer = client.answer_text(&Request::Json(request.as_bytes()), &mut world.loaders(true, || ()));
+                    assert_eq!(answer.as_ref(), Ok(wanted), "{request}");
+                }
+            });
+        }
+    });
+}
+
 /// The answers of `query_cli` to a file of lines, or of the host in C over tables in memory; or none where neither is built.
 fn answers_of_others(lines: &str) -> Option<String> {
     let out = repository().join("crates");
