@@ -1,4 +1,9 @@
 pub mod Words
+pub mod Behind
+pub mod Places
 pub mod Schemas
 pub mod Bindings
+pub mod Lines
+pub mod Complaints
+pub mod Seen
 pub mod Told

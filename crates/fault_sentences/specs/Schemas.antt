@@ -1,13 +1,11 @@
 -- Complaints on a schema: the words of each, and when it is true.
-use Rattle.std.specs.Prelude.{◌≡◌, ℕ, ◌⊎◌, ⊤, List, [], ◌∷◌, Option, ◌<◌, length, get_or, slice_range, codes}
+use Rattle.std.specs.Prelude.{◌≡◌, ◌≢◌, ℕ, ◌<◌, ◌⊎◌, Bool, true, false, ◌||◌, List, [], ◌∷◌, length, codes, bytes_eq, nat_eq}
+use Rattle.std.specs.List.{list_any}
 use Rattle.text_place.specs.declared.place.Place.{Place}
-use Rattle.gq_lexer.specs.declared.fault.LexFault.{LexFault}
-use Rattle.gq_lexer.specs.declared.token.Token.{Token}
-use Rattle.gq_lexer.specs.Faults.{IsLexed}
-use Rattle.gq_lexer.specs.Place.{place_of}
-use Rattle.gq_lexer.specs.Tokens.{bytes_of}
+use Rattle.gq_lexer.specs.declared.lexer.TheConstants.{MAX_BYTES}
 use Rattle.fault_sentences.specs.declared.schema.SchemaComplaint.{SchemaComplaint}
 use Rattle.fault_sentences.specs.declared.schema.SchemaComplaint.TheVariants as complaint
+use Rattle.fault_sentences.specs.Places.{Found, NothingIsAt, StandsAt}
 use Rattle.fault_sentences.specs.Words.{on_token}
 
 -- ---- the words
@@ -40,74 +38,63 @@ schema_words complaint.Refused = codes "the schema is refused" ∷ []
 
 -- ---- when it is true
 
--- the fault Sn, for the number n, has this complaint
-abbrev pub IsOfNumber : ℕ → SchemaComplaint → Type 0
-IsOfNumber n (complaint.CantStand token) = n ≡ 1
-IsOfNumber n complaint.EndsEarly = n ≡ 1
-IsOfNumber n (complaint.DefinedTwice token) = n ≡ 2
-IsOfNumber n (complaint.UnknownType token) = n ≡ 3
-IsOfNumber n (complaint.LacksMember ty interface) = n ≡ 4
-IsOfNumber n complaint.NoRoot = n ≡ 5
-IsOfNumber n (complaint.ReservedName token) = n ≡ 6
-IsOfNumber n (complaint.NotServed token) = n ≡ 7
-IsOfNumber n (complaint.PairNotServed token next) = n ≡ 7
-IsOfNumber n (complaint.DirectiveNotServed name) = n ≡ 7
-IsOfNumber n complaint.ListOfLists = n ≡ 7
-IsOfNumber n (complaint.WrongKind token) = n ≡ 10
-IsOfNumber n (complaint.BadDefault token) = n ≡ 11
-IsOfNumber n complaint.Refused = ⊤
+-- a word that isn't served with what stands behind it
+abbrev pub is_of_pair : List ℕ → Bool
+is_of_pair word = list_any (bytes_eq word) (codes "scalar" ∷ codes "input" ∷ codes "extend" ∷ [])
 
--- its token, if it has one, is this
-abbrev pub IsOn : List ℕ → SchemaComplaint → Type 0
-IsOn t (complaint.CantStand token) = token.now ≡ t
-IsOn t complaint.EndsEarly = ⊤
-IsOn t (complaint.DefinedTwice token) = token.now ≡ t
-IsOn t (complaint.UnknownType token) = token.now ≡ t
-IsOn t (complaint.LacksMember ty interface) = interface.now ≡ t
-IsOn t complaint.NoRoot = ⊤
-IsOn t (complaint.ReservedName token) = token.now ≡ t
-IsOn t (complaint.NotServed token) = token.now ≡ t
-IsOn t (complaint.PairNotServed token next) = token.now ≡ t
-IsOn t (complaint.DirectiveNotServed name) = t ≡ codes "@"
-IsOn t complaint.ListOfLists = t ≡ codes "["
-IsOn t (complaint.WrongKind token) = token.now ≡ t
-IsOn t (complaint.BadDefault token) = token.now ≡ t
-IsOn t complaint.Refused = ⊤
+-- a word of which more is said than that it isn't served
+abbrev pub says_more : List ℕ → Bool
+says_more word = bytes_eq word (codes "@") || (bytes_eq word (codes "[") || is_of_pair word)
 
--- the complaint on a token that isn't served
-abbrev pub IsNotServed : List ℕ → SchemaComplaint → Type 0
-IsNotServed t c = IsOfNumber 7 c × IsOn t c
+-- the faults S1 to S4, S6, S7, S10 and S11 are of what stands at their place
+abbrev pub is_of_word : ℕ → Bool
+is_of_word n = list_any (nat_eq n) (1 ∷ 2 ∷ 3 ∷ 4 ∷ 6 ∷ 7 ∷ 10 ∷ 11 ∷ [])
 
--- the token of this index is this, and stands at the place
-pub record IsAt (at : Place) (i : ℕ) (t : Token) (tokens : List Token) : Type 0 where
-  pub within : i < length tokens
-  pub there : t ≡ get_or tokens i t
-  pub line_is : t.line ≡ at.line
-  pub column_is : t.column ≡ at.column
+-- The fault Sn, for the number n, has this complaint where this stands.
+abbrev pub IsSaidOf : ℕ → Found → SchemaComplaint → Type 0
+IsSaidOf n f (complaint.CantStand token) = (n ≡ 1) × (token.now ≡ f.word)
+IsSaidOf n f complaint.EndsEarly = ⊥
+IsSaidOf n f (complaint.DefinedTwice token) = (n ≡ 2) × (token.now ≡ f.word)
+IsSaidOf n f (complaint.UnknownType token) = (n ≡ 3) × (token.now ≡ f.word)
+IsSaidOf n f (complaint.LacksMember ty interface) =
+    (n ≡ 4) × (ty.now ≡ f.of_type) × (interface.now ≡ f.word)
+IsSaidOf n f complaint.NoRoot = ⊥
+IsSaidOf n f (complaint.ReservedName token) = (n ≡ 6) × (token.now ≡ f.word)
+IsSaidOf n f (complaint.NotServed token) =
+    (n ≡ 7) × (token.now ≡ f.word) × (says_more f.word ≡ false)
+IsSaidOf n f (complaint.PairNotServed token next) =
+    (n ≡ 7) × (token.now ≡ f.word) × (next.now ≡ f.next) × (is_of_pair f.word ≡ true)
+IsSaidOf n f (complaint.DirectiveNotServed name) =
+    (n ≡ 7) × (f.word ≡ codes "@") × (name.now ≡ f.next)
+IsSaidOf n f complaint.ListOfLists = (n ≡ 7) × (f.word ≡ codes "[")
+IsSaidOf n f (complaint.WrongKind token) = (n ≡ 10) × (token.now ≡ f.word)
+IsSaidOf n f (complaint.BadDefault token) = (n ≡ 11) × (token.now ≡ f.word)
+IsSaidOf n f complaint.Refused = is_of_word n ≡ false
 
--- the token at a place of a text is this
-pub record IsTokenAt (text : List ℕ) (at : Place) (word : List ℕ) : Type 0 where
-  pub tokens : List Token
-  pub fault : Option LexFault
-  pub lexed : IsLexed text tokens fault
-  pub i : ℕ
-  pub t : Token
-  pub stands : IsAt at i t tokens
-  pub word_is : bytes_of text t ≡ word
+-- The fault Sn, for the number n, has this complaint where nothing stands.
+abbrev pub IsSaidOfNothing : ℕ → SchemaComplaint → Type 0
+IsSaidOfNothing n complaint.EndsEarly = n ≡ 1
+IsSaidOfNothing n complaint.NoRoot = n ≡ 5
+IsSaidOfNothing n complaint.Refused = (n ≢ 1) × (n ≢ 5)
+IsSaidOfNothing n _ = ⊥
 
--- the text at a place, up to the next character, is this
-pub record IsCharacterAt (text : List ℕ) (at : Place) (word : List ℕ) : Type 0 where
-  pub start : ℕ
-  pub end : ℕ
-  pub line_is : (place_of text start).line ≡ at.line
-  pub column_is : (place_of text start).column ≡ at.column
-  pub word_is : word ≡ slice_range text start end
+-- It is said of what stands at the place.
+pub record IsOfWord (n : ℕ) (at : Place) (schema : List ℕ) (c : SchemaComplaint) : Type 0 where
+  pub found : Found
+  pub stands : StandsAt schema at found
+  pub said : IsSaidOf n found c
 
--- a token, or a character that begins none
-abbrev pub StandsAt : List ℕ → Place → List ℕ → Type 0
-StandsAt text at word = IsTokenAt text at word ⊎ IsCharacterAt text at word
+-- Nothing stands at the place.
+pub record IsOfNothing (n : ℕ) (at : Place) (schema : List ℕ) (c : SchemaComplaint) : Type 0 where
+  pub nothing : NothingIsAt schema at
+  pub said : IsSaidOfNothing n c
 
--- It is a complaint of the fault's number, and its token, if it has one, stands at the place.
+-- The text is too long to be read.
+pub record IsOfLongText (schema : List ℕ) (c : SchemaComplaint) : Type 0 where
+  pub long : MAX_BYTES < length schema
+  pub refused : c ≡ complaint.Refused
+
+-- The complaint is one of the fault's number, on what stands at the place.
 abbrev pub IsTrueOfSchema : ℕ → Place → List ℕ → SchemaComplaint → Type 0
-IsTrueOfSchema number at schema c = IsOfNumber number c × ((word : List ℕ) × IsOn word c
-    × (StandsAt schema at word ⊎ ((token : List ℕ) → IsOn token c)))
+IsTrueOfSchema n at schema c =
+    IsOfWord n at schema c ⊎ (IsOfNothing n at schema c ⊎ IsOfLongText schema c)

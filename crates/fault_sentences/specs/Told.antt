@@ -3,25 +3,19 @@ use Rattle.std.specs.Prelude.{◌≡◌, ℕ, ◌^◌, ◌-◌, ◌⊎◌, nat_l
 use Rattle.std.specs.List.{concat}
 use Rattle.text_place.specs.declared.place.Place.{Place}
 use Rattle.schema_syntax.specs.Tree.{Definition}
-use Rattle.bindings_syntax.specs.Reading.{bindings_text}
-use Rattle.bindings_syntax.specs.Seen.{text_seen}
 use Rattle.gq_schema.specs.Reading.{IsSchema}
-use Rattle.gq_schema.specs.Types.{tree_of}
 use Rattle.fault_sentences.specs.declared.schema.SchemaComplaint.{SchemaComplaint}
+use Rattle.fault_sentences.specs.declared.schema.SchemaComplaint.TheVariants as complaint
 use Rattle.fault_sentences.specs.declared.bindings.BindingsComplaint.{BindingsComplaint}
-use Rattle.fault_sentences.specs.declared.line.BadLine.{BadLine}
 use Rattle.fault_sentences.specs.declared.told.FaultAt.{FaultAt}
 use Rattle.fault_sentences.specs.Schemas.{IsTrueOfSchema, schema_words}
-use Rattle.fault_sentences.specs.Bindings.{IsTrueOfBindings, bindings_words}
-
--- the complaint is true of the line
-abbrev pub IsTrueOfLine : BadLine → BindingsComplaint → Type 0
-IsTrueOfLine bad c = IsTrueOfBindings (tree_of bad.schema.now) (text_seen bad.text.now) bad.number c
+use Rattle.fault_sentences.specs.Bindings.{bindings_words}
+use Rattle.fault_sentences.specs.Complaints.{IsTrueOfBindings}
 
 -- the sentence is that of a complaint which is true of the bindings over a schema
 abbrev pub SaysOfBindings : List Definition → List ℕ → ℕ → List ℕ → Type 0
 SaysOfBindings defs bindings line sentence = (c : BindingsComplaint)
-    × IsTrueOfBindings defs (bindings_text bindings) line c × (sentence ≡ concat (bindings_words c))
+    × IsTrueOfBindings defs bindings line c × (sentence ≡ concat (bindings_words c))
 
 -- a number of 32 bits, or the greatest
 abbrev pub small : ℕ → ℕ
@@ -35,11 +29,17 @@ abbrev pub SaysOfSchema : FaultAt → List ℕ → List ℕ → Type 0
 SaysOfSchema fault text sentence = (c : SchemaComplaint)
     × IsTrueOfSchema fault.number (place_in fault) text c × (sentence ≡ concat (schema_words c))
 
+-- The sentence is of bindings over the schema that a text is, or says that the text is none.
+pub record SaysOver (schema bindings : List ℕ) (line : ℕ) (sentence : List ℕ) : Type 0 where
+  pub over : (defs : List Definition) → IsSchema schema defs
+      → SaysOfBindings defs bindings line sentence
+  pub over_none : ((defs : List Definition) → IsSchema schema defs → ⊥)
+      → sentence ≡ concat (schema_words complaint.Refused)
+
 -- The sentence says what is wrong with the schema, or with the bindings over the schema that it is.
 abbrev pub SaysIn : Bool → FaultAt → List ℕ → List ℕ → List ℕ → Type 0
 SaysIn false fault schema bindings sentence = SaysOfSchema fault schema sentence
-SaysIn true fault schema bindings sentence = (defs : List Definition) → IsSchema schema defs
-    → SaysOfBindings defs bindings fault.line sentence
+SaysIn true fault schema bindings sentence = SaysOver schema bindings fault.line sentence
 
 abbrev pub Says : FaultAt → List ℕ → List ℕ → List ℕ → Type 0
 Says fault schema bindings sentence = SaysIn fault.in_bindings fault schema bindings sentence

@@ -32,7 +32,7 @@ pub enum BindingsComplaint<'t> {
     Unfit(&'t str, &'t str, &'t str),
     /// A type, and its field that needs a line and has none.
     Unbound(&'t str, &'t str),
-    /// The line says no more.
+    /// No line is bad, and none is missing.
     Refused,
 }
 
@@ -129,7 +129,7 @@ const OF_ROOT: &str = "\" is a field of the root, which has no columns";
 
 const NO_LINE: &str = "there is no line for the field \"";
 
-const UNKNOWN: &str = "a field that needs a line has none";
+const REFUSED: &str = "the bindings are refused";
 
 impl BindingsComplaint<'_> {
     /// What is wrong, in a sentence.
@@ -155,7 +155,7 @@ impl BindingsComplaint<'_> {
             It::RootColumn(ty, field) => on_field(alloc, "\"", ty, field, OF_ROOT),
             It::Unfit(form, ty, field) => unfit(alloc, form, ty, field),
             It::Unbound(ty, field) => on_field(alloc, NO_LINE, ty, field, "\""),
-            It::Refused => joined(alloc, &[UNKNOWN]),
+            It::Refused => joined(alloc, &[REFUSED]),
         }
     }
 }

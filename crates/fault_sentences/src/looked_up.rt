@@ -2,7 +2,7 @@
 ghost use Rattle.std.specs.Prelude.{◌≡◌, map};
 ghost use Rattle.std.specs.List.{list_any};
 ghost use Rattle.bindings_syntax.specs.Seen.{numbered_seen, statement_seen};
-ghost use Rattle.fault_sentences.specs.Bindings.{binds, binds_before, defines, defines_before, is_form};
+ghost use Rattle.fault_sentences.specs.Lines.{binds, binds_before, defines, defines_before, is_form};
 
 use bindings_syntax::{NumberedStatement, Statement};
 

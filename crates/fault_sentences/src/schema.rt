@@ -1,10 +1,11 @@
 //! Complaints on a schema.
-ghost use Rattle.std.specs.Prelude.{◌≡◌, ◌≤◌, ℕ, List, IfOk, length, string_bytes};
+ghost use Rattle.std.specs.Prelude.{◌≡◌, ◌≤◌, IfOk, length, string_bytes};
 ghost use Rattle.std.specs.List.{concat};
 ghost use Rattle.gq_lexer.specs.declared.lexer.TheConstants.{MAX_BYTES};
-ghost use Rattle.fault_sentences.specs.Schemas.{IsNotServed, IsOfNumber, IsOn, IsTrueOfSchema, lacks_member, schema_words};
+ghost use Rattle.fault_sentences.specs.Schemas.{IsSaidOf, IsSaidOfNothing, IsTrueOfSchema, lacks_member, schema_words};
+ghost use Rattle.fault_sentences.specs.Seen.{found_seen};
 
-use crate::token::{character_at, token_at, type_before};
+use crate::token::{character_at, last_defined, text_at, token_at};
 use crate::written::{joined, on_token};
 use gq_lexer::{MAX_BYTES, Place, lex_front};
 use std::alloc::{AllocError, Global};
@@ -27,7 +28,7 @@ pub enum SchemaComplaint<'t> {
     ListOfLists,
     WrongKind(&'t str),
     BadDefault(&'t str),
-    /// The place says no more.
+    /// The fault has no complaint on what stands at its place.
     Refused,
 }
 
@@ -89,45 +90,46 @@ fn lacks_member(alloc: Global, of_type: &str, interface: &str) -> Result<String,
     )
 }
 
-// What isn't served: a token, which another may follow.
-fn not_served<'t>(token: &'t str, next: &'t str) -> SchemaComplaint<'t>
-    ensures { IsNotServed token.now result }
+// What stands at a place: a token or a character, the token behind it, and the type with fields that is defined last before it.
+#[derive(Clone, Copy)]
+struct Found<'t> {
+    word: &'t str,
+    next: &'t str,
+    of_type: &'t str,
+}
+
+// The complaint on a word that isn't served.
+fn not_served<'t>(found: &Found<'t>) -> SchemaComplaint<'t>
+    ensures { IsSaidOf 7 (found_seen found.now) result }
 {
-    match token {
-        "@" => SchemaComplaint::DirectiveNotServed(next),
+    match found.word {
+        "@" => SchemaComplaint::DirectiveNotServed(found.next),
         "[" => SchemaComplaint::ListOfLists,
-        "scalar" | "input" | "extend" => SchemaComplaint::PairNotServed(token, next),
-        _ => SchemaComplaint::NotServed(token),
+        "scalar" | "input" | "extend" => SchemaComplaint::PairNotServed(found.word, found.next),
+        _ => SchemaComplaint::NotServed(found.word),
     }
 }
 
-// The complaint of the fault of this number at a token, which another may follow, in a type.
-fn complaint_on<'t>(
-    number: u32,
-    token: &'t str,
-    next: &'t str,
-    of_type: &'t str,
-) -> SchemaComplaint<'t>
-    ensures number { IsOfNumber number result }
-    ensures token { IsOn token.now result }
+// The complaint of the fault of this number where this stands.
+fn complaint_on<'t>(number: u32, found: &Found<'t>) -> SchemaComplaint<'t>
+    ensures { IsSaidOf number (found_seen found.now) result }
 {
     match number {
-        1 => SchemaComplaint::CantStand(token),
-        2 => SchemaComplaint::DefinedTwice(token),
-        3 => SchemaComplaint::UnknownType(token),
-        4 => SchemaComplaint::LacksMember(of_type, token),
-        6 => SchemaComplaint::ReservedName(token),
-        7 => not_served(token, next),
-        10 => SchemaComplaint::WrongKind(token),
-        11 => SchemaComplaint::BadDefault(token),
+        1 => SchemaComplaint::CantStand(found.word),
+        2 => SchemaComplaint::DefinedTwice(found.word),
+        3 => SchemaComplaint::UnknownType(found.word),
+        4 => SchemaComplaint::LacksMember(found.of_type, found.word),
+        6 => SchemaComplaint::ReservedName(found.word),
+        7 => not_served(found),
+        10 => SchemaComplaint::WrongKind(found.word),
+        11 => SchemaComplaint::BadDefault(found.word),
         _ => SchemaComplaint::Refused,
     }
 }
 
 // The complaint of the fault of this number where nothing stands.
 fn complaint_without(number: u32) -> SchemaComplaint<'static>
-    ensures number { IsOfNumber number result }
-    ensures on_all { (token : List ℕ) → IsOn token result }
+    ensures { IsSaidOfNothing number result }
 {
     match number {
         1 => SchemaComplaint::EndsEarly,
@@ -147,18 +149,21 @@ pub(crate) fn schema_complaint<'t>(
     ensures { IfOk result (IsTrueOfSchema number at schema.now) }
 {
     let lexed = lex_front(alloc, schema)?;
-    let Some((i, found)) = token_at(&lexed.tokens, at) else {
-        return Ok(match character_at(schema, at) {
-            Some(character) => complaint_on(number, character, "", ""),
-            None => complaint_without(number),
-        });
+    let tokens = lexed.tokens.as_slice();
+    let found = match token_at(tokens, at) {
+        Some((i, token)) => Found {
+            word: token.text(schema),
+            next: text_at(schema, tokens, i + 1),
+            of_type: last_defined(schema, &tokens[..i]),
+        },
+        None => match character_at(schema, at) {
+            Some(word) => Found {
+                word,
+                next: "",
+                of_type: "",
+            },
+            None => return Ok(complaint_without(number)),
+        },
     };
-    let token = found.text(schema);
-    let next = if i + 1 < lexed.tokens.len() {
-        lexed.tokens[i + 1].text(schema)
-    } else {
-        ""
-    };
-    let of_type = type_before(schema, &lexed.tokens, at);
-    Ok(complaint_on(number, token, next, of_type))
+    Ok(complaint_on(number, &found))
 }

@@ -1,8 +1,11 @@
 //! What a fault of a schema or of its bindings says.
 ghost use Rattle.std.specs.Prelude.{◌≡◌, IfOk, IfSome, string_bytes};
-ghost use Rattle.fault_sentences.specs.Told.{IsCopied, Says, SaysOfSchema, Tells, small};
+ghost use Rattle.gq_schema.specs.Types.{tree_of};
+ghost use Rattle.fault_sentences.specs.Told.{IsCopied, Says, SaysOfBindings, SaysOfSchema, Tells, small};
 
-use crate::line::bindings_sentence;
+use crate::cut::{line_at, words_of};
+use crate::line::BadLine;
+use crate::missing::missing_line;
 use crate::schema::{SchemaComplaint, schema_complaint};
 use gq_lexer::{MAX_BYTES, Place};
 use gq_schema::{Schema, SchemaFault};
@@ -41,6 +44,32 @@ fn schema_sentence(alloc: Global, fault: &FaultAt, schema: &str) -> Result<Strin
         column: small(fault.column),
     };
     schema_complaint(alloc, fault.number, at, schema)?.sentence(alloc)
+}
+
+// The sentence on bindings over a schema, where the line of this number is bad, or for 0 none is.
+fn bindings_sentence(
+    alloc: Global,
+    line: u64,
+    schema: &Schema,
+    bindings: &str,
+) -> Result<String, AllocError>
+    ensures { IfOk result (λ text. SaysOfBindings
+        (tree_of schema.now) bindings.now line (string_bytes text)) }
+{
+    let text = bindings_syntax::read(alloc, bindings)?;
+    if line == 0 {
+        return missing_line(schema, &text).sentence(alloc);
+    }
+    let bad = line_at(bindings, line);
+    let words = words_of(alloc, bad)?;
+    let bad_line = BadLine {
+        schema,
+        text: &text,
+        number: line,
+        line: bad,
+        words: &words,
+    };
+    bad_line.complaint().sentence(alloc)
 }
 
 /// What is wrong with a schema or its bindings, in a sentence. The fault is the first one of these texts.

@@ -101,9 +101,11 @@ fn fault_at(fault: &SchemaFault) -> FaultAt
 /// # Promise
 ///
 /// Nothing where it gives 0; else the buffer begins with the sentence, as far as there is room, of a complaint
-/// that is true of the texts (`Says`): it is one of the fault's number, its token, if it has one, stands at the fault's place, a type or a
-/// loader that it misses isn't there, one that it finds twice is there before the line. Which complaint comes is tested, by
-/// `clients/schema_faults.txt`: no clause keeps a body from one that says no more than that the texts are refused
+/// that is true of the texts (`Says`): it is one of the fault's number, on the token or the character at the fault's place; or on words of
+/// the fault's line, and no complaint that looks less far into that line is true; or, where no line is bad, on the version, or on the first
+/// field that lacks a line. It says no more than that the schema is refused only where the number has no complaint on what stands there,
+/// the text is too long to be read, or the fault is of bindings over a text that is no schema; and no more than that the bindings are only
+/// where no line is bad or missing. That it is the fault of these texts isn't asked: `clients/schema_faults.txt` tests both together
 #[unsafe(no_mangle)]
 pub extern "C" fn rz_fault_text(
     alloc: Global,

@@ -1,7 +1,7 @@
 use Rattle.std.proofs.Common.{◌≡◌, map, drop}
 use Rattle.std.specs.List.{list_any}
 use Rattle.bindings_syntax.specs.Seen.{numbered_seen}
-use Rattle.fault_sentences.specs.Bindings.{defines_before}
+use Rattle.fault_sentences.specs.Lines.{defines_before}
 use Rattle.fault_sentences.proofs.looked_up.has_loader.Given as goal
 
 abbrev pub invariant-loop-numbered : goal.invariant-loop-numbered

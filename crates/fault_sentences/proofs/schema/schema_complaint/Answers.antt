@@ -1,41 +1,39 @@
-use Rattle.std.proofs.Common.{◌≡◌, ℕ, List, [], sym, arith, inl, inr}
-use Rattle.text_place.specs.declared.place.Place.{Place}
-use Rattle.gq_lexer.specs.declared.token.Token.{Token}
-use Rattle.fault_sentences.specs.Schemas.{IsAt}
+use Rattle.std.proofs.Common.{◌∙◌, ap, inl, inr}
+use Rattle.fault_sentences.specs.declared.schema.Found as rust
+use Rattle.fault_sentences.specs.Seen.{found_seen}
 use Rattle.fault_sentences.proofs.schema.schema_complaint.Goals as goal
-use Rattle.fault_sentences.proofs.schema.schema_complaint.Goals.{in-Some-character_at, in-None}
-
-moved : {at : Place} {i j : ℕ} {t u : Token} {xs ys : List Token} → IsAt at j u ys → i ≡ j → t ≡ u → xs ≡ ys → IsAt at i t xs
-moved h e f d = rw (e, f, d) h
-
-pub returns-in_default : goal.returns-in_default
-returns-in_default c =
-    elim c.match-character_at.branch [
-      | in-Some-character_at w ↦
-          let on = w.complaint_on.ensures in
-          rw w.result-is (on.number, (w.in-Some-character_at.character.now, on.token, inl (inr w.in-Some-character_at.ensures)))
-      | in-None w ↦
-          let on = w.complaint_without.ensures in
-          rw w.result-is (on.number, ([], on.on_all [], inr on.on_all))
-    ]
+use Rattle.fault_sentences.proofs.schema.schema_complaint.Goals.{in-Some, in-None+in-Some-character_at}
 
 pub returns : goal.returns
 returns c =
-    let on = c.complaint_on-2.ensures in
-    let at_token = c.in-Some.ensures in
-    let lexed = c.in_ok-lexed.lexed in (
-      on.number,
-      (
-        c.text-token.result.now,
-        on.token,
-        inl (inl (record {
-          tokens = lexed.tokens.items;
-          fault = lexed.fault;
-          lexed = c.in_ok-lexed.ensures.lexed;
-          i = c.in-Some.i;
-          t = c.in-Some.found;
-          stands = moved c.in-Some.ensures (grind arith) (grind arith) (grind (arith, c.deref.ensures.value));
-          word_is = sym c.text-token.ensures;
-        })),
-      ),
-    )
+    let found = found_seen c.match-token_at.found in
+    elim c.match-token_at.branch [
+      | in-Some w ↦ inl (record {
+        found = found;
+        stands = inl (record {
+          tokens = c.as_slice-tokens.result.now;
+          fault = c.in_ok-lexed.lexed.fault;
+          lexed = rw c.as_slice-tokens.ensures.value c.in_ok-lexed.ensures.lexed;
+          i = w.in-Some.i;
+          t = w.in-Some.token;
+          stands = w.in-Some.ensures.found;
+          word_is = ap (λ (f : rust.Found). f.word.now) w.found-is ∙ w.text.ensures;
+          next_is = ap (λ (f : rust.Found). f.next.now) w.found-is ∙ w.text_at.ensures;
+          type_is = ap (λ (f : rust.Found). f.of_type.now) w.found-is ∙ w.last_defined.ensures;
+        });
+        said = c.complaint_on.ensures;
+      })
+      | in-None+in-Some-character_at w ↦ inl (record {
+        found = found;
+        stands = inr (record {
+          tokens = c.as_slice-tokens.result.now;
+          fault = c.in_ok-lexed.lexed.fault;
+          lexed = rw c.as_slice-tokens.ensures.value c.in_ok-lexed.ensures.lexed;
+          none = w.in-None.ensures.none;
+          character = rw w.found-is w.in-Some-character_at.ensures.found;
+          no_next = ap (λ (f : rust.Found). f.next.now) w.found-is;
+          no_type = ap (λ (f : rust.Found). f.of_type.now) w.found-is;
+        });
+        said = c.complaint_on.ensures;
+      })
+    ]
