@@ -86,6 +86,7 @@ impl Parser<'_> {
         while !self.eat(Punct::ParenRight) {
             variables.push(self.variable(room - 1)?)?;
         }
+        variables.shrink_to_fit();
         Ok(variables)
     }
 

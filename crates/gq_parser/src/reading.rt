@@ -48,6 +48,7 @@ fn document(mut parser: Parser) -> Result<Document, Fault>
             break 'definitions;
         }
     }
+    document.operations.shrink_to_fit();
     Ok(document)
 }
 

@@ -189,6 +189,7 @@ impl Parser<'_> {
         while !self.eat(Punct::BraceRight) {
             selections.push(self.selection(room)?)?;
         }
+        selections.shrink_to_fit();
         Ok(SelectionSet { place, selections })
     }
 }

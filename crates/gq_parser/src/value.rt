@@ -150,6 +150,7 @@ impl Parser<'_> {
         while !self.eat(Punct::ParenRight) {
             arguments.push(self.argument(constness, room - 1)?)?;
         }
+        arguments.shrink_to_fit();
         Ok(arguments)
     }
 

@@ -10,4 +10,4 @@ definitions-preserved c =
 pub returns-clause-found : goal.returns-clause-found
 returns-clause-found c =
     let read = c.in_ok-definition.ensures.reads in
-    whole c.in_ok-definition.definition c.definitions.document _ _ _ _ c.in_ok-add.ensures read.0 (read.1 []) c.in_ok-definition.ensures.shrinks (c.if-is_at_end.ensures.0 refl) c.definitions.invariant
+    rw c.shrink_to_fit.ensures.items (whole c.in_ok-definition.definition c.definitions.document _ _ _ _ c.in_ok-add.ensures read.0 (read.1 []) c.in_ok-definition.ensures.shrinks (c.if-is_at_end.ensures.0 refl) c.definitions.invariant)

@@ -128,7 +128,7 @@ selections-loop-selections-preserved t c =
 pub selections-returns-clause-reads : goal.selections-returns-clause-reads
 selections-returns-clause-reads t c =
     let eaten = c.loop-selections-test.ensures in
-    (rw of_set (c.loop-selections.invariant.joins no_selection _ (rw eaten.1 no_more_selections)), λ stack. c.loop-selections.invariant.reads stack ∙ rw eaten.1 refl)
+    (rw (of_set, c.shrink_to_fit.ensures.items) (c.loop-selections.invariant.joins no_selection _ (rw eaten.1 no_more_selections)), λ stack. c.loop-selections.invariant.reads stack ∙ rw eaten.1 refl)
 
 pub set-returns-clause-reads : goal.set-returns-clause-reads
 set-returns-clause-reads t c =

@@ -37,4 +37,4 @@ loop-constness-preserved c =
     (λ others. rw c.in_ok-push-2.ensures.items (map_push argument_of _ _ others))
 
 pub returns-clause-reads : goal.returns-clause-reads
-returns-clause-reads c = arguments_end _ _ _ _ _ _ _ (omega arith) c.loop-constness.invariant c.loop-constness-test.ensures
+returns-clause-reads c = rw c.shrink_to_fit.ensures.items (arguments_end _ _ _ _ _ _ _ (omega arith) c.loop-constness.invariant c.loop-constness-test.ensures)

@@ -36,4 +36,4 @@ loop-variables-preserved c =
     (λ others. rw c.in_ok-push-2.ensures.items (map_push variable_of _ _ others))
 
 pub returns-clause-reads : goal.returns-clause-reads
-returns-clause-reads c = variables_end _ _ _ _ _ _ (omega arith) c.loop-variables.invariant c.loop-variables-test.ensures
+returns-clause-reads c = rw c.shrink_to_fit.ensures.items (variables_end _ _ _ _ _ _ (omega arith) c.loop-variables.invariant c.loop-variables-test.ensures)
