@@ -20,11 +20,14 @@ use Rattle.rounds_by_hand.specs.declared.handed_in.HandedIn.{HandedIn}
 use Rattle.host_clients.specs.Asked.{HostAsked, PlansHost, AnswersHost}
 use Rattle.host_clients.specs.Lines.{width_of}
 use Rattle.host_clients.specs.Loads.{KeysOf, LoadedOf, asked_by, load_orders}
-use Rattle.host_clients.specs.UnderWay.{UnderWayOf, AnsweredOf, report_in, orders_out}
+use Rattle.host_clients.specs.UnderWay.{UnderWayOf, AnsweredOf, IsAnswerOf, report_in, orders_out}
 use Rattle.host_clients.specs.declared.fault.Fault.{Fault}
 use Rattle.host_clients.specs.declared.fault.Fault.TheVariants as fault
 use Rattle.host_clients.specs.declared.client.HostClient.{HostClient}
 use Rattle.host_clients.specs.declared.client.HostClient.TheVariants.{Idle, Asked, Answered, Loading, Loaded, Moved}
+use Rattle.load_rounds.specs.declared.answer.Answer.{Answer}
+use Rattle.host_clients.specs.declared.under_way.Step.{Step}
+use Rattle.host_clients.specs.declared.under_way.Step.TheVariants as step
 use Rattle.host_clients.specs.declared.client.ClientProgress.{ClientProgress}
 use Rattle.host_clients.specs.declared.client.ClientProgress.TheVariants.{Done, Round, Waiting}
 
@@ -144,6 +147,43 @@ pub record StopsIt (u : UnderWayOf) (c : ClientOf HandedIn) : Type 0 where
 abbrev pub IsStopFault : UnderWayOf → Fault → Type 0
 IsStopFault u e = (e ≡ fault.NoMemory) ⊎ ((e ≡ fault.Stopped) × IsOver u.hand.far)
 
+-- It is stopped, and to be given up: nothing but its rounds was made in the client's session.
+pub record IsStopped (u v : UnderWayOf) : Type 0 where
+  pub server_is : v.server ≡ u.server
+  pub asked_is : v.asked ≡ u.asked
+  pub planned_is : v.hand.planned ≡ u.hand.planned
+  pub same : IsSameClient u.hand.client v.hand.client
+  pub goes_on : GoesOn any_tell u.hand v.hand
+
+-- the client with an answer that a step gave
+abbrev pub answered_by : UnderWayOf → Answer → AnsweredOf
+answered_by v answer = record {
+  client = v.hand.client;
+  server = v.server;
+  asked = v.asked;
+  text = string_bytes answer.text;
+  rounds = answer.rounds;
+}
+
+-- says what a step makes of it
+abbrev pub StepsTo : UnderWayOf → UnderWayOf → Result Step Fault → Type 0
+StepsTo u v (Ok (step.Answered answer)) = AnswersIt u (answered_by v answer)
+    × IsAnswerOf v.server v.asked (string_bytes answer.text) answer.rounds
+StepsTo u v (Ok step.Round) = MakesRound u v
+StepsTo u v (Ok step.Waiting) = IsWaiting u.hand.far × (v ≡ u)
+StepsTo u v (Err e) = IsStopped u v × IsStopFault u e
+
+-- the answer is one of what is being answered
+abbrev pub CanEndWith : HostClient → Answer → Type 0
+CanEndWith (Asked u) answer = IsAnswerOf u.server u.asked (string_bytes answer.text) answer.rounds
+CanEndWith client answer = Unit {0}
+
+-- what is being answered ends with this answer
+abbrev pub EndsWith : Answer → HostClient → HostClient → Type 0
+EndsWith answer (Asked u) (Answered a) = a ≡ answered_by u answer
+EndsWith answer (Asked u) new = ⊥
+EndsWith answer old new = Unit {0}
+
 -- says what comes of going on
 abbrev pub GoesOnWith : UnderWayOf → HostClient → Result ClientProgress Fault → Type 0
 GoesOnWith u (Answered a) (Ok Done) = AnswersIt u a
@@ -189,6 +229,11 @@ LoadsOnWith l (Loading m) (Ok Round) = MakesLoadRound l m
 LoadsOnWith l (Loading m) (Ok Waiting) = IsLoadWaiting l.far × (m ≡ l)
 LoadsOnWith l (Idle c) (Err e) = StopsLoad l c × IsLoadStopFault l e
 LoadsOnWith l new result = ⊥
+
+-- the keys that a client loads go on
+abbrev pub LoadsOn : HostClient → HostClient → Result ClientProgress Fault → Type 0
+LoadsOn (Loading l) new result = LoadsOnWith l new result
+LoadsOn old new result = Unit {0}
 
 -- ---- replies
 

@@ -3,7 +3,7 @@ ghost use Rattle.std.specs.Prelude.{◌≡◌, ◌≢◌, ◌<◌, ◌↔◌, tr
 ghost use Rattle.std.specs.Prelude.{option_map, slice_get, IsUtf8};
 ghost use Rattle.flat_orders.specs.Orders.{keys_of};
 ghost use Rattle.host_clients.specs.AskedKeys.{flat_keys};
-ghost use Rattle.host_clients.specs.Clients.{Advances, Cancels, HasCount, HasLoader, IsBegun, IsBegunLoad, LacksLoader, TakesAnswerTo, TakesFailure, TakesReply};
+ghost use Rattle.host_clients.specs.Clients.{Advances, CanEndWith, Cancels, EndsWith, HasCount, HasLoader, IsBegun, IsBegunLoad, LacksLoader, LoadsOn, TakesAnswerTo, TakesFailure, TakesReply};
 ghost use Rattle.host_clients.specs.Clients.{KeepsOrStops, StopsAt, client_in, is_busy, orders_in, pending_of, width_in};
 ghost use Rattle.host_clients.specs.Known.{items_in};
 ghost use Rattle.host_clients.specs.Laid.{AreKeys, laid_keys, laid_reply};
@@ -17,12 +17,12 @@ use crate::fault::Fault;
 use crate::loaded::LoadedClient;
 use crate::loaders::key_width;
 use crate::loading::LoadUnderWay;
-use crate::under_way::UnderWay;
+use crate::under_way::{Step, UnderWay};
 use flat_rows::FlatReply;
 use load_memory::Item;
 use load_queue::FetchFault;
 use rounds_by_hand::HandedIn;
-use server::{ClientSession, Queries};
+use server::{Answer, ClientSession, Queries};
 use std::alloc::Global;
 use std::{mem, str};
 
@@ -204,30 +204,52 @@ impl HostClient {
     pub fn advance(&mut self, alloc: Global) -> Result<ClientProgress, Fault>
         ensures { Advances self.old self.new result }
     {
+        match self {
+            HostClient::Idle(_) | HostClient::Moved => Err(Fault::Idle),
+            HostClient::Answered(_) | HostClient::Loaded(_) => Ok(ClientProgress::Done),
+            HostClient::Loading(_) => self.load_on(alloc),
+            HostClient::Asked(under_way) => match under_way.step(alloc) {
+                Ok(Step::Round) => Ok(ClientProgress::Round),
+                Ok(Step::Waiting) => Ok(ClientProgress::Waiting),
+                Ok(Step::Answered(answer)) => {
+                    self.end_with(answer);
+                    Ok(ClientProgress::Done)
+                }
+                Err(fault) => {
+                    let _ = self.cancel();
+                    Err(fault)
+                }
+            },
+        }
+    }
+
+    // Ends what is being answered with the answer that a step gave.
+    fn end_with(&mut self, answer: Answer)
+        requires { CanEndWith self.old answer }
+        ensures { EndsWith answer self.old self.new }
+    {
         match mem::replace(self, HostClient::Moved) {
-            HostClient::Idle(client) => {
-                self.put(HostClient::Idle(client));
-                Err(Fault::Idle)
-            }
             HostClient::Asked(under_way) => {
-                let (gone, result) = under_way.advance(alloc);
-                self.put(gone);
-                result
+                self.put(HostClient::Answered(under_way.into_answered(answer)));
             }
-            HostClient::Answered(answered) => {
-                self.put(HostClient::Answered(answered));
-                Ok(ClientProgress::Done)
-            }
+            other => self.put(other),
+        }
+    }
+
+    // Goes on with the keys that are loaded.
+    fn load_on(&mut self, alloc: Global) -> Result<ClientProgress, Fault>
+        ensures { LoadsOn self.old self.new result }
+    {
+        match mem::replace(self, HostClient::Moved) {
             HostClient::Loading(loading) => {
                 let (gone, result) = loading.advance(alloc);
                 self.put(gone);
                 result
             }
-            HostClient::Loaded(loaded) => {
-                self.put(HostClient::Loaded(loaded));
-                Ok(ClientProgress::Done)
+            other => {
+                self.put(other);
+                Err(Fault::Idle)
             }
-            HostClient::Moved => Err(Fault::Idle),
         }
     }
 

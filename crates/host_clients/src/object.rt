@@ -26,10 +26,10 @@ fn share_server(server: &Server) -> Result<Object, Fault>
 }
 
 // What requests ask of a server: nothing yet.
-fn queries_of(alloc: Global, server: &Server) -> Result<Object, Fault>
+fn queries_of(server: &Server) -> Result<Object, Fault>
     ensures { MakesQueries (Object.Server server.now) result }
 {
-    Ok(Object::Queries(Queries::new(alloc, server.clone()?)))
+    Ok(Object::Queries(Queries::new(server.clone()?)))
 }
 
 // A client of a server, which knows nothing.
@@ -60,11 +60,11 @@ impl Object {
     /// # Errors
     ///
     /// [`BadHandle`](Fault::BadHandle) where it is no server; [`NoMemory`](Fault::NoMemory).
-    pub fn queries(&self, alloc: Global) -> Result<Object, Fault>
+    pub fn queries(&self) -> Result<Object, Fault>
         ensures { MakesQueries self.now result }
     {
         match self {
-            Object::Server(server) => queries_of(alloc, server),
+            Object::Server(server) => queries_of(server),
             Object::Client(_) | Object::Queries(_) => Err(Fault::BadHandle),
         }
     }

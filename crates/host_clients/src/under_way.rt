@@ -1,16 +1,18 @@
 //! Requests on their way to the answer.
-ghost use Rattle.std.specs.Prelude.{◌≡◌, ◌≤◌, ◌++◌, ◌∷◌, [], Some, IfOk, IfErr, IfSome, IfNone, OnOk, IsErrOf, length, map, slice_get};
+ghost use Rattle.std.specs.Prelude.{◌≡◌, ◌≤◌, ◌++◌, ◌∷◌, [], Some, IfOk, IfErr, IfSome, IfNone, OnOk, IsErrOf, length, map, slice_get, string_bytes};
 ghost use Rattle.rounds_by_hand.specs.Hands.{IsOver, pending_in};
 ghost use Rattle.rounds_by_hand.specs.Pending.{order_in};
-ghost use Rattle.host_clients.specs.Clients.{Begins, GoesOnWith, Stops, StopsIt, Takes};
+ghost use Rattle.load_rounds.specs.Histories.{any_tell};
+ghost use Rattle.server.specs.Hands.{GoesOn};
+ghost use Rattle.host_clients.specs.Clients.{Begins, StepsTo, Stops, StopsIt, Takes, answered_by};
 ghost use Rattle.host_clients.specs.Faults.{take_fault};
 ghost use Rattle.host_clients.specs.Refused.{OrderFault};
 ghost use Rattle.host_clients.specs.Texts.{asked_in};
-ghost use Rattle.host_clients.specs.UnderWay.{orders_out};
+ghost use Rattle.host_clients.specs.UnderWay.{IsAnswerOf, orders_out};
 
 use crate::answered::AnsweredClient;
 use crate::asked::FlatAsked;
-use crate::client::{ClientProgress, HostClient};
+use crate::client::HostClient;
 use crate::fault::Fault;
 use crate::note::AskedNote;
 use flat_orders::FlatOrders;
@@ -21,6 +23,17 @@ use server::{Answer, ByHand, ClientAdvance, ClientSession, Queries, Server};
 use std::alloc::{AllocError, Global};
 use std::marker::Model;
 use std::snapshot::Snapshot;
+
+/// What a step of a request comes to.
+#[derive(Drop)]
+pub(crate) enum Step {
+    /// There is an answer.
+    Answered(Answer),
+    /// A new round is out.
+    Round,
+    /// Nothing: an order of the round that is out has no reply.
+    Waiting,
+}
 
 /// Holds what a client was asked, on its way to the answer, with the orders of the round that is out.
 ///
@@ -90,6 +103,18 @@ pub(crate) fn orders_of(alloc: Global, pending: &[Pending]) -> Result<FlatOrders
     Ok(orders)
 }
 
+// Gives up the round that is out, if one is, and lets its orders go.
+fn give_up(alloc: Global, hand: &mut ByHand<HandedIn>, orders: &mut FlatOrders)
+    ensures out { orders.new ≡ orders_out hand.new }
+    ensures underway { GoesOn any_tell hand.old hand.new }
+    ensures client { hand.new.client ≡ hand.old.client }
+    ensures planned { hand.new.planned
+        ≡ hand.old.planned }
+{
+    hand.give_up();
+    *orders = FlatOrders::new(alloc);
+}
+
 impl UnderWay {
     /// Plans what the client is asked of the server of `queries`, or refuses it. Nothing is done of it yet.
     pub(crate) fn begin(
@@ -120,57 +145,57 @@ impl UnderWay {
         (HostClient::Asked(under_way), Ok(()))
     }
 
-    /// Returns what comes of it: an answer, or a new round is out, or nothing while an order of the round has no
-    /// reply.
+    /// Goes on: stores the round that is out, if each of its orders has a reply, and answers or makes the next round.
     ///
     /// # Errors
     ///
-    /// [`NoMemory`](Fault::NoMemory), and [`Stopped`](Fault::Stopped) where memory ran out before: it is given up.
-    pub(crate) fn advance(self, alloc: Global) -> (HostClient, Result<ClientProgress, Fault>)
-        ensures { GoesOnWith self result.0 result.1 }
+    /// [`NoMemory`](Fault::NoMemory), and [`Stopped`](Fault::Stopped) where memory ran out before: it is to be given up.
+    pub(crate) fn step(&mut self, alloc: Global) -> Result<Step, Fault>
+        ensures { StepsTo self.old self.new result }
+    {
+        match self.hand.advance() {
+            Ok(ClientAdvance::Answered(answer)) => {
+                give_up(alloc, &mut self.hand, &mut self.orders);
+                Ok(Step::Answered(answer))
+            }
+            Ok(ClientAdvance::Round) => match orders_of(alloc, self.hand.orders()) {
+                Ok(orders) => {
+                    self.orders = orders;
+                    Ok(Step::Round)
+                }
+                Err(_) => {
+                    give_up(alloc, &mut self.hand, &mut self.orders);
+                    Err(Fault::NoMemory)
+                }
+            },
+            Ok(ClientAdvance::Waiting) => Ok(Step::Waiting),
+            Ok(ClientAdvance::Over) => Err(Fault::Stopped),
+            Err(_) => {
+                give_up(alloc, &mut self.hand, &mut self.orders);
+                Err(Fault::NoMemory)
+            }
+        }
+    }
+
+    /// The client with the answer that a step gave.
+    pub(crate) fn into_answered(self, answer: Answer) -> AnsweredClient
+        requires { IsAnswerOf self.server self.asked
+            (string_bytes answer.text) answer.rounds }
+        ensures { result ≡ answered_by self answer }
     {
         let UnderWay {
             hand,
-            orders,
+            orders: _orders,
             note,
             queries,
         } = self;
-        let mut hand = hand;
-        match hand.advance() {
-            Ok(ClientAdvance::Answered(answer)) => {
-                let Answer { text, rounds } = answer;
-                let answered = AnsweredClient {
-                    client: hand.into_client(),
-                    text,
-                    rounds,
-                    note,
-                    queries,
-                };
-                (HostClient::Answered(answered), Ok(ClientProgress::Done))
-            }
-            Ok(ClientAdvance::Round) => match orders_of(alloc, hand.orders()) {
-                Ok(orders) => {
-                    let under_way = UnderWay {
-                        hand,
-                        orders,
-                        note,
-                        queries,
-                    };
-                    (HostClient::Asked(under_way), Ok(ClientProgress::Round))
-                }
-                Err(_) => (HostClient::Idle(hand.into_client()), Err(Fault::NoMemory)),
-            },
-            Ok(ClientAdvance::Waiting) => {
-                let under_way = UnderWay {
-                    hand,
-                    orders,
-                    note,
-                    queries,
-                };
-                (HostClient::Asked(under_way), Ok(ClientProgress::Waiting))
-            }
-            Ok(ClientAdvance::Over) => (HostClient::Idle(hand.into_client()), Err(Fault::Stopped)),
-            Err(_) => (HostClient::Idle(hand.into_client()), Err(Fault::NoMemory)),
+        let Answer { text, rounds } = answer;
+        AnsweredClient {
+            client: hand.into_client(),
+            text,
+            rounds,
+            note,
+            queries,
         }
     }
 

@@ -76,6 +76,12 @@ module _ {P E : Type 0} where
   abbrev pub IsOver : FarOf P E → Type 0
   IsOver far = far ≡ over
 
+  -- how far they are once a round that is out is given up
+  abbrev pub given_up : FarOf P E → FarOf P E
+  given_up handed = handed
+  given_up (out run pending) = over
+  given_up over = over
+
   -- a step gave the answers and is over, or a new round is out
   abbrev pub IsStep : FarOf P E → Advance → Type 0
   IsStep far (Finished answers) = IsOver far

@@ -1,5 +1,5 @@
 //! Answers to several plans, in rounds by hand, with the session in which they are answered.
-ghost use Rattle.std.specs.Prelude.{◌≡◌, slice_get, IfOk, IfSome, OnOk, OnErr};
+ghost use Rattle.std.specs.Prelude.{◌≡◌, [], slice_get, IfOk, IfSome, OnOk, OnErr};
 
 use crate::fault::TakeFault;
 use crate::pending::{Pending, are_in, take_answer};
@@ -99,7 +99,7 @@ impl<S, P, E> Hand<S, P, E> {
 }
 
 impl<S: LocalSource, P: Execute<E> + Drop, E: Drop> Hand<S, P, E> {
-    ghost use Rattle.rounds_by_hand.specs.Hands.{Advances, AsksAndAdvances, AsksAndStores, AnswersFrom, GoesOn, GoesOnIfMay, GivesUp, Holds, IsOver, KeepsHand, KeepsSession, OnStep, StoresReplies, pending_in};
+    ghost use Rattle.rounds_by_hand.specs.Hands.{Advances, AsksAndAdvances, AsksAndStores, AnswersFrom, GoesOn, GoesOnIfMay, GivesUp, Holds, IsOver, KeepsHand, KeepsSession, OnStep, StoresReplies, given_up, pending_in};
     ghost use Rattle.rounds_by_hand.specs.Pending.{RefusesAnswer, TakesAnswer};
 
     /// Stores the round that is out, if each of its orders is answered, and goes on over what is known: returns the answers, or makes the
@@ -197,6 +197,23 @@ impl<S: LocalSource, P: Execute<E> + Drop, E: Drop> Hand<S, P, E> {
             Err(TakeFault::NoSuchOrder) => Err(TakeFault::NoSuchOrder),
             Err(TakeFault::Answered) => Err(TakeFault::Answered),
         }
+    }
+
+    /// Gives up the round that is out, if one is: it is lost, and its batches stay in the logs as not stored. It is over then.
+    pub fn give_up(&mut self)
+        requires { Holds P.program P.text_of P.loaders P.fits
+            self.old.session self.old.plans self.old.far }
+        ensures kept { KeepsSession P.program P.text_of P.loaders
+            P.fits self.old self.new }
+        ensures out { pending_in self.new.far ≡ [] }
+        ensures over { self.new.far ≡ given_up self.old.far }
+        ensures underway { GoesOn P.program
+            P.text_of S.may_tell self.old self.new }
+    {
+        let Far::Out(_, _) = &mut self.far else {
+            return;
+        };
+        self.far = Far::Over;
     }
 
     /// Gives the session back, whatever is done: the finished rounds stay, and a round that is out is lost. Its batches stay in the logs

@@ -17,7 +17,7 @@ fn queries_object(alloc: Global, server: &mut Handle) -> Result<Object, Fault>
     let Some(object) = server.take(alloc) else {
         return Err(Fault::BadHandle);
     };
-    let made = object.queries(alloc);
+    let made = object.queries();
     server.put(alloc, object);
     made
 }

@@ -18,7 +18,7 @@ use Rattle.gq_check.specs.contracts.checked.CheckedDocument as checked
 use Rattle.gq_resolve.specs.contracts.limited_plan.LimitedPlan as limited
 use Rattle.gq_resolve.specs.contracts.root_state.RootState as state
 use Rattle.gq_resolve.proofs.Crossing.{limited_send, prepared_send, prepared_sync, state_send}
-use Rattle.gq_resolve.proofs.PlanCrossing.{fragment_send, fragment_sync, operation_send, operation_sync, plan_send, schema_send, schema_sync}
+use Rattle.gq_resolve.proofs.PlanCrossing.{fragment_send, fragment_sync, operation_send, operation_sync, schema_send, schema_sync}
 use Rattle.load_rounds.proofs.session.Session.TheSendSync as session
 use Rattle.rounds_by_hand.proofs.hand.Hand.TheSendSync as hand
 use Rattle.request_line.specs.contracts.reader.LineReader as reader
@@ -30,6 +30,7 @@ use Rattle.server.specs.contracts.client.ClientSession.TheInside as inside
 use Rattle.server.specs.contracts.planned.PlannedRequest as planned
 use Rattle.server.specs.contracts.planned.PlannedRequest.TheInside as planned_inside
 use Rattle.server.specs.contracts.planned.ResponseForm as form
+use Rattle.server.specs.contracts.queries.KeptQueries as kept_queries
 use Rattle.server.specs.contracts.queries.Queries as queries
 use Rattle.server.specs.contracts.queries.Queries.TheInside as queries_inside
 
@@ -60,8 +61,11 @@ request_cache_send = let i = request_cache_inside_send in record { owned = λ d 
 pub reader_send : IsSend reader.the_row
 reader_send = search (over.crosses, maps.crosses, sendable, json.send-Value) depth 40 fits 10000
 
+kept_queries_send : IsSend kept_queries.the_row
+kept_queries_send = declared_send kept_queries.the_type (reader_send, (request_cache_send, tt))
+
 queries_inside_send : IsSend queries_inside.the_row
-queries_inside_send = declared_send queries_inside.the_type (reader_send, (request_cache_send, tt))
+queries_inside_send = declared_send queries_inside.the_type (server_send, (search (over.crosses, sendable, kept_queries_send) depth 20, tt))
 
 pub queries_send : IsSend queries.the_row
 queries_send = let i = queries_inside_send in record { owned = λ d vs x. (i.owned x.0 vs, tt); leaving = λ k d w. tt }

@@ -1,7 +1,7 @@
 //! A client that is answered by hand: the caller asks its sources itself.
 
-ghost use Rattle.std.specs.Prelude.{◌≡◌, ◌≤◌, length, slice_get, IfOk, IfSome, OnOk, OnErr};
-ghost use Rattle.rounds_by_hand.specs.Hands.{handed, IsOver, pending_in};
+ghost use Rattle.std.specs.Prelude.{◌≡◌, ◌≤◌, [], length, slice_get, IfOk, IfSome, OnOk, OnErr};
+ghost use Rattle.rounds_by_hand.specs.Hands.{handed, given_up, IsOver, pending_in};
 ghost use Rattle.rounds_by_hand.specs.Pending.{RefusesAnswer, TakesAnswer};
 ghost use Rattle.server.specs.Clients.{IsSameClient};
 ghost use Rattle.server.specs.Hands.{IsFinished, MakesStep};
@@ -289,6 +289,19 @@ impl<S: LocalSource> ByHand<S> {
             ≡ self.old.planned }
     {
         self.hand.answer(number, answer)
+    }
+
+    /// Gives up the round that is out, if one is: it is lost, and its batches stay in the logs as not stored. It is over then.
+    pub fn give_up(&mut self)
+        ensures out { pending_in self.new.far ≡ [] }
+        ensures over { self.new.far ≡ given_up self.old.far }
+        ensures underway { GoesOn S.may_tell
+            self.old self.new }
+        ensures client { self.new.client ≡ self.old.client }
+        ensures planned { self.new.planned
+            ≡ self.old.planned }
+    {
+        self.hand.give_up();
     }
 
     /// Gives the client back, whatever is done. The finished rounds stay in its session; a round that is out is lost, and its batches stay

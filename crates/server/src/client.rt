@@ -17,7 +17,7 @@ use crate::answering::{LimitedRequest, answer_request};
 use crate::arrays::answer_requests;
 use crate::batch_runner::{BatchRunner, Workers};
 use crate::planned::PlannedRequest;
-use crate::queries::Queries;
+use crate::queries::{KeptQueries, Queries};
 use gq_resolve::LimitedPlan;
 use load_queue::{LocalSource, Source};
 use load_rounds::{Answer, Session};
@@ -67,7 +67,7 @@ impl<S> ClientSession<S> {
     {
         ClientSession {
             alloc,
-            queries: Queries::new(alloc, server),
+            queries: Queries::new(server),
             session,
             max_answer: None,
         }
@@ -206,6 +206,70 @@ pub(crate) enum RequestInput<'i> {
     Text(&'i [u8]),
 }
 
+impl KeptQueries {
+    // The response to what is asked of a session of a client, within the limit, by whoever runs the batches.
+    fn respond_by<
+        S: LocalSource,
+        F: Fn(&mut Session<S>, &LimitedPlan) -> Result<Answer, AllocError>,
+        G: Fn(&mut Session<S>, Vec<LimitedPlan>) -> Result<Vec<Answer>, AllocError>,
+    >(
+        &mut self,
+        alloc: Global,
+        runner: &BatchRunner<F, G>,
+        session: &mut Session<S>,
+        asked: RequestInput<'_>,
+        most: Option<usize>,
+    ) -> Result<Answer, AllocError>
+        requires one { RunsEach S.may_tell
+            (F.pre runner.now.one) (F.post runner.now.one) }
+        requires all { RunsAll S.may_tell
+            (G.pre runner.now.all) (G.post runner.now.all) }
+        requires loaders { HasLoaders
+            self.old.requests.server session.old }
+        ensures answered { IfOk result (λ answer. Answers S.may_tell
+            (client_of self.old.requests.server most session.old) asked.entry (report_of answer) session.new) }
+        ensures stopped { OnErr result (Stops S.may_tell
+            (client_of self.old.requests.server most session.old) asked.entry session.new) }
+        ensures server { self.new.requests.server
+            ≡ self.old.requests.server }
+        ensures loaders { length session.new.loaders
+            ≡ length session.old.loaders }
+    {
+        let KeptQueries { lines, requests } = self;
+        match asked {
+            RequestInput::One(request) => {
+                let limited = LimitedRequest {
+                    alloc,
+                    request,
+                    most,
+                };
+                answer_request(&runner.one, requests, session, limited)
+            }
+            RequestInput::Several(values) => {
+                answer_requests(alloc, &runner.all, requests, session, values, most)
+            }
+            RequestInput::Text(text) => match lines.read(alloc, text) {
+                Ok(Line::One(request)) => {
+                    let limited = LimitedRequest {
+                        alloc,
+                        request: &request,
+                        most,
+                    };
+                    answer_request(&runner.one, requests, session, limited)
+                }
+                Ok(Line::Several(values)) => {
+                    answer_requests(alloc, &runner.all, requests, session, &values, most)
+                }
+                Ok(Line::NoRequest) => Ok(Answer {
+                    text: not_a_request(alloc)?,
+                    rounds: 0,
+                }),
+                Err(_) => Err(AllocError),
+            },
+        }
+    }
+}
+
 impl<S: LocalSource> ClientSession<S> {
     // The response to what is asked, by whoever runs the batches.
     fn respond_by<
@@ -227,39 +291,10 @@ impl<S: LocalSource> ClientSession<S> {
             session,
             max_answer,
         } = self;
-        let Queries { lines, kept } = queries;
-        let (alloc, most) = (*alloc, *max_answer);
-        match asked {
-            RequestInput::One(request) => {
-                let limited = LimitedRequest {
-                    alloc,
-                    request,
-                    most,
-                };
-                answer_request(&runner.one, kept, session, limited)
-            }
-            RequestInput::Several(values) => {
-                answer_requests(alloc, &runner.all, kept, session, values, most)
-            }
-            RequestInput::Text(text) => match lines.read(alloc, text) {
-                Ok(Line::One(request)) => {
-                    let limited = LimitedRequest {
-                        alloc,
-                        request: &request,
-                        most,
-                    };
-                    answer_request(&runner.one, kept, session, limited)
-                }
-                Ok(Line::Several(values)) => {
-                    answer_requests(alloc, &runner.all, kept, session, &values, most)
-                }
-                Ok(Line::NoRequest) => Ok(Answer {
-                    text: not_a_request(alloc)?,
-                    rounds: 0,
-                }),
-                Err(_) => Err(AllocError),
-            },
-        }
+        let mut kept = queries.take(*alloc)?;
+        let answered = kept.respond_by(*alloc, runner, session, asked, *max_answer);
+        queries.put(kept);
+        answered
     }
 
     // The response to what is asked, by this thread.

@@ -1,4 +1,4 @@
-use Rattle.std.proofs.Common.{◌≤◌, All, subst}
+use Rattle.std.proofs.Common.{◌≤◌}
 use Rattle.std.proofs.lemmas.List.Elements.{All-push}
 use Rattle.gq_resolve.specs.PreparedPlans.{LimitedPlanOf}
 use Rattle.server.specs.Plans.{limited_loaders}

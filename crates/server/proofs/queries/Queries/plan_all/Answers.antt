@@ -4,7 +4,10 @@ use Rattle.server.proofs.Asking.{asks-several}
 use Rattle.server.proofs.queries.Queries.plan_all.Goals as goal
 
 pub returns-clause-planned : goal.returns-clause-planned
-returns-clause-planned c = rw (← c.self.view_is) (IfOk-weaker c.plan_several.result _ _ (λ what h. asks-several c.self.inside.kept.server c.args.most what (requests_of c.args.requests.now) h) c.plan_several.ensures.planned)
+returns-clause-planned c =
+    IfOk-weaker c.plan_several-planned.result _ _ (λ what h. asks-several c.args.self.now c.args.most what (requests_of c.args.requests.now) h)
+    (rw (c.deref_mut.ensures.value, c.in_ok-kept.ensures.taken) at c.plan_several-planned.ensures.planned)
 
 pub returns-clause-loaders : goal.returns-clause-loaders
-returns-clause-loaders c = rw (← c.self.view_is) (IfOk-weaker c.plan_several.result _ _ (λ what h. h.loaders) c.plan_several.ensures.planned)
+returns-clause-loaders c =
+    IfOk-weaker c.plan_several-planned.result _ _ (λ what h. h.loaders) (rw (c.deref_mut.ensures.value, c.in_ok-kept.ensures.taken) at c.plan_several-planned.ensures.planned)
