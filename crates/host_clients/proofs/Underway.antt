@@ -21,10 +21,13 @@ use Rattle.server.specs.Clients.{ClientOf, IsSameClient, client_of}
 use Rattle.server.specs.Hands.{ByHandOf, by_hand_of, IsUnderway, GoesOn, GoesOnIfMay, GivesUp, Responds, StoresReplies}
 use Rattle.server.specs.Planned.{PlannedOf, PlansAsked}
 use Rattle.load_rounds.specs.SharedRounds.{report_of}
-use Rattle.server.specs.declared.by_hand.ClientAdvance.TheVariants.{Answered}
+use Rattle.server.specs.declared.by_hand.ClientAdvance.TheVariants as step
 use Rattle.rounds_by_hand.specs.declared.handed_in.HandedIn.{HandedIn}
 use Rattle.host_clients.specs.Asked.{HostAsked, PlansHost, AnswersHost}
-use Rattle.host_clients.specs.Clients.{AnswersIt, IsBegunWith, MakesRound, Stops, StopsIt, Takes, WaitsAt}
+use Rattle.host_clients.specs.Clients.{AnswersIt, Cancels, GoesOnWith, IsBegunWith, IsStopFault, IsStopped, MakesRound, Stops, StopsIt, Takes, WaitsAt}
+use Rattle.host_clients.specs.declared.client.HostClient.{HostClient}
+use Rattle.host_clients.specs.declared.client.HostClient.TheVariants.{Idle, Asked, Answered, Loading, Loaded, Moved}
+use Rattle.host_clients.specs.declared.fault.Fault.{Fault}
 use Rattle.host_clients.specs.UnderWay.{UnderWayOf, IsOf, IsAnswerOf, HoldsUnderWay, orders_out}
 
 -- a request is begun
@@ -55,12 +58,12 @@ module _ (old new : ByHandOf HandedIn) (goes : GoesOn any_tell old new) (same : 
   gives-up-before c gives = λ begun asked underway plans. gives begun asked (goes begun.session underway) (subst (PlansAsked begun asked) (sym same) plans)
 
 -- an answer of what is under way answers what was asked
-pub answers-host : (old new : ByHandOf HandedIn) (answer : Answer) → Responds any_tell old new (Answered answer) → (c : ClientOf HandedIn) (asked : HostAsked)
+pub answers-host : (old new : ByHandOf HandedIn) (answer : Answer) → Responds any_tell old new (step.Answered answer) → (c : ClientOf HandedIn) (asked : HostAsked)
     → IsUnderway any_tell c.session old → PlansHost c.server c.most asked old.planned → AnswersHost any_tell c asked (report_of answer) new.client.session
 answers-host old new answer responds c asked underway plans = record { asked = plans.asked; asks = plans.asks; answers = responds c plans.asked underway plans.plans }
 
 pub answer-of : (server : ServerOf) (old new : ByHandOf HandedIn) (asked : HostAsked) (answer : Answer) → IsOf server old asked
-    → Responds any_tell old new (Answered answer) → IsAnswerOf server asked (string_bytes answer.text) answer.rounds
+    → Responds any_tell old new (step.Answered answer) → IsAnswerOf server asked (string_bytes answer.text) answer.rounds
 answer-of server old new asked answer of responds = record {
   begun = of.begun;
   later = new.client.session;
@@ -73,7 +76,7 @@ module _ (u : UnderWayOf) (new : ByHandOf HandedIn) (client : IsSameClient u.han
   same-client : IsSameClient u.hand.client c
   same-client = subst (IsSameClient u.hand.client) (sym is) client
 
-  pub answers-it : (answer : Answer) → Responds any_tell u.hand new (Answered answer) → StoresReplies u.hand new.client
+  pub answers-it : (answer : Answer) → Responds any_tell u.hand new (step.Answered answer) → StoresReplies u.hand new.client
       → AnswersIt u (record { client = c; server = u.server; asked = u.asked; text = string_bytes answer.text; rounds = answer.rounds })
   answers-it answer responds stored = record {
     server_is = refl;
@@ -148,3 +151,42 @@ holds-over server old new asked orders goes same over none of = record {
   is_of = is-of-after old new goes same server asked of;
   orders_are = none ∙ sym (ap (λ far. map order_in (pending_in far)) over);
 }
+
+-- ---- it stops
+
+goes-through : (old mid new : ByHandOf HandedIn) → GoesOn any_tell old mid → GoesOn any_tell mid new → GoesOn any_tell old new
+goes-through old mid new first second = λ begun h. second begun (first begun h)
+
+module _ (old mid new : ByHandOf HandedIn) (goes : GoesOn any_tell old mid) (same : mid.planned ≡ old.planned) (given : GoesOn any_tell mid new) (kept : new.planned ≡ mid.planned) where
+  -- a call, and then the round that is out is given up
+  pub holds-ended : (server : ServerOf) (asked : HostAsked) (orders : List OrderOf) → IsOf server old asked → orders ≡ orders_out new → HoldsUnderWay server new asked orders
+  holds-ended server asked orders of are = holds-after server old new asked orders (goes-through old mid new goes given) (kept ∙ same) of are
+
+pub is-stopped : (u : UnderWayOf) (mid new : ByHandOf HandedIn) → GoesOn any_tell u.hand mid → mid.planned ≡ u.hand.planned → IsSameClient u.hand.client mid.client
+    → GoesOn any_tell mid new → new.planned ≡ mid.planned → new.client ≡ mid.client → IsStopped u (record { hand = new; server = u.server; asked = u.asked })
+is-stopped u mid new goes same client given kept is = record {
+  server_is = refl;
+  asked_is = refl;
+  planned_is = kept ∙ same;
+  same = subst (IsSameClient u.hand.client) (sym is) client;
+  goes_on = goes-through u.hand mid new goes given;
+}
+
+same-through : (old mid new : ClientOf HandedIn) → IsSameClient old mid → IsSameClient mid new → IsSameClient old new
+same-through old mid new first second = record { server = second.server ∙ first.server; most = second.most ∙ first.most }
+
+-- what is stopped is given up
+pub stops-as : (u v : UnderWayOf) (fault : Fault) → IsStopped u v → IsStopFault u fault → (new : HostClient) (result : Result (Unit {0}) Fault) → Cancels (Asked v) new result → GoesOnWith u new (Err fault)
+stops-as u v fault stopped is (Idle c) (Ok done) stops = (
+  record {
+    same = same-through u.hand.client v.hand.client c stopped.same stops.same;
+    stops = gives-up-before u.hand v.hand stopped.goes_on stopped.planned_is c stops.stops;
+  },
+  is,
+)
+stops-as u v fault stopped is (Idle c) (Err e) stops = absurd stops
+stops-as u v fault stopped is (Asked w) result stops = absurd stops
+stops-as u v fault stopped is (Answered a) result stops = absurd stops
+stops-as u v fault stopped is (Loading l) result stops = absurd stops
+stops-as u v fault stopped is (Loaded d) result stops = absurd stops
+stops-as u v fault stopped is Moved result stops = absurd stops

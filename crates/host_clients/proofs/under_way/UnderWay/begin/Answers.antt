@@ -1,4 +1,4 @@
-use Rattle.std.proofs.Common.{◌≡◌, ◌∙◌, subst, sym}
+use Rattle.std.proofs.Common.{◌∙◌, subst, sym}
 use Rattle.host_clients.specs.Asked.{PlansHost}
 use Rattle.host_clients.specs.Texts.{asked_in}
 use Rattle.host_clients.proofs.Underway.{holds-begun}
