@@ -12,7 +12,7 @@ use Rattle.gq_schema.specs.Inputs.{Input, Items}
 use Rattle.gq_schema.specs.Inputs as input
 use Rattle.gq_schema.specs.Coercion.{one_item}
 use Rattle.gq_bindings.specs.Tree.{BindingOf, by_column, by_one, by_many, by_each, by_via, binding_in}
-use Rattle.gq_variables.specs.Variables.{VariableOf, value_in}
+use Rattle.gq_variables.specs.Variables.{VariableOf, is_variable, value_in}
 use Rattle.execution.specs.Program.{LeafValue, Null}
 use Rattle.execution.specs.Program as leaf
 use Rattle.gq_check.specs.Plans.{PlanOf, fragment_in}
@@ -70,6 +70,22 @@ agrees-by-names seen plan xs ys same own others name = go (value_in plan.variabl
     go (Some i) one b other = named seen (AgreesAt plan (map seen ys)) xs own name i (ap (λ (vs : List VariableOf). value_in vs name) same ∙ one)
     go None one (Some i) other = named seen (AgreesAt plan (map seen ys)) ys others name i other
     go None one None other = ap is_true_input (other ∙ sym one)
+
+-- variables of which none is true are true by no name
+untrue-by-name : {V : Type 0} (seen : V → VariableOf) (xs : List V) → All (λ (x : V). is_true_input (Some (seen x).value) ≡ false) xs → (name : List ℕ) → is_true_input (value_in (map seen xs) name) ≡ false
+untrue-by-name seen [] each name = refl
+untrue-by-name seen (x ∷ xs) each name = go (bytes_eq name (seen x).name) (untrue-by-name seen xs (λ k d lt. each (suc k) d (omega (arith, lt))) name)
+  where
+    go : (b : Bool) → is_true_input (value_in (map seen xs) name) ≡ false
+        → is_true_input (option_map (λ (v : VariableOf). v.value) (cond b (Some (seen x)) (find (is_variable name) (map seen xs)))) ≡ false
+    go true later = each 0 x (omega arith)
+    go false later = later
+
+-- two lists of which no variable is true agree at each name
+pub agrees-untrue : {V : Type 0} (seen : V → VariableOf) (plan : PlanOf) (xs ys : List V) → map seen xs ≡ plan.variables
+    → All (λ (x : V). is_true_input (Some (seen x).value) ≡ false) xs → All (λ (y : V). is_true_input (Some (seen y).value) ≡ false) ys → AgreesOnDirectives plan (map seen ys)
+agrees-untrue seen plan xs ys same own others name =
+    untrue-by-name seen ys others name ∙ sym (ap (λ (vs : List VariableOf). is_true_input (value_in vs name)) (sym same) ∙ untrue-by-name seen xs own name)
 
 -- ---- collections
 

@@ -14,3 +14,4 @@ pub mod Prepared
 pub mod PlanPrograms
 pub mod OtherVariables
 pub mod RowUses
+pub mod VariableKeys

@@ -38,7 +38,7 @@ part_from_seen (part.Column c) = column_part c
 abbrev pub key_from_seen : rust-key.KeyFrom → KeyFrom
 key_from_seen (key.Fixed k) = fixed (key_of k)
 key_from_seen (key.Column c) = of_column c
-key_from_seen (key.Pair one two) = of_pair (part_from_seen one) (part_from_seen two)
+key_from_seen (key.Pair pair) = of_pair (part_from_seen pair.value.first) (part_from_seen pair.value.second)
 
 abbrev pub children_seen : Children → ChildrenOf
 children_seen b = record {

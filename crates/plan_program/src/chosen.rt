@@ -12,7 +12,8 @@ use gq_check::Plan;
 use gq_parser::{Argument, Directive, Literal, TypeCondition, Value};
 use gq_schema::Input;
 
-fn is_true_input(input: &Input) -> bool
+/// Tells whether a value is true, and no other value.
+pub fn is_true_input(input: &Input) -> bool
     ensures { result ≡ is_true_input
         (Some (input_of input.now)) }
 {

@@ -1,14 +1,16 @@
 //! Plans with other values of their variables.
 
-ghost use Rattle.std.specs.Prelude.{◌≡◌, IsTrue};
+ghost use Rattle.std.specs.Prelude.{◌≡◌, Some, false, IsTrue};
 ghost use Rattle.std.specs.List.{All};
 ghost use Rattle.gq_parser.specs.Tree.{literal_of, arguments_of};
 ghost use Rattle.gq_check.specs.Plans.{plan_of};
+ghost use Rattle.gq_schema.specs.Inputs.{input_of};
 ghost use Rattle.gq_variables.specs.declared.variable.Variable.{Variable};
+ghost use Rattle.plan_program.specs.Chosen.{is_true_input};
 ghost use Rattle.plan_program.specs.OtherVariables.{AgreesAt, AgreesOnDirectives, is_plain, are_plain, is_fixed};
 ghost use Rattle.plan_program.specs.Seen.{group_of};
 
-use crate::chosen::is_true_variable;
+use crate::chosen::{is_true_input, is_true_variable};
 use crate::group::Group;
 use gq_check::Plan;
 use gq_parser::{Argument, Literal, Value};
@@ -65,11 +67,26 @@ fn agrees_at_each(plan: &Plan, other: &Plan, variables: &[Variable]) -> bool
         .all(|variable| agrees_at(plan, other, variable.name.as_str()))
 }
 
+// Tells whether none of these variables is true.
+fn is_none_true(variables: &[Variable]) -> bool
+    ensures { IsTrue result → All (λ (v : Variable).
+        is_true_input (Some (input_of v.value)) ≡ false) variables.now }
+{
+    variables
+        .iter()
+        .all(|variable| !is_true_input(&variable.value))
+}
+
 /// Tells whether each variable is true in both plans or in neither. Where the plans are of one operation, directives then
 /// leave the same out.
 pub fn agrees_on_directives(plan: &Plan, other: &Plan) -> bool
     ensures { IsTrue result → AgreesOnDirectives
         (plan_of plan.now) (plan_of other.now).variables }
 {
-    agrees_at_each(plan, other, plan.variables()) && agrees_at_each(plan, other, other.variables())
+    let own = plan.variables();
+    let others = other.variables();
+    if is_none_true(own) && is_none_true(others) {
+        return true;
+    }
+    agrees_at_each(plan, other, own) && agrees_at_each(plan, other, others)
 }

@@ -21,7 +21,9 @@ use crate::arguments::{ArgFault, Args, coerced_arguments};
 use crate::fields::place_of;
 use crate::group::Group;
 use crate::object_type::{ObjectType, definition_of};
-use crate::prepared::{Children, KeyFrom, KeyPartFrom, LeafValue, PreparedField, ValueFrom};
+use crate::prepared::{
+    Children, KeyFrom, KeyPairFrom, KeyPartFrom, LeafValue, PreparedField, ValueFrom,
+};
 use crate::texts::null_argument_message;
 use gq_bindings::{Binding, KeyOrigin, KeyPart, ViaLoader};
 use gq_check::Plan;
@@ -47,8 +49,8 @@ fn text_of_input(alloc: Global, input: &Input) -> Result<Option<Text>, AllocErro
     }
 }
 
-// The key that an argument's value is.
-fn key_of_input(alloc: Global, input: &Input) -> Result<Option<Key>, AllocError>
+/// The key that an argument's value is.
+pub fn key_of_input(alloc: Global, input: &Input) -> Result<Option<Key>, AllocError>
     ensures { IfOk result (λ key. option_map key_of key
         ≡ key_of_input (input_of input.now)) }
 {
@@ -119,9 +121,10 @@ fn key_from(
         }
         KeyOrigin::All => Ok(Some(KeyFrom::Fixed(Key::All))),
         KeyOrigin::Pair(one, two) => {
-            let one = part_from(alloc, args, one)?;
-            let two = part_from(alloc, args, two)?;
-            Ok(Some(KeyFrom::Pair(one, two)))
+            let first = part_from(alloc, args, one)?;
+            let second = part_from(alloc, args, two)?;
+            let pair = KeyPairFrom { first, second };
+            Ok(Some(KeyFrom::Pair(Box::new(alloc, pair)?)))
         }
     }
 }

@@ -28,14 +28,22 @@ pub enum KeyPartFrom {
     Column(Text),
 }
 
+/// Origin of the parts of a key of two. Where a part is null, there is no key; but a column that the row doesn't have is a fault all the
+/// same.
+#[derive(Drop)]
+pub struct KeyPairFrom {
+    pub first: KeyPartFrom,
+    pub second: KeyPartFrom,
+}
+
 /// Origin of the key of a load.
 #[derive(Drop)]
 pub enum KeyFrom {
     Fixed(Key),
     /// A column of the row.
     Column(Text),
-    /// Two parts. Where a part is null, there is no key; but a column that the row doesn't have is a fault all the same.
-    Pair(KeyPartFrom, KeyPartFrom),
+    /// Two parts. They are boxed, so that other keys take half as much.
+    Pair(Box<KeyPairFrom>),
 }
 
 /// Holds what the objects below a field are made from.

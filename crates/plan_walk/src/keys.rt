@@ -87,6 +87,6 @@ pub fn key_over<'k>(key: &'k KeyFrom, row: &'k Row) -> KeyOver<'k, 'k>
     match key {
         KeyFrom::Fixed(key) => KeyOver::Known(key.as_key_ref()),
         KeyFrom::Column(column) => column_over(column.as_str(), row),
-        KeyFrom::Pair(one, two) => pair_over(part_over(one, row), part_over(two, row)),
+        KeyFrom::Pair(pair) => pair_over(part_over(&pair.first, row), part_over(&pair.second, row)),
     }
 }

@@ -1,4 +1,4 @@
-use Rattle.std.proofs.Common.{◌≡◌, ap, refl, ◌<◌, ◌+◌, List, arith}
+use Rattle.std.proofs.Common.{◌≡◌, ap, refl, List, arith}
 use Rattle.gq_parser.specs.declared.tree.Selection.{Selection}
 use Rattle.gq_parser.specs.Tree.{and_selection, selection_of, map_selections}
 use Rattle.gq_check.specs.Plans.{plan_of}
