@@ -28,7 +28,7 @@ load_by loader key = record { loader = loader; key = key }
 abbrev pub loaded : ℕ → KeyFrom → Option LoadOf
 loaded loader key = Some (load_by loader key)
 
-same-load : (own loader : ℕ) (one other : KeyFrom) → loaded own one ≡ loaded loader other → load_by own one ≡ load_by loader other
+pub same-load : (own loader : ℕ) (one other : KeyFrom) → loaded own one ≡ loaded loader other → load_by own one ≡ load_by loader other
 same-load own loader one other e = cc e
 
 same-loader : (own loader : ℕ) (one other : KeyFrom) → loaded own one ≡ loaded loader other → own ≡ loader

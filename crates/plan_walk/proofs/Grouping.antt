@@ -18,8 +18,8 @@ use Rattle.plan_program.specs.declared.group.Group.{Group}
 use Rattle.plan_program.specs.PlanPrograms.{fields_of, places, read_from, read_if, first_object, asked_program, object_program}
 use Rattle.plan_program.specs.declared.prepared.KeyFrom.{KeyFrom}
 use Rattle.plan_walk.specs.Puts.{OnwardOf, View}
-use Rattle.plan_program.specs.RowUses.{UseOf, First, BelowOf, below_in}
-use Rattle.plan_walk.specs.Groups.{children_in, nowhere, children_at, use_seen, then_at, then_rows, next_rows, after_at, Covers, type_prepared, IsAsked, asks_seen, members_seen, Makes, IsShape, IsRight, AreRight, Grows, IsNew, Serves, ServesLoad, IsServed, AreServed, IsAskingOver, IsAsking, AreMadeOver, AreMade, AreMadeOf, AreKept, IsOnly, IsShaped, view_of}
+use Rattle.plan_program.specs.RowUses.{UseOf, First, BelowOf, below_in, load_in}
+use Rattle.plan_walk.specs.Groups.{children_in, nowhere, children_at, use_seen, then_at, then_rows, next_rows, after_at, Covers, type_prepared, IsAsked, asks_seen, members_seen, Makes, IsShape, IsRight, AreRight, Grows, IsNew, Serves, ServesLoad, load_seen, IsServed, IsServedBy, AreServed, IsAskingOver, IsAsking, AreMadeOver, AreMade, AreMadeOf, AreKept, IsOnly, IsShaped, view_of}
 use Rattle.plan_walk.specs.Positions.{is_non_null, member_position}
 use Rattle.plan_walk.specs.declared.positions.Items.{Items}
 use Rattle.text_place.specs.declared.place.Place.{Place}
@@ -206,13 +206,16 @@ served-one-more plan old new asked (asks.Cell column ty) g h = h
 served-one-more plan old new asked (asks.Load loader key group) g h = serves-load-more plan old new group (below_in asked) g h
 served-one-more plan old new asked (asks.Each loader keys items group) g h = serves-load-more plan old new group (below_in asked) g h
 
+pub served-by-more : (plan : PlanOf) (old new : List LoadingField) (p : PreparedOf) (m : Member) → Grows plan old new → IsServedBy plan old p m → IsServedBy plan new p m
+served-by-more plan old new p m g h = record { position = h.position; load = h.load; served = served-one-more plan old new p.asked m.asks g h.served }
+
 pub served-more : (plan : PlanOf) (old new : List LoadingField) (ps : List PreparedOf) (ms : List Member) → Grows plan old new → AreServed plan old ps ms → AreServed plan new ps ms
 served-more plan old new [] [] g h = tt
 served-more plan old new [] (m ∷ ms) g h = absurd h
 served-more plan old new (p ∷ ps) [] g h = absurd h
-served-more plan old new (p ∷ ps) (m ∷ ms) g h = (served-one-more plan old new p.asked m.asks g h.0, served-more plan old new ps ms g h.1)
+served-more plan old new (p ∷ ps) (m ∷ ms) g h = (served-by-more plan old new p m g h.0, served-more plan old new ps ms g h.1)
 
-served-push : (plan : PlanOf) (gs : List LoadingField) (ps : List PreparedOf) (ms : List Member) (p : PreparedOf) (m : Member) → AreServed plan gs ps ms → IsServed plan gs p.asked m.asks → AreServed plan gs (ps ++ p ∷ []) (ms ++ m ∷ [])
+served-push : (plan : PlanOf) (gs : List LoadingField) (ps : List PreparedOf) (ms : List Member) (p : PreparedOf) (m : Member) → AreServed plan gs ps ms → IsServedBy plan gs p m → AreServed plan gs (ps ++ p ∷ []) (ms ++ m ∷ [])
 served-push plan gs [] [] p m h is = (is, tt)
 served-push plan gs [] (n ∷ ms) p m h is = absurd h
 served-push plan gs (q ∷ ps) [] p m h is = absurd h
@@ -243,7 +246,7 @@ made-more-over plan old mid new ps p ms m h a same =
             ∙ ap (λ position. chained (fields_of f ps) (With position (f p.asked) End)) same
             ∙ sym (fields-append f ps (p ∷ []));
       };
-      served = served-push plan new ps ms p m (served-more plan mid new ps ms a.grows h.served) a.served;
+      served = served-push plan new ps ms p m (served-more plan mid new ps ms a.grows h.served) (record { position = same; load = a.load; served = a.served });
     }
 
 pub made-more : (old mid new : List LoadingField) (ps : List PreparedOf) (p : PreparedOf) (ms : List Member) (m : Member) → AreMade old mid ps ms → IsAsking mid new p.asked m.asks → member_position m.position ≡ p.position
@@ -272,12 +275,13 @@ pub made-none : (gs : List LoadingField) → AreMade gs gs [] []
 made-none gs = record { front = take_all (length gs) gs (omega arith); over = λ plan. made-none-over plan gs }
 
 -- the program that a load by a group asks for, which serves it
-pub load-asking-over : (plan : PlanOf) (gs : List LoadingField) (below : BelowOf) (loader : ℕ) (key : KeyFrom) (group : ℕ) (asked : ValueFrom) → Serves plan gs group below → below_in asked ≡ Some below
+pub load-asking-over : (plan : PlanOf) (gs : List LoadingField) (below : BelowOf) (loader : ℕ) (key : KeyFrom) (group : ℕ) (asked : ValueFrom) → Serves plan gs group below → below_in asked ≡ Some below → load_in asked ≡ Some (record { loader = loader; key = key_from_seen key })
     → ((levels : ℕ) (row : RowOf) → read_from loader (key_from_seen key) row (then_rows plan levels below.next below.children) ≡ asked_program plan.definitions (object_program plan levels) row asked) → IsAskingOver plan gs gs asked (asks.Load loader key group)
-load-asking-over plan gs below loader key group asked h loads is = record {
+load-asking-over plan gs below loader key group asked h loads one is = record {
   grows = grows-self plan gs;
   known = h.within;
   same = λ v cov levels row. ap (λ (f : List RowOf → Program). read_from loader (key_from_seen key) row f) (h.after v cov levels) ∙ is levels row;
+  load = sym one;
   served = subst (ServesLoad plan gs group) (sym loads) h;
 }
 
@@ -292,22 +296,23 @@ each-asking-over plan gs children loader keys items group h nullability place = 
       ap (λ (f : List RowOf → Program). Under ListOf (places (is_non_null items.nullability) items.place 0 (map (read_if loader f) (keys_seen keys.items)))) (h.after v cov levels)
       ∙ ap (λ (b : Bool). Under ListOf (places b items.place 0 (map (read_if loader next) (keys_seen keys.items)))) nullability
       ∙ ap (λ (p : Place). Under ListOf (places children.item_non_null p 0 (map (read_if loader next) (keys_seen keys.items)))) place;
+  load = refl;
   served = h;
 }
 
 -- what asks over the groups that there are, asks so with more of them
 pub asking-grown : (plan : PlanOf) (old new : List LoadingField) (asked : ValueFrom) (a : FieldResolver) → Grows plan old new → IsAskingOver plan new new asked a → IsAskingOver plan old new asked a
-asking-grown plan old new asked a g h = record { grows = g; known = h.known; same = h.same; served = h.served }
+asking-grown plan old new asked a g h = record { grows = g; known = h.known; same = h.same; load = h.load; served = h.served }
 
-pub settled-asking-over : (plan : PlanOf) (gs : List LoadingField) (asked : ValueFrom) (a : FieldResolver) → IsAsked (length gs) a → IsServed plan gs asked a → ((v : View) (levels : ℕ) (row : RowOf) → asks_seen plan.definitions v levels row a ≡ asked_program plan.definitions (object_program plan levels) row asked) → IsAskingOver plan gs gs asked a
-settled-asking-over plan gs asked a known served is = record { grows = grows-self plan gs; known = known; same = λ v cov levels row. is v levels row; served = served }
+pub settled-asking-over : (plan : PlanOf) (gs : List LoadingField) (asked : ValueFrom) (a : FieldResolver) → IsAsked (length gs) a → load_seen a ≡ load_in asked → IsServed plan gs asked a → ((v : View) (levels : ℕ) (row : RowOf) → asks_seen plan.definitions v levels row a ≡ asked_program plan.definitions (object_program plan levels) row asked) → IsAskingOver plan gs gs asked a
+settled-asking-over plan gs asked a known load served is = record { grows = grows-self plan gs; known = known; same = λ v cov levels row. is v levels row; load = load; served = served }
 
 -- with a group more
-pub load-asking : (old new : List LoadingField) (next : UseOf) (children : ChildrenOf) (loader : ℕ) (key : KeyFrom) (group : ℕ) (asked : ValueFrom) → IsNew old new next children group → below_in asked ≡ Some (record { next = next; children = children })
+pub load-asking : (old new : List LoadingField) (next : UseOf) (children : ChildrenOf) (loader : ℕ) (key : KeyFrom) (group : ℕ) (asked : ValueFrom) → IsNew old new next children group → below_in asked ≡ Some (record { next = next; children = children }) → load_in asked ≡ Some (record { loader = loader; key = key_from_seen key })
     → ((plan : PlanOf) (levels : ℕ) (row : RowOf) → read_from loader (key_from_seen key) row (then_rows plan levels next children) ≡ asked_program plan.definitions (object_program plan levels) row asked) → IsAsking old new asked (asks.Load loader key group)
-load-asking old new next children loader key group asked h loads is = record {
+load-asking old new next children loader key group asked h loads one is = record {
   front = h.front;
-  over = λ plan. asking-grown plan old new asked (asks.Load loader key group) (h.grows plan) (load-asking-over plan new (record { next = next; children = children }) loader key group asked (serves-new plan old new next children group h) loads (is plan));
+  over = λ plan. asking-grown plan old new asked (asks.Load loader key group) (h.grows plan) (load-asking-over plan new (record { next = next; children = children }) loader key group asked (serves-new plan old new next children group h) loads one (is plan));
 }
 
 pub each-asking : (old new : List LoadingField) (children : ChildrenOf) (loader : ℕ) (keys : Vec (Option Key) Global) (items : Items) (group : ℕ) → IsNew old new First children group
@@ -318,8 +323,8 @@ each-asking old new children loader keys items group h nullability place = recor
 }
 
 -- without one
-pub settled-asking : (gs : List LoadingField) (asked : ValueFrom) (a : FieldResolver) → IsAsked (length gs) a → ((plan : PlanOf) → IsServed plan gs asked a) → ((plan : PlanOf) (v : View) (levels : ℕ) (row : RowOf) → asks_seen plan.definitions v levels row a ≡ asked_program plan.definitions (object_program plan levels) row asked) → IsAsking gs gs asked a
-settled-asking gs asked a known served is = record { front = take_all (length gs) gs (omega arith); over = λ plan. settled-asking-over plan gs asked a known (served plan) (is plan) }
+pub settled-asking : (gs : List LoadingField) (asked : ValueFrom) (a : FieldResolver) → IsAsked (length gs) a → load_seen a ≡ load_in asked → ((plan : PlanOf) → IsServed plan gs asked a) → ((plan : PlanOf) (v : View) (levels : ℕ) (row : RowOf) → asks_seen plan.definitions v levels row a ≡ asked_program plan.definitions (object_program plan levels) row asked) → IsAsking gs gs asked a
+settled-asking gs asked a known load served is = record { front = take_all (length gs) gs (omega arith); over = λ plan. settled-asking-over plan gs asked a known load (served plan) (is plan) }
 
 -- ---- the members of a type
 

@@ -1,7 +1,7 @@
 -- Definitions of what is kept of the groups that load, by their numbers.
 use Rattle.std.specs.Prelude.{◌≡◌, ◌<◌, ◌≤◌, ℕ, true, false, List, [], ◌∷◌, length, map, take, Option, Some, None, IfSome}
 use Rattle.std.specs.List.{All, AllZip, slice_get}
-use Rattle.std.specs.Option.{option_and_then, option_map_or}
+use Rattle.std.specs.Option.{option_map_or}
 use Rattle.std.specs.Arc.{arc_value}
 use Rattle.std.specs.declared.sync.Arc.{Arc}
 use Rattle.std.specs.declared.alloc.Global.{Global}
@@ -15,12 +15,12 @@ use Rattle.execution.specs.Program.{Program, Is, Under, Programs, End, With, Lis
 use Rattle.gq_check.specs.Plans.{PlanOf}
 use Rattle.gq_variables.specs.Variables.{VariableOf}
 use Rattle.plan_program.specs.Groups.{GroupOf, nothing_collected, collect_subfields}
-use Rattle.plan_program.specs.FieldValues.{ChildrenOf, ValueFrom, PreparedOf, all_prepared}
+use Rattle.plan_program.specs.FieldValues.{ChildrenOf, ValueFrom, PreparedOf, prepared, all_prepared}
 use Rattle.plan_program.specs.Prepared.{leaf_value_seen, key_from_seen, keys_seen, children_seen}
 use Rattle.plan_program.specs.PlanPrograms.{cell_value, places, fields_of, read_from, read_if, first_object, all_objects, first_of, joined_object, joined_objects, asked_program, object_program}
 use Rattle.plan_program.specs.ObjectTypes.{name_in, is_found, IsOf}
 use Rattle.plan_program.specs.OtherVariables.{AgreesOnDirectives, with_variables}
-use Rattle.plan_program.specs.RowUses.{UseOf, First, Each, Joined, BelowOf, below_in}
+use Rattle.plan_program.specs.RowUses.{UseOf, First, Each, Joined, BelowOf, below_in, LoadOf, load_in}
 use Rattle.plan_program.specs.declared.object_type.ObjectType.{ObjectType}
 use Rattle.plan_program.specs.declared.prepared.Children.{Children}
 use Rattle.plan_walk.specs.Steps.{last_steps}
@@ -211,15 +211,28 @@ group_in (asks.Cell column ty) = None
 group_in (asks.Load loader key group) = Some group
 group_in (asks.Each loader keys items group) = Some group
 
+-- the load of one key that a position asks for
+abbrev pub load_seen : FieldResolver → Option LoadOf
+load_seen (asks.Known leaf_value) = None
+load_seen (asks.Cell column ty) = None
+load_seen (asks.Load loader key group) =
+    Some (record { loader = loader; key = key_from_seen key })
+load_seen (asks.Each loader keys items group) = None
+
 -- the group of what a position asks for serves what this value loads
 abbrev pub IsServed : PlanOf → List LoadingField → ValueFrom → FieldResolver → Type 0
 IsServed plan gs asked asks = IfSome (group_in asks)
     (λ number. ServesLoad plan gs number (below_in asked))
 
--- the groups of members serve what these groups of fields load, each in its place
+-- the member has the position of this group of fields and its load, which the member's group serves
+pub record IsServedBy (plan : PlanOf) (gs : List LoadingField) (p : PreparedOf) (m : Member)
+    : Type 0 where
+  pub position : member_position m.position ≡ p.position
+  pub load : load_seen m.asks ≡ load_in p.asked
+  pub served : IsServed plan gs p.asked m.asks
+
 abbrev pub AreServed : PlanOf → List LoadingField → List PreparedOf → List Member → Type 0
-AreServed plan gs ps ms =
-    AllZip (λ (p : PreparedOf) (m : Member). IsServed plan gs p.asked m.asks) ps ms
+AreServed plan gs ps ms = AllZip (IsServedBy plan gs) ps ms
 
 -- ---- what is made
 
@@ -240,6 +253,7 @@ pub record IsAskingOver (plan : PlanOf) (old new : List LoadingField) (asked : V
   pub same : (v : View) → Covers plan new v → (levels : ℕ) (row : RowOf)
       → asks_seen plan.definitions v levels row asks
       ≡ asked_program plan.definitions (object_program plan levels) row asked
+  pub load : load_seen asks ≡ load_in asked
   pub served : IsServed plan new asked asks
 
 -- the same over each plan, with groups that come behind those that there were
@@ -279,10 +293,6 @@ pub record IsWhole (plan : PlanOf) (gs : List LoadingField) (children : Children
 abbrev pub AreOnly : List LoadingField → ℕ → List Member → Type 0
 AreOnly gs group ms = (plan : PlanOf) → AreRight plan gs → IsWhole plan gs (children_at gs group) ms
 
--- the group of the member at a place, if it has one
-abbrev pub group_at : List Member → ℕ → Option ℕ
-group_at ms place = option_and_then (λ (m : Member). group_in m.asks) (slice_get ms place)
-
 -- this asks for a value by a group, over each plan by which the group serves it
 abbrev pub AsksAt : ValueFrom → ℕ → FieldResolver → Type 0
 AsksAt asked number asks = (plan : PlanOf) (gs : List LoadingField)
@@ -298,6 +308,24 @@ AsksAgain asked group old new asks = (plan : PlanOf)
 -- the plan is that one with other variables
 abbrev pub IsOtherwise : PlanOf → PlanOf → Type 0
 IsOtherwise first plan = plan ≡ with_variables first plan.variables
+
+-- the member asks what this group of fields asks, over a plan
+pub record IsMadeOver (plan : PlanOf) (old new : List LoadingField) (p : PreparedOf)
+    (m : Member) : Type 0 where
+  pub position : member_position m.position ≡ p.position
+  pub asks : IsAskingOver plan old new p.asked m.asks
+
+-- The member asks what this group of fields asks, over a plan by which the member before it is served as the same group of fields is with
+-- other variables.
+abbrev pub IsMadeAgain : PlanOf → List ℕ → GroupOf → Option Member
+    → List LoadingField → List LoadingField → Member → Type 0
+IsMadeAgain plan ty g before old new m = (first over : PlanOf) → IsOtherwise first plan
+    → IfSome before (IsServedBy over old (prepared first ty g))
+    → IsMadeOver over old new (prepared plan ty g) m
+
+-- the same with the groups that there are
+abbrev pub IsMadeInPlace : PlanOf → List ℕ → GroupOf → Option Member → Member → Type 0
+IsMadeInPlace plan ty g before m = (gs : List LoadingField) → IsMadeAgain plan ty g before gs gs m
 
 -- The members ask what these groups of fields ask, over a plan by which the groups of `before` serve what the same groups of fields ask
 -- with other variables.

@@ -1,18 +1,23 @@
 //! Members that are made again: of the same fields, asked for with other values of variables.
 
-ghost use Rattle.std.specs.Prelude.{◌≡◌, IfOk};
+ghost use Rattle.std.specs.Prelude.{◌≡◌, IfOk, IfSome, option_and_then};
+ghost use Rattle.std.specs.List.{slice_get};
+ghost use Rattle.std.specs.Option.{option_copied};
 ghost use Rattle.gq_check.specs.Plans.{plan_of};
 ghost use Rattle.plan_program.specs.ObjectTypes.{name_in, IsOf};
 ghost use Rattle.plan_program.specs.Prepared.{value_from_seen};
-ghost use Rattle.plan_program.specs.Seen.{groups_of};
-ghost use Rattle.plan_walk.specs.Groups.{AreMadeAgain, AsksAgain, AsksAt, group_at, group_in};
+ghost use Rattle.plan_program.specs.Seen.{group_of, groups_of};
+ghost use Rattle.plan_walk.specs.Groups.{AreMadeAgain, AsksAgain, AsksAt, IsMadeAgain, IsMadeInPlace, group_in};
 
 use crate::leaf_type::LeafType;
 use crate::loading_fields::{
     FieldResolver, LoadingField, Member, asks_of, child_items, position_of,
 };
 use gq_check::Plan;
-use plan_program::{Group, ObjectType, PreparedField, ValueFrom, prepare_group};
+use load_memory::Key;
+use plan_program::{
+    Group, KeyFrom, ObjectType, PreparedField, ValueFrom, key_by_variable, prepare_group,
+};
 use std::alloc::{AllocError, Global};
 
 // The group of what a position asks for, if it has one.
@@ -27,11 +32,19 @@ fn group_of(asks: &FieldResolver) -> Option<usize>
     }
 }
 
-// The group of the member at a place, if it has one.
-fn group_at(members: &[Member], place: usize) -> Option<usize>
-    ensures { result ≡ group_at members.now place }
+// The member at a place, if there is one.
+fn member_at(members: &[Member], place: usize) -> Option<&Member>
+    ensures { option_copied result ≡ slice_get members.now place }
 {
-    match members.get(place) {
+    members.get(place)
+}
+
+// The group of a member, if it has one.
+fn group_before(before: Option<&Member>) -> Option<usize>
+    ensures { result ≡ option_and_then
+        (λ (m : Member). group_in m.asks) (option_copied before.entry) }
+{
+    match before {
         Some(member) => group_of(&member.asks),
         None => None,
     }
@@ -91,8 +104,90 @@ fn asks_again(
     }
 }
 
+// The member that fields of an object type make, if a variable gives the key of a load that one made before: with that key.
+fn keyed_again<'p>(
+    alloc: Global,
+    plan: &'p Plan,
+    ty: &ObjectType<'p, '_>,
+    fields: &Group<'p>,
+    before: Option<&Member>,
+) -> Result<Option<Member>, AllocError>
+    requires { IsOf (plan_of plan.now) ty.now }
+    ensures { IfOk result (λ made. IfSome made (IsMadeInPlace (plan_of plan.now)
+        (name_in ty.now) (group_of fields.now) (option_copied before.entry))) }
+{
+    let Some(member) = before else {
+        return Ok(None);
+    };
+    let FieldResolver::Load {
+        loader,
+        key: KeyFrom::Fixed(Key::Text(_)),
+        group,
+    } = &member.asks
+    else {
+        return Ok(None);
+    };
+    match key_by_variable(alloc, plan, ty, fields)? {
+        Some(key) => Ok(Some(Member {
+            position: member.position.copy()?,
+            asks: FieldResolver::Load {
+                loader: *loader,
+                key: KeyFrom::Fixed(key),
+                group: *group,
+            },
+        })),
+        None => Ok(None),
+    }
+}
+
+// The member that fields of an object type make, by the group of one that was made before, if that has one.
+fn prepared_again<'p>(
+    alloc: Global,
+    plan: &'p Plan,
+    groups: &mut Vec<LoadingField>,
+    ty: &ObjectType<'p, '_>,
+    fields: &Group<'p>,
+    before: Option<&Member>,
+) -> Result<Member, AllocError>
+    requires { IsOf (plan_of plan.now) ty.now }
+    ensures { IfOk result (IsMadeAgain (plan_of plan.now) (name_in ty.now) (group_of fields.now)
+        (option_copied before.entry) groups.old.items groups.new.items) }
+{
+    let prepared = prepare_group(alloc, plan, ty, fields)?;
+    let PreparedField {
+        key,
+        place,
+        non_null,
+        asked,
+    } = prepared;
+    let position = position_of(key, place, non_null);
+    let had = group_before(before);
+    let asks = asks_again(groups, asked, had)?;
+    Ok(Member { position, asks })
+}
+
+// The member that fields of an object type make.
+fn member_again<'p>(
+    alloc: Global,
+    plan: &'p Plan,
+    groups: &mut Vec<LoadingField>,
+    ty: &ObjectType<'p, '_>,
+    fields: &Group<'p>,
+    before: Option<&Member>,
+) -> Result<Member, AllocError>
+    requires { IsOf (plan_of plan.now) ty.now }
+    ensures { IfOk result (IsMadeAgain (plan_of plan.now) (name_in ty.now) (group_of fields.now)
+        (option_copied before.entry) groups.old.items groups.new.items) }
+{
+    match keyed_again(alloc, plan, ty, fields, before)? {
+        Some(member) => Ok(member),
+        None => prepared_again(alloc, plan, groups, ty, fields, before),
+    }
+}
+
 /// The members that collected groups of an object type make. Each has the group of the member that was made in its place of the same
-/// fields, asked for with other values, if that has one; so what was prepared below it stays of use.
+/// fields, asked for with other values, if that has one; so what was prepared below it stays of use. Where a variable gives its key, that
+/// key is all that is made.
 pub fn members_again(
     alloc: Global,
     plan: &Plan,
@@ -107,17 +202,9 @@ pub fn members_again(
 {
     let mut members = Vec::with_capacity(alloc, collected.len())?;
     for group in &collected {
-        let prepared = prepare_group(alloc, plan, &*ty, group)?;
-        let PreparedField {
-            key,
-            place,
-            non_null,
-            asked,
-        } = prepared;
-        let position = position_of(key, place, non_null);
-        let had = group_at(before, members.len());
-        let asks = asks_again(groups, asked, had)?;
-        members.push(Member { position, asks })?;
+        let had = member_at(before, members.len());
+        let member = member_again(alloc, plan, groups, &*ty, group, had)?;
+        members.push(member)?;
     }
     Ok(members)
 }

@@ -1,12 +1,13 @@
 //! Positions of an answer, and what is put at them.
 
-ghost use Rattle.std.specs.Prelude.{◌≡◌, None};
+ghost use Rattle.std.specs.Prelude.{◌≡◌, None, IfOk};
 ghost use Rattle.plan_walk.specs.Positions.{is_non_null, position_seen, member_position};
 
 use crate::leaf_type::LeafType;
 use gq_lexer::Place;
 use gq_schema::Schema;
 use load_memory::{Row, Text};
+use std::alloc::AllocError;
 
 /// Says what a position with others below it is.
 #[derive(Clone, Copy, PartialEq, Eq, Debug, Drop)]
@@ -48,6 +49,17 @@ impl MemberPosition {
             nullability: self.nullability,
             place: self.place,
         }
+    }
+
+    /// A copy, with a key of its own.
+    pub fn copy(&self) -> Result<MemberPosition, AllocError>
+        ensures { IfOk result (λ copy. member_position copy ≡ member_position self.now) }
+    {
+        Ok(MemberPosition {
+            key: self.key.clone()?,
+            nullability: self.nullability,
+            place: self.place,
+        })
     }
 }
 

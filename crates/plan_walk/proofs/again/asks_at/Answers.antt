@@ -8,11 +8,11 @@ use Rattle.plan_walk.proofs.again.asks_at.Goals as goal
 
 pub returns-in-First : goal.returns-in-First
 returns-in-First c =
-    rw c.in-First.is (λ plan gs h. load-asking-over plan gs (record { next = First; children = children_in c.in-First._children }) c.in-First.loader c.in-First.key c.args.group _ h refl (λ levels row. refl))
+    rw c.in-First.is (λ plan gs h. load-asking-over plan gs (record { next = First; children = children_in c.in-First._children }) c.in-First.loader c.in-First.key c.args.group _ h refl refl (λ levels row. refl))
 
 pub returns-in-All : goal.returns-in-All
 returns-in-All c =
-    rw c.in-All.is (λ plan gs h. load-asking-over plan gs (record { next = Each; children = children_in c.in-All._children }) c.in-All.loader c.in-All.key c.args.group _ h refl (λ levels row. refl))
+    rw c.in-All.is (λ plan gs h. load-asking-over plan gs (record { next = Each; children = children_in c.in-All._children }) c.in-All.loader c.in-All.key c.args.group _ h refl refl (λ levels row. refl))
 
 pub returns-in-Each : goal.returns-in-Each
 returns-in-Each c =
@@ -22,4 +22,4 @@ returns-in-Each c =
 pub returns-in-Joined : goal.returns-in-Joined
 returns-in-Joined c =
     rw c.in-Joined.is
-    (λ plan gs h. load-asking-over plan gs (record { next = Joined (map step_of (arc_value c.in-Joined._steps).items); children = children_in c.in-Joined._children }) c.in-Joined.loader c.in-Joined.key c.args.group _ h refl (λ levels row. refl))
+    (λ plan gs h. load-asking-over plan gs (record { next = Joined (map step_of (arc_value c.in-Joined._steps).items); children = children_in c.in-Joined._children }) c.in-Joined.loader c.in-Joined.key c.args.group _ h refl refl (λ levels row. refl))

@@ -9,14 +9,14 @@ use Rattle.plan_walk.proofs.loading_fields.asks_of.Goals as goal
 pub returns-in_ok-group-in-First : goal.returns-in_ok-group-in-First
 returns-in_ok-group-in-First c =
     rw c.in-First.is
-    (load-asking c.args.groups.now.items c.new_loading_field.new.groups.items First (children_in c.in-First.children) c.in-First.loader c.in-First.key c.in_ok-group-in-First.group _ c.in_ok-group-in-First.ensures refl (λ plan levels row. refl))
+    (load-asking c.args.groups.now.items c.new_loading_field.new.groups.items First (children_in c.in-First.children) c.in-First.loader c.in-First.key c.in_ok-group-in-First.group _ c.in_ok-group-in-First.ensures refl refl (λ plan levels row. refl))
 
 pub returns-in_ok-group-in-All : goal.returns-in_ok-group-in-All
 returns-in_ok-group-in-All c =
     rw c.in-All.is
-    (load-asking c.args.groups.now.items c.new_loading_field-in-All.new.groups.items Each (children_in c.in-All.children) c.in-All.loader c.in-All.key c.in_ok-group-in-All.group _ c.in_ok-group-in-All.ensures refl (λ plan levels row. refl))
+    (load-asking c.args.groups.now.items c.new_loading_field-in-All.new.groups.items Each (children_in c.in-All.children) c.in-All.loader c.in-All.key c.in_ok-group-in-All.group _ c.in_ok-group-in-All.ensures refl refl (λ plan levels row. refl))
 
 pub returns-in_ok-group-in-Joined : goal.returns-in_ok-group-in-Joined
 returns-in_ok-group-in-Joined c =
     rw c.in-Joined.is
-    (load-asking c.args.groups.now.items c.new_loading_field-in-Joined.new.groups.items (Joined (map step_of (arc_value c.in-Joined.steps).items)) (children_in c.in-Joined.children) c.in-Joined.loader c.in-Joined.key c.in_ok-group-in-Joined.group _ c.in_ok-group-in-Joined.ensures refl (λ plan levels row. refl))
+    (load-asking c.args.groups.now.items c.new_loading_field-in-Joined.new.groups.items (Joined (map step_of (arc_value c.in-Joined.steps).items)) (children_in c.in-Joined.children) c.in-Joined.loader c.in-Joined.key c.in_ok-group-in-Joined.group _ c.in_ok-group-in-Joined.ensures refl refl (λ plan levels row. refl))
