@@ -10,12 +10,10 @@ pub mod Reusing
 pub mod Polling
 pub mod BuildingLevels
 pub mod BuildingTrees
-pub mod Faulting
 pub mod Texting
 pub mod Sizes
-pub mod FaultingLevels
-pub mod Bounding
-pub mod Holding
+pub mod Rooms
+pub mod Completing
 pub mod Limiting
 pub mod KeyByKey
 pub mod ReadingOn

@@ -12,16 +12,20 @@ use Rattle.json.specs.Tree.{json_tokens, items_tokens, members_tokens}
 use Rattle.execution.specs.Program.{Part, Key, Item}
 use Rattle.execution.specs.Completion.{ErrorOf, AnsweredOf}
 use Rattle.gq_resolve.specs.Answered.{json_of, path_json, error_json, errors_json, errors_before, answered_json, answer_text}
-use Rattle.gq_resolve.specs.Bounded.{error_size, errors_size}
-use Rattle.gq_resolve.specs.Texted.{bytes_of}
+use Rattle.gq_resolve.specs.Texted.{error_size}
 
 -- ---- texts of tokens
 
-pub bytes-append : (ts us : List Token) → bytes_of (ts ++ us) ≡ bytes_of ts + bytes_of us
+-- the bytes of tokens, without commas
+abbrev bytes_of : List Token → ℕ
+bytes_of [] = 0
+bytes_of (t ∷ ts) = length (token_text t) + bytes_of ts
+
+bytes-append : (ts us : List Token) → bytes_of (ts ++ us) ≡ bytes_of ts + bytes_of us
 bytes-append [] us = omega arith
 bytes-append (t ∷ ts) us = omega (arith, bytes-append ts us)
 
-pub printed : (c : Bool) (ts : List Token) → bytes_of ts ≤ length (print_from c ts)
+printed : (c : Bool) (ts : List Token) → bytes_of ts ≤ length (print_from c ts)
 unfolding print_from
 printed c [] = omega arith
 printed c (t ∷ ts) = omega (arith, length-append (separator c t) (token_text t ++ print_from (ends t) ts), length-append (token_text t) (print_from (ends t) ts), printed (ends t) ts)
@@ -87,6 +91,10 @@ some-number (pos n) = some-decimal n
 some-number (negsuc n) = omega arith
 
 -- ---- errors
+
+abbrev pub errors_size : List ErrorOf → ℕ
+errors_size [] = 0
+errors_size (e ∷ es) = error_size e + errors_size es
 
 path-sure : (path : List Part) → length path ≤ bytes_of (items_tokens (path_json path))
 path-sure [] = omega arith

@@ -1,170 +1,185 @@
--- What is written of a program, where its nulls are known, is the text of its answer.
-use Rattle.std.proofs.Common.{◌≡◌, ◌≤◌, ◌+◌, ℕ, suc, Bool, true, false, List, [], ◌∷◌, ◌++◌, sym, ◌∙◌, ap, subst, refl, arith, append_assoc, append-nil, if◌then◌else◌, Some, None, decimal}
-use Rattle.std.proofs.lemmas.Bool.{or_parts, ne_eqb, eq-eqb}
-use Rattle.json.specs.Token.{Token, begin_array, begin_object, key, null}
+-- What is written of a program is the text of its answer, and its errors.
+use Rattle.std.proofs.Common.{◌≡◌, ℕ, Bool, true, false, ◌||◌, ◌&&◌, List, [], ◌∷◌, ◌++◌, take, length, sym, ◌∙◌, ap, subst, refl, append_assoc, append-nil, if◌then◌else◌, Option, Some, None}
+use Rattle.std.proofs.Math.Bool.{and-true, and-false}
+use Rattle.std.proofs.lemmas.Bool.{or_parts}
+use Rattle.std.proofs.lemmas.List.{take_at}
+use Rattle.json.specs.Token.{Token, null}
 use Rattle.json.specs.Tree.{json_tokens, items_tokens, members_tokens}
+use Rattle.json.specs.Print.{ends}
+use Rattle.text_place.specs.declared.place.Place.{Place}
 use Rattle.execution.specs.Loads.{Reader}
-use Rattle.execution.specs.Program.{Value, Null, Fault, Text, Int, Boolean, Kind, ListOf, ObjectOf, Part, Key, Item, Program, Is, Read, Under, Programs, End, With, Tree, Open, At, Over, Trees, NoMore, And, given, tree, trees}
-use Rattle.execution.specs.Completion.{ResponseOf, NullResponse, Holding, ResponsesOf, NoResponses, Responding, is_open, any_open}
-use Rattle.execution.specs.Executed.{pulls_down, response, responses}
+use Rattle.execution.specs.Program.{LeafValue, Value, Null, Fault, Text, Int, Boolean, Kind, ListOf, ObjectOf, Part, Key, Item, Program, Is, Read, Under, Programs, End, With, Tree, Open, At, Trees, given, tree, trees}
+use Rattle.execution.specs.Completion.{ErrorOf, ResponseOf, NullResponse, Holding, ResponsesOf, NoResponses, Responding, is_open, any_open}
+use Rattle.execution.specs.Executed.{nulls, pulls_down, response, responses, errors, all_errors, completed}
 use Rattle.gq_resolve.specs.Answered.{json_of, items_json, members_json}
-use Rattle.plan_walk.specs.Puts.{Put, Begins, Ends, Waits, puts, all_puts}
+use Rattle.plan_walk.specs.Puts.{Put, Ends, Waits, puts, all_puts}
 use Rattle.gq_resolve.specs.Written.{opening, closing, part_tokens}
-use Rattle.gq_resolve.specs.Faulted.{kept, kept_below, nulls_from, nulls_below}
-use Rattle.gq_resolve.specs.Texted.{TextOf, is_next, begun_as, texted_all, texted-append}
+use Rattle.gq_resolve.specs.Texted.{TextOf, ErrorsOf, OpenOf, WrittenOf, room_after, text_put, piece, with_token, with_tokens, text_after, text_with, with_error, with_errors, leaf_token, pulls, nulled, closed, left, put_all, put_all-append, nothing_written}
 
--- ---- the numbers of nulls
+-- ---- texts and errors, one after another
 
--- each is this number or more
-abbrev AtLeast : ℕ → List ℕ → Type 0
-AtLeast n [] = Unit {0}
-AtLeast n (k ∷ ks) = (n ≤ k) × AtLeast n ks
+tokens-append : (ts us : List Token) (x : TextOf) → with_tokens (ts ++ us) x ≡ with_tokens us (with_tokens ts x)
+tokens-append [] us x = refl
+tokens-append (t ∷ ts) us x = tokens-append ts us (with_token t x)
 
-least-append : (n : ℕ) (ks ls : List ℕ) → AtLeast n ks → AtLeast n ls → AtLeast n (ks ++ ls)
-least-append n [] ls h g = g
-least-append n (k ∷ ks) ls h g = (h.0, least-append n ks ls h.1 g)
+errors-append : (es fs : List ErrorOf) (k : ErrorsOf) → with_errors (es ++ fs) k ≡ with_errors fs (with_errors es k)
+errors-append [] fs k = refl
+errors-append (e ∷ es) fs k = errors-append es fs (with_error e k)
 
-least-more : (m n : ℕ) (ks : List ℕ) → m ≤ n → AtLeast n ks → AtLeast m ks
-least-more m n [] le h = tt
-least-more m n (k ∷ ks) le h = (omega (arith, h.0, le), least-more m n ks le h.1)
+put-after : (left : Option ℕ) (bytes : List ℕ) (ended : Bool) (before x : TextOf) → text_put left bytes ended (text_after before x) ≡ text_after before (text_put left bytes ended x)
+put-after None bytes ended before x = refl
+put-after (Some n) bytes ended before x = ap (λ (bs : List ℕ). record { bytes = bs; after_value = ended; room = Some n }) (append_assoc before.bytes x.bytes bytes)
 
--- those that come are of what begins later
-later-next : (n : ℕ) (ks : List ℕ) → AtLeast (suc n) ks → is_next ks n ≡ false
-later-next n [] h = refl
-later-next n (k ∷ ks) h = ne_eqb k n (λ e. go k n h.0 e)
-  where
-    go : (k n : ℕ) → suc n ≤ k → k ≡ n → ⊥
-    go k n le e = omega (arith, le, e)
+-- tokens are written alike, whatever stands before them
+tokens-after : (ts : List Token) (before x : TextOf) → with_tokens ts (text_after before x) ≡ text_after before (with_tokens ts x)
+tokens-after [] before x = refl
+tokens-after (t ∷ ts) before x =
+    ap (with_tokens ts) (put-after (room_after x.room (length (piece x.after_value t))) (piece x.after_value t) (ends t) before x) ∙ tokens-after ts before (with_token t x)
 
-level-least : (pulled : Bool) (n : ℕ) (below : Trees) → AtLeast (suc n) (nulls_below (suc n) below) → AtLeast n (if pulled then n ∷ [] else nulls_below (suc n) below)
-level-least true n below h = (omega arith, tt)
-level-least false n below h = least-more n (suc n) (nulls_below (suc n) below) (omega arith) h
+-- ---- positions
 
-mutual
-  from-least : (n : ℕ) (t : Tree) → AtLeast n (nulls_from n t)
-  from-least n Open = tt
-  from-least n (At own) = tt
-  from-least n (Over kind below) = level-least (pulls_down below) n below (below-least (suc n) below)
+-- a position was put: its errors are there, it pulls down what is around it or not, and its tokens are written unless they are muted
+record Settles (es : List ErrorOf) (down : Bool) (ts : List Token) (old new : WrittenOf) : Type 0 where
+  pub state : new ≡ record old { muted = old.muted || down; text = new.text; found = with_errors es old.found }
+  pub whole : (old.muted || down) ≡ false → new.text ≡ with_tokens ts old.text
 
-  below-least : (n : ℕ) (ts : Trees) → AtLeast n (nulls_below n ts)
-  below-least n NoMore = tt
-  below-least n (And position t rest) =
-      least-append n (nulls_from n t) (nulls_below (n + kept t) rest) (from-least n t) (least-more n (n + kept t) (nulls_below (n + kept t) rest) (omega arith) (below-least (n + kept t) rest))
-
--- ---- what is in a null
-
-abbrev text_at : List Token → ℕ → List ℕ → ℕ → TextOf
-text_at ts count ns skipped = record { tokens = ts; count = count; nulls = ns; skipped = skipped }
-
-mutual
-  skip-program : (p : Program) (R : Reader) (non_null : Bool) (ts : List Token) (count : ℕ) (ns : List ℕ) (n : ℕ) → texted_all (puts non_null p R) (text_at ts count ns (suc n)) ≡ text_at ts count ns (suc n)
-  skip-program (Is leaf_value) R non_null ts count ns n = refl
-  skip-program (Read load next) R non_null ts count ns n =
-      elim (R load) as (λ o. texted_all (given o (Waits (Read load next) ∷ []) (λ outcome. puts non_null (next outcome) R)) (text_at ts count ns (suc n)) ≡ text_at ts count ns (suc n)) [
-        | None ↦ refl
-        | Some outcome ↦ skip-program (next outcome) R non_null ts count ns n
-      ]
-  skip-program (Under kind below) R non_null ts count ns n =
-      texted-append (all_puts kind below R) (Ends kind ∷ []) (text_at ts count ns (suc (suc n))) ∙ ap (texted_all (Ends kind ∷ [])) (skip-programs below R kind ts count ns (suc n))
-
-  skip-programs : (ps : Programs) (R : Reader) (kind : Kind) (ts : List Token) (count : ℕ) (ns : List ℕ) (n : ℕ) → texted_all (all_puts kind ps R) (text_at ts count ns (suc n)) ≡ text_at ts count ns (suc n)
-  skip-programs End R kind ts count ns n = refl
-  skip-programs (With position p rest) R kind ts count ns n =
-      texted-append (puts position.non_null p R) (all_puts kind rest R) (text_at ts count ns (suc n))
-      ∙ ap (texted_all (all_puts kind rest R)) (skip-program p R position.non_null ts count ns n) ∙ skip-programs rest R kind ts count ns n
-
--- up to its end
-skip-level : (ps : Programs) (R : Reader) (kind : Kind) (ts : List Token) (count : ℕ) (ns : List ℕ) → texted_all (all_puts kind ps R ++ Ends kind ∷ []) (text_at ts count ns 1) ≡ text_at ts count ns 0
-skip-level ps R kind ts count ns = texted-append (all_puts kind ps R) (Ends kind ∷ []) (text_at ts count ns 1) ∙ ap (texted_all (Ends kind ∷ [])) (skip-programs ps R kind ts count ns 0)
-
--- ---- what is written
+-- an object or a list has ended, inside these
+abbrev shut : Bool → OpenOf → List OpenOf → List Part → TextOf → ErrorsOf → WrittenOf
+shut pulled l ls path x found = record {
+  levels = ls;
+  path = path;
+  non_null = l.non_null;
+  place = l.place;
+  muted = pulled && (l.muted || l.non_null);
+  text = if pulled then text_with (l.muted || l.non_null) (null ∷ []) l.before else text_after l.before x;
+  found = found;
+}
 
 abbrev kind_tokens : Kind → ResponsesOf → List Token
 kind_tokens ListOf rs = items_tokens (items_json rs)
 kind_tokens ObjectOf rs = members_tokens (members_json rs)
 
-kind-more : (kind : Kind) (part : Part) (r : ResponseOf) (rs : ResponsesOf) (ts : List Token) → ((ts ++ part_tokens kind part) ++ json_tokens (json_of r)) ++ kind_tokens kind rs ≡ ts ++ kind_tokens kind (Responding part r rs)
-kind-more ListOf part r rs ts = rw (append-nil ts) (append_assoc ts (json_tokens (json_of r)) (kind_tokens ListOf rs))
-kind-more ObjectOf (Key k) r rs ts = rw (append_assoc ts (key k ∷ []) (json_tokens (json_of r))) (append_assoc ts (key k ∷ json_tokens (json_of r)) (kind_tokens ObjectOf rs))
-kind-more ObjectOf (Item n) r rs ts = rw (append_assoc ts (key (decimal n) ∷ []) (json_tokens (json_of r))) (append_assoc ts (key (decimal n) ∷ json_tokens (json_of r)) (kind_tokens ObjectOf rs))
+kind-more : (kind : Kind) (part : Part) (r : ResponseOf) (rs : ResponsesOf) → kind_tokens kind (Responding part r rs) ≡ part_tokens kind part ++ (json_tokens (json_of r) ++ kind_tokens kind rs)
+kind-more ListOf part r rs = refl
+kind-more ObjectOf (Key k) r rs = refl
+kind-more ObjectOf (Item n) r rs = refl
 
-kind-none : (kind : Kind) (ts : List Token) → ts ++ closing kind ∷ [] ≡ ts ++ kind_tokens kind NoResponses
-kind-none ListOf ts = refl
-kind-none ObjectOf ts = refl
+kind-whole : (kind : Kind) (rs : ResponsesOf) → json_tokens (json_of (Holding kind rs)) ≡ opening kind ∷ kind_tokens kind rs
+kind-whole ListOf rs = refl
+kind-whole ObjectOf rs = refl
 
-kind-whole : (kind : Kind) (rs : ResponsesOf) (ts : List Token) → (ts ++ opening kind ∷ []) ++ kind_tokens kind rs ≡ ts ++ json_tokens (json_of (Holding kind rs))
-kind-whole ListOf rs ts = append_assoc ts (begin_array ∷ []) (kind_tokens ListOf rs)
-kind-whole ObjectOf rs ts = append_assoc ts (begin_object ∷ []) (kind_tokens ObjectOf rs)
+kind-none : (kind : Kind) → kind_tokens kind NoResponses ≡ closing kind ∷ []
+kind-none ListOf = refl
+kind-none ObjectOf = refl
 
--- a position without others below it
-leaf-written : (ts : List Token) (count : ℕ) (ns : List ℕ) → text_at ts count ns 0 ≡ text_at ts (count + 0) ns 0
-leaf-written ts count ns = let e : count + 0 ≡ count = omega arith in rw e refl
+-- no position more was put
+ended-last : (muted : Bool) (kind : Kind) (l : OpenOf) (ls : List OpenOf) (path base : List Part) (non_null : Bool) (place : Place) (x : TextOf) (found : ErrorsOf) → take l.depth path ≡ base
+    → (if muted then nulled l.muted l.before (left l ls (record { levels = l ∷ ls; path = path; non_null = non_null; place = place; muted = muted; text = x; found = found }))
+    else closed kind l.before (left l ls (record { levels = l ∷ ls; path = path; non_null = non_null; place = place; muted = muted; text = x; found = found })))
+    ≡ shut (muted || false) l ls base (with_tokens (kind_tokens kind NoResponses) x) found
+ended-last true kind l ls path base non_null place x found p = rw p refl
+ended-last false kind l ls path base non_null place x found p = rw (p, kind-none kind) refl
 
--- an object or a list that is null, or not
-level-written : (pulled : Bool) (below : Programs) (R : Reader) (kind : Kind) (ts : List Token) (count : ℕ) (later : List ℕ) → AtLeast (count + (if pulled then 0 else suc (kept_below (trees below R)))) later
-    → (AtLeast (suc count + kept_below (trees below R)) later
-    → texted_all (all_puts kind below R ++ Ends kind ∷ []) (text_at (ts ++ opening kind ∷ []) (suc count) (nulls_below (suc count) (trees below R) ++ later) 0)
-    ≡ text_at ((ts ++ opening kind ∷ []) ++ kind_tokens kind (responses (trees below R))) (suc count + kept_below (trees below R)) later 0)
-    → texted_all (Begins kind ∷ (all_puts kind below R ++ Ends kind ∷ [])) (text_at ts count ((if pulled then count ∷ [] else nulls_below (suc count) (trees below R)) ++ later) 0)
-    ≡ text_at (ts ++ json_tokens (json_of (if pulled then NullResponse else Holding kind (responses (trees below R))))) (count + (if pulled then 0 else suc (kept_below (trees below R)))) later 0
-level-written true below R kind ts count later l whole =
-    ap (λ (b : Bool). texted_all (all_puts kind below R ++ Ends kind ∷ []) (begun_as b kind (text_at ts count (count ∷ later) 0))) (eq-eqb count count refl) ∙ skip-level below R kind (ts ++ null ∷ []) count later ∙ leaf-written (ts ++ null ∷ []) count later
-level-written false below R kind ts count later l whole =
-    let all : Trees = trees below R in
-    let ns : List ℕ = nulls_below (suc count) all ++ later in
-    let sum : suc count + kept_below all ≡ count + suc (kept_below all) = omega arith in
-    let last : AtLeast (suc count + kept_below all) later = subst (λ (n : ℕ). AtLeast n later) (sym sum) l in
-    let least : AtLeast (suc count) ns = least-append (suc count) (nulls_below (suc count) all) later (below-least (suc count) all) (least-more (suc count) (suc count + kept_below all) later (omega arith) last) in
-    ap (λ (b : Bool). texted_all (all_puts kind below R ++ Ends kind ∷ []) (begun_as b kind (text_at ts count ns 0))) (later-next count ns least)
-    ∙ whole last
-    ∙ ap (λ (us : List Token). text_at us (suc count + kept_below all) later 0) (kind-whole kind (responses all) ts)
-    ∙ ap (λ (n : ℕ). text_at (ts ++ json_tokens (json_of (Holding kind (responses all)))) n later 0) sum
+-- one position was put, and then those after it
+level-more : (muted down rest : Bool) (l : OpenOf) (ls : List OpenOf) (base : List Part) (x y : TextOf) (kind : Kind) (part : Part) (r : ResponseOf) (rs : ResponsesOf) (es fs : List ErrorOf) (found : ErrorsOf)
+    → ((muted || down) ≡ false → y ≡ with_tokens (json_tokens (json_of r)) (text_with muted (part_tokens kind part) x))
+    → shut ((muted || down) || rest) l ls base (with_tokens (kind_tokens kind rs) y) (with_errors fs (with_errors es found))
+    ≡ shut (muted || (down || rest)) l ls base (with_tokens (kind_tokens kind (Responding part r rs)) x) (with_errors (es ++ fs) found)
+level-more true down rest l ls base x y kind part r rs es fs found h = rw (errors-append es fs found) refl
+level-more false true rest l ls base x y kind part r rs es fs found h = rw (errors-append es fs found) refl
+level-more false false true l ls base x y kind part r rs es fs found h = rw (errors-append es fs found) refl
+level-more false false false l ls base x y kind part r rs es fs found h =
+    let first : List Token = json_tokens (json_of r) in
+    let text : with_tokens (kind_tokens kind rs) y ≡ with_tokens (kind_tokens kind (Responding part r rs)) x =
+    ap (with_tokens (kind_tokens kind rs)) (h refl)
+    ∙ sym (tokens-append first (kind_tokens kind rs) (with_tokens (part_tokens kind part) x))
+    ∙ sym (tokens-append (part_tokens kind part) (first ++ kind_tokens kind rs) x)
+    ∙ ap (λ (ts : List Token). with_tokens ts x) (sym (kind-more kind part r rs)) in
+    rw (errors-append es fs found, text) refl
+
+text-whole : (x : TextOf) (kind : Kind) (rs : ResponsesOf) → text_after x (with_tokens (kind_tokens kind rs) (with_tokens (opening kind ∷ []) (record x { bytes = [] }))) ≡ with_tokens (json_tokens (json_of (Holding kind rs))) x
+text-whole x kind rs = rw (kind-whole kind rs) (sym (tokens-after (opening kind ∷ kind_tokens kind rs) x (record x { bytes = [] }))
+    ∙ ap (λ (bs : List ℕ). with_tokens (opening kind ∷ kind_tokens kind rs) (record x { bytes = bs })) (append-nil x.bytes))
+
+-- it was all of this object or list
+level-settled : (muted non_null pulled : Bool) (levels : List OpenOf) (path : List Part) (place : Place) (x : TextOf) (found : ErrorsOf) (es : List ErrorOf) (kind : Kind) (rs : ResponsesOf)
+    → Settles es (non_null && pulled) (json_tokens (json_of (if pulled then NullResponse else Holding kind rs))) (record { levels = levels; path = path; non_null = non_null; place = place; muted = muted; text = x; found = found })
+    (shut (muted || pulled) (record { depth = length path; non_null = non_null; place = place; muted = muted; before = x }) levels path
+    (with_tokens (kind_tokens kind rs) (text_with muted (opening kind ∷ []) (record x { bytes = [] }))) (with_errors es found))
+level-settled true non_null pulled levels path place x found es kind rs = record { state = refl; whole = λ h. absurd (cc h) }
+level-settled false true true levels path place x found es kind rs = record { state = refl; whole = λ h. absurd (cc h) }
+level-settled false false true levels path place x found es kind rs = record { state = refl; whole = λ h. refl }
+level-settled false true false levels path place x found es kind rs = record { state = refl; whole = λ h. text-whole x kind rs }
+level-settled false false false levels path place x found es kind rs = record { state = refl; whole = λ h. text-whole x kind rs }
+
+leaf-pulls : (non_null : Bool) (leaf_value : LeafValue) → pulls non_null leaf_value ≡ (non_null && nulls (At leaf_value))
+leaf-pulls non_null (Value leaf) = sym (and-false non_null)
+leaf-pulls non_null Null = sym (and-true non_null)
+leaf-pulls non_null (Fault text) = sym (and-true non_null)
+
+leaf-tokens : (leaf_value : LeafValue) → json_tokens (json_of (response (At leaf_value))) ≡ leaf_token leaf_value ∷ []
+leaf-tokens (Value (Text text)) = refl
+leaf-tokens (Value (Int z)) = refl
+leaf-tokens (Value (Boolean b)) = refl
+leaf-tokens Null = refl
+leaf-tokens (Fault text) = refl
+
+leaf-settled : (muted : Bool) (ts : List Token) (x : TextOf) → muted ≡ false → text_with muted ts x ≡ with_tokens ts x
+leaf-settled true ts x h = absurd (cc h)
+leaf-settled false ts x h = refl
 
 mutual
-  write-program : (p : Program) (R : Reader) (non_null : Bool) (ts : List Token) (count : ℕ) (later : List ℕ) → is_open (tree p R) ≡ false → AtLeast (count + kept (tree p R)) later
-      → texted_all (puts non_null p R) (text_at ts count (nulls_from count (tree p R) ++ later) 0) ≡ text_at (ts ++ json_tokens (json_of (response (tree p R)))) (count + kept (tree p R)) later 0
-  write-program (Is (Value (Text text))) R non_null ts count later h l = leaf-written (ts ++ json_tokens (json_of (response (At (Value (Text text)))))) count later
-  write-program (Is (Value (Int z))) R non_null ts count later h l = leaf-written (ts ++ json_tokens (json_of (response (At (Value (Int z)))))) count later
-  write-program (Is (Value (Boolean b))) R non_null ts count later h l = leaf-written (ts ++ json_tokens (json_of (response (At (Value (Boolean b)))))) count later
-  write-program (Is Null) R non_null ts count later h l = leaf-written (ts ++ null ∷ []) count later
-  write-program (Is (Fault text)) R non_null ts count later h l = leaf-written (ts ++ null ∷ []) count later
-  write-program (Read load next) R non_null ts count later h l =
-      elim (R load) as (λ o. is_open (given o Open (λ outcome. tree (next outcome) R)) ≡ false → AtLeast (count + kept (given o Open (λ outcome. tree (next outcome) R))) later
-      → texted_all (given o (Waits (Read load next) ∷ []) (λ outcome. puts non_null (next outcome) R)) (text_at ts count (nulls_from count (given o Open (λ outcome. tree (next outcome) R)) ++ later) 0)
-      ≡ text_at (ts ++ json_tokens (json_of (response (given o Open (λ outcome. tree (next outcome) R))))) (count + kept (given o Open (λ outcome. tree (next outcome) R))) later 0) [
-        | None ↦ λ shut. absurd (cc shut)
-        | Some outcome ↦ λ shut. write-program (next outcome) R non_null ts count later shut
-      ] h l
-  write-program (Under kind below) R non_null ts count later h l =
-      level-written (pulls_down (trees below R)) below R kind ts count later l (write-programs below R kind (ts ++ opening kind ∷ []) (suc count) later h)
+  settles : (p : Program) (R : Reader) (w : WrittenOf) → is_open (tree p R) ≡ false
+      → Settles (errors w.non_null w.place w.path (tree p R)) (w.non_null && nulls (tree p R)) (json_tokens (json_of (response (tree p R)))) w (put_all (puts w.non_null p R) w)
+  settles (Is leaf_value) R w h =
+      let es : List ErrorOf = errors w.non_null w.place w.path (At leaf_value) in
+      rw (sym (leaf-pulls w.non_null leaf_value), leaf-tokens leaf_value) (record { state = refl; whole = λ none. leaf-settled (w.muted || pulls w.non_null leaf_value) (leaf_token leaf_value ∷ []) w.text none })
+  settles (Read load next) R w h =
+      elim (R load) as (λ o. is_open (given o Open (λ outcome. tree (next outcome) R)) ≡ false
+      → Settles (errors w.non_null w.place w.path (given o Open (λ outcome. tree (next outcome) R))) (w.non_null && nulls (given o Open (λ outcome. tree (next outcome) R)))
+      (json_tokens (json_of (response (given o Open (λ outcome. tree (next outcome) R))))) w
+      (put_all (given o (Waits (Read load next) ∷ []) (λ outcome. puts w.non_null (next outcome) R)) w)) [
+        | None ↦ λ closed. absurd (cc closed)
+        | Some outcome ↦ λ closed. settles (next outcome) R w closed
+      ] h
+  settles (Under kind below) R w h =
+      let l : OpenOf = record { depth = length w.path; non_null = w.non_null; place = w.place; muted = w.muted; before = w.text } in
+      let ts : Trees = trees below R in
+      let es : List ErrorOf = all_errors w.path ts in
+      subst (λ (new : WrittenOf). Settles es (w.non_null && pulls_down ts) (json_tokens (json_of (if pulls_down ts then NullResponse else Holding kind (responses ts)))) w new)
+      (sym (shuts below R kind l w.levels w.path w.path [] w.non_null w.place w.muted (text_with w.muted (opening kind ∷ []) (record w.text { bytes = [] })) w.found (sym (append-nil w.path)) refl h))
+      (level-settled w.muted w.non_null (pulls_down ts) w.levels w.path w.place w.text w.found es kind (responses ts))
 
-  write-programs : (ps : Programs) (R : Reader) (kind : Kind) (ts : List Token) (count : ℕ) (later : List ℕ) → any_open (trees ps R) ≡ false → AtLeast (count + kept_below (trees ps R)) later
-      → texted_all (all_puts kind ps R ++ Ends kind ∷ []) (text_at ts count (nulls_below count (trees ps R) ++ later) 0) ≡ text_at (ts ++ kind_tokens kind (responses (trees ps R))) (count + kept_below (trees ps R)) later 0
-  write-programs End R kind ts count later h l = ap (λ (us : List Token). text_at us count later 0) (kind-none kind ts) ∙ leaf-written (ts ++ kind_tokens kind NoResponses) count later
-  write-programs (With position p rest) R kind ts count later h l =
-      let t : Tree = tree p R in
-      let all : Trees = trees rest R in
-      let first : List Put = puts position.non_null p R in
+  shuts : (ps : Programs) (R : Reader) (kind : Kind) (l : OpenOf) (ls : List OpenOf) (path base extra : List Part) (non_null : Bool) (place : Place) (muted : Bool) (x : TextOf) (found : ErrorsOf)
+      → path ≡ base ++ extra → length base ≡ l.depth → any_open (trees ps R) ≡ false
+      → put_all (all_puts kind ps R ++ Ends kind ∷ []) (record { levels = l ∷ ls; path = path; non_null = non_null; place = place; muted = muted; text = x; found = found })
+      ≡ shut (muted || pulls_down (trees ps R)) l ls base (with_tokens (kind_tokens kind (responses (trees ps R))) x) (with_errors (all_errors base (trees ps R)) found)
+  shuts End R kind l ls path base extra non_null place muted x found p d h =
+      ended-last muted kind l ls path base non_null place x found (ap (take l.depth) p ∙ take_at base extra l.depth d)
+  shuts (With position q rest) R kind l ls path base extra non_null place muted x found p d h =
+      let t : Tree = tree q R in
+      let ts : Trees = trees rest R in
+      let y : TextOf = text_with muted (part_tokens kind position.part) x in
+      let at : List Part → WrittenOf = λ (steps : List Part). record { levels = l ∷ ls; path = steps; non_null = position.non_null; place = position.place; muted = muted; text = y; found = found } in
+      let steps : List Part = base ++ position.part ∷ [] in
+      let first : List Put = puts position.non_null q R in
       let others : List Put = all_puts kind rest R in
       let end : List Put = Ends kind ∷ [] in
-      let ts' : List Token = ts ++ part_tokens kind position.part in
-      let ts'' : List Token = ts' ++ json_tokens (json_of (response t)) in
-      let ns : List ℕ = nulls_below (count + kept t) all ++ later in
-      let open_none : (is_open t ≡ false) × (any_open all ≡ false) = or_parts (is_open t) (any_open all) h in
-      let sum : (count + kept t) + kept_below all ≡ count + (kept t + kept_below all) = omega arith in
-      let last : AtLeast ((count + kept t) + kept_below all) later = subst (λ (n : ℕ). AtLeast n later) (sym sum) l in
-      let least : AtLeast (count + kept t) ns = least-append (count + kept t) (nulls_below (count + kept t) all) later (below-least (count + kept t) all) (least-more (count + kept t) ((count + kept t) + kept_below all) later (omega arith) last) in
-      ap (λ (xs : List Put). texted_all xs (text_at ts' count ((nulls_from count t ++ nulls_below (count + kept t) all) ++ later) 0)) (append_assoc first others end)
-      ∙ texted-append first (others ++ end) (text_at ts' count ((nulls_from count t ++ nulls_below (count + kept t) all) ++ later) 0)
-      ∙ ap (λ (ms : List ℕ). texted_all (others ++ end) (texted_all first (text_at ts' count ms 0))) (append_assoc (nulls_from count t) (nulls_below (count + kept t) all) later)
-      ∙ ap (texted_all (others ++ end)) (write-program p R position.non_null ts' count ns open_none.0 least)
-      ∙ write-programs rest R kind ts'' (count + kept t) later open_none.1 last
-      ∙ ap (λ (us : List Token). text_at us ((count + kept t) + kept_below all) later 0) (kind-more kind position.part (response t) (responses all) ts)
-      ∙ ap (λ (n : ℕ). text_at (ts ++ kind_tokens kind (Responding position.part (response t) (responses all))) n later 0) sum
+      let open_none : (is_open t ≡ false) × (any_open ts ≡ false) = or_parts (is_open t) (any_open ts) h in
+      let one = settles q R (at steps) open_none.0 in
+      let z : TextOf = (put_all first (at steps)).text in
+      ap (λ (start : List Part). put_all ((first ++ others) ++ end) (at (start ++ position.part ∷ []))) (ap (take l.depth) p ∙ take_at base extra l.depth d)
+      ∙ ap (λ xs. put_all xs (at steps)) (append_assoc first others end)
+      ∙ put_all-append first (others ++ end) (at steps)
+      ∙ ap (put_all (others ++ end)) one.state
+      ∙ shuts rest R kind l ls steps base (position.part ∷ []) position.non_null position.place (muted || (position.non_null && nulls t)) z
+      (with_errors (errors position.non_null position.place steps t) found) refl d open_none.1
+      ∙ level-more muted (position.non_null && nulls t) (pulls_down ts) l ls base x z kind position.part (response t) (responses ts) (errors position.non_null position.place steps t) (all_errors base ts) found one.whole
 
--- the tokens of a whole program, where the numbers of its nulls are known
-pub text-whole : (p : Program) (R : Reader) (ts : List Token) → is_open (tree p R) ≡ false
-    → (texted_all (puts false p R) (text_at ts 0 (nulls_from 0 (tree p R)) 0)).tokens ≡ ts ++ json_tokens (json_of (response (tree p R)))
-text-whole p R ts h =
-    ap (λ (ns : List ℕ). (texted_all (puts false p R) (text_at ts 0 ns 0)).tokens) (sym (append-nil (nulls_from 0 (tree p R))))
-    ∙ ap (λ (t : TextOf). t.tokens) (write-program p R false ts 0 [] h tt)
+-- of a whole program: its text, and its errors
+pub whole-settled : (p : Program) (R : Reader) (most : ℕ) → is_open (tree p R) ≡ false
+    → ((put_all (puts false p R) (nothing_written most)).text ≡ with_tokens (json_tokens (json_of (response (tree p R)))) (nothing_written most).text)
+    × ((put_all (puts false p R) (nothing_written most)).found ≡ with_errors (completed (tree p R)).errors (nothing_written most).found)
+whole-settled p R most h =
+    let one = settles p R (nothing_written most) h in
+    (one.whole refl, ap (λ (w : WrittenOf). w.found) one.state)

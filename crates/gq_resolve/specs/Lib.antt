@@ -6,10 +6,8 @@ pub mod Composing
 pub mod Suspended
 pub mod PreparedPlans
 pub mod Built
-pub mod Faulted
 pub mod Texted
 pub mod Limited
-pub mod Bounded
 pub mod Within
 pub mod Counting
 pub mod KeyByKey

@@ -1,159 +1,179 @@
-//! The errors of an answer whose text may be too long.
+//! Texts and errors, of which no more is kept than an answer of a limit has room for.
 
-ghost use Rattle.std.specs.Prelude.{◌≡◌, ◌∷◌, [], OnOk};
-ghost use Rattle.plan_program.specs.Prepared.{leaf_value_seen};
-ghost use Rattle.plan_walk.specs.Puts.{Has};
-ghost use Rattle.plan_walk.specs.Positions.{is_non_null};
-ghost use Rattle.gq_resolve.specs.Faulted.{no_faults};
-ghost use Rattle.gq_resolve.specs.Bounded.{Holds, HoldsPuts, AreErrorBytes, FindsAll};
+ghost use Rattle.std.specs.Prelude.{◌≡◌, ℕ, [], IfOk, OnOk, IfSome, IfNone, Some, None, false, map};
+ghost use Rattle.json.specs.Token.{Token};
+ghost use Rattle.gq_resolve.specs.Answered.{part_of, errors_of};
+ghost use Rattle.gq_resolve.specs.Texted.{room_after, text_after, text_of, IsTokenText, with_token, error_at, with_error, errors_kept};
 
-use crate::faults::Faults;
-use load_memory::KeyRef;
-use plan_program::LeafValue;
-use plan_walk::cells::cell_value;
-use plan_walk::positions::{FieldPosition, Items, Leaf, Nullability, Onward, PositionKind};
-use plan_walk::sink::Sink;
+use crate::output::FIRST_ROOM;
+use answer_json::{FieldError, PathSegment};
+use gq_lexer::Place;
 use std::alloc::{AllocError, Global};
+use std::mem;
 
-/// Errors, of which no more are kept than an answer of `most` bytes needs.
-///
-/// It counts bytes that the text of the errors has for sure. Once they are more than the limit, the answer is too long, and nothing
-/// more is put.
+/// A JSON text that is written token by token, up to a limit.
 #[derive(Drop)]
-pub struct BoundedFaults {
-    alloc: Global,
-    faults: Faults,
-    most: usize,
-    /// Says how many bytes the errors have at least.
-    bytes: usize,
+pub struct BoundedText {
+    text: String,
+    /// Tells whether a value has just ended, so that a comma stands before what begins next.
+    after_value: bool,
+    /// Says how many bytes more it may have. None where it is too long: nothing more is written then.
+    room: Option<usize>,
 }
 
-// Returns how many bytes the error of an own value has at least, so deep in the answer.
-fn error_size(leaf_value: &LeafValue, nullability: Nullability, depth: usize) -> usize
-    ensures { AreErrorBytes (leaf_value_seen leaf_value.now)
-        (is_non_null nullability) depth result }
+/// Errors that are met one after another, up to a limit.
+#[derive(Drop)]
+pub struct BoundedErrors {
+    errors: Vec<FieldError>,
+    /// Says how many bytes more their text may have. None where they are too many: no more are kept then.
+    room: Option<usize>,
+}
+
+// Returns the room that is left after so many bytes.
+fn room_after(room: Option<usize>, bytes: usize) -> Option<usize>
+    ensures { result ≡ room_after room bytes }
 {
-    match (leaf_value, nullability) {
-        (LeafValue::Null, Nullability::NonNull) => depth.saturating_add(1),
-        (LeafValue::Fault(message), _) => message.len().saturating_add(depth).saturating_add(1),
-        _ => 0,
-    }
+    room?.checked_sub(bytes)
 }
 
-impl BoundedFaults {
-    /// Nothing yet, at the root of an answer that may have `most` bytes.
-    pub fn new(alloc: Global, most: usize) -> BoundedFaults
-        ensures holds { Holds no_faults result }
-        ensures most { result.most ≡ most }
+impl BoundedText {
+    /// Nothing yet. It may have `most` bytes.
+    pub fn new(alloc: Global, most: usize) -> BoundedText
+        ensures { text_of result ≡ record { bytes = []; after_value = false; room = Some most } }
     {
-        BoundedFaults {
-            alloc,
-            faults: Faults::new(alloc),
-            most,
-            bytes: 0,
+        BoundedText {
+            text: String::new(alloc),
+            after_value: false,
+            room: Some(most),
         }
     }
 
-    /// Returns what was found, unless it is certain that the answer is too long.
-    pub fn finish(self) -> Option<Faults>
-        ensures { FindsAll self result }
-    {
-        if self.bytes > self.most {
-            return None;
-        }
-        Some(self.faults)
-    }
-
-    fn put_leaf_value(
+    /// Appends the text of a token, of which it is known whether it begins and whether it ends a value.
+    pub fn append(
         &mut self,
-        leaf_value: &LeafValue,
-        nullability: Nullability,
+        text: &str,
+        begins_value: bool,
+        ends_value: bool,
     ) -> Result<(), AllocError>
-        ensures { OnOk result (HoldsPuts (Has (is_non_null nullability)
-            (leaf_value_seen leaf_value.now) ∷ []) self.old self.new) }
+        ensures { OnOk result ((t : Token) → IsTokenText t text.now begins_value ends_value
+            → text_of self.new ≡ with_token t (text_of self.old)) }
     {
-        if self.bytes > self.most {
+        let comma = if self.after_value && begins_value {
+            ","
+        } else {
+            ""
+        };
+        self.room = room_after(self.room, comma.len() + text.len());
+        if self.room.is_none() {
             return Ok(());
         }
-        let size = error_size(leaf_value, nullability, self.faults.path_len());
-        self.faults.put_leaf_value(leaf_value, nullability)?;
-        self.bytes = self.bytes.saturating_add(size);
+        self.text.push_str(comma)?;
+        self.text.push_str(text)?;
+        self.after_value = ends_value;
         Ok(())
+    }
+
+    /// Begins a text in this one, which goes on where this one is. Returns this one.
+    pub fn begin(&mut self, alloc: Global) -> Result<BoundedText, AllocError>
+        ensures before { IfOk result (λ before. text_of before ≡ text_of self.old) }
+        ensures within { OnOk result (text_of self.new ≡ record (text_of self.old) { bytes = [] }) }
+    {
+        let within = BoundedText {
+            text: String::with_capacity(alloc, FIRST_ROOM)?,
+            after_value: self.after_value,
+            room: self.room,
+        };
+        Ok(mem::replace(self, within))
+    }
+
+    /// Ends a text in another one, which goes on where this one is.
+    pub fn end(&mut self, before: BoundedText) -> Result<(), AllocError>
+        ensures { OnOk result
+            (text_of self.new ≡ text_after (text_of before) (text_of self.old)) }
+    {
+        let within = mem::replace(&mut self.text, before.text);
+        self.text.push_str(within.as_str())
+    }
+
+    /// Returns what was written, unless it is too long.
+    pub fn whole(&self) -> Option<&str>
+        ensures some { IfSome result (λ text. (left : ℕ) × ((text_of self.now).room ≡ Some left)
+            × (text.now ≡ (text_of self.now).bytes)) }
+        ensures none { IfNone result ((text_of self.now).room ≡ None) }
+    {
+        match self.room {
+            Some(_) => Some(self.text.as_str()),
+            None => None,
+        }
     }
 }
 
-impl Sink for BoundedFaults {
-    ghost use Rattle.std.specs.Prelude.{refl};
-    ghost use Rattle.gq_resolve.specs.Bounded.{holds-more};
+// A copy of a step of a path.
+fn copy_step(alloc: Global, step: &PathSegment) -> Result<PathSegment, AllocError>
+    ensures { IfOk result
+        (λ copy. part_of copy ≡ part_of step.now) }
+{
+    match step {
+        PathSegment::Key(key) => Ok(PathSegment::Key(String::from_str(alloc, key.as_str())?)),
+        PathSegment::Item(number) => Ok(PathSegment::Item(*number)),
+    }
+}
 
-    ghost goes = { λ v ps old new. HoldsPuts ps old new };
+// A copy of a path.
+fn copy_path(alloc: Global, path: &[PathSegment]) -> Result<Vec<PathSegment>, AllocError>
+    ensures { IfOk result (λ copy.
+        map part_of copy.items ≡ map part_of path.now) }
+{
+    let mut copy = Vec::new(alloc);
+    for step in path {
+        copy.push(copy_step(alloc, step)?)?;
+    }
+    Ok(copy)
+}
 
-    ghost below = { λ n s. Unit {0} };
-
-    ghost waits = { λ s. 0 };
-
-    ghost none = { λ v s. (refl, λ all h. h) };
-
-    ghost more = { λ v. holds-more };
-
-    ghost rises = { λ n m s le h. h };
-
-    ghost stays = { λ v ps a b h w. w };
-
-    ghost narrow = { λ v w n ps a b le same below held h. h };
-
-    fn begin(&mut self, kind: PositionKind) -> Result<(), AllocError> {
-        if self.bytes > self.most {
-            return Ok(());
+impl BoundedErrors {
+    /// None yet. Their text may have `most` bytes.
+    pub fn new(alloc: Global, most: usize) -> BoundedErrors
+        ensures { errors_kept result ≡ record { errors = []; room = Some most } }
+    {
+        BoundedErrors {
+            errors: Vec::new(alloc),
+            room: Some(most),
         }
-        self.faults.begin(kind)
     }
 
-    fn end(&mut self, kind: PositionKind) -> Result<(), AllocError> {
-        if self.bytes > self.most {
-            return Ok(());
-        }
-        self.faults.end(kind)
-    }
-
-    fn field(&mut self, position: FieldPosition<'_>) -> Result<(), AllocError> {
-        if self.bytes > self.most {
-            return Ok(());
-        }
-        self.faults.field(position)
-    }
-
-    fn item(&mut self, items: Items, number: usize) -> Result<(), AllocError> {
-        if self.bytes > self.most {
-            return Ok(());
-        }
-        self.faults.item(items, number)
-    }
-
-    fn leaf_value(
+    /// Puts an error.
+    pub fn put(
         &mut self,
-        leaf_value: &LeafValue,
-        nullability: Nullability,
-    ) -> Result<(), AllocError> {
-        self.put_leaf_value(leaf_value, nullability)
-    }
-
-    fn cell(&mut self, leaf: Leaf<'_>, nullability: Nullability) -> Result<(), AllocError> {
-        let leaf_value = cell_value(self.alloc, leaf.schema, leaf.column, leaf.ty, leaf.row)?;
-        self.put_leaf_value(&leaf_value, nullability)
-    }
-
-    fn waiting(&self) -> usize {
-        0
-    }
-
-    // No answer is completed where a position waits.
-    fn wait(
-        &mut self,
-        _onward: Onward,
-        _loader: usize,
-        _key: KeyRef<'_>,
-    ) -> Result<(), AllocError> {
+        alloc: Global,
+        message: &str,
+        place: Place,
+        path: &[PathSegment],
+    ) -> Result<(), AllocError>
+        ensures { OnOk result (errors_kept self.new
+            ≡ with_error (error_at message.now place path.now) (errors_kept self.old)) }
+    {
+        self.room = room_after(self.room, message.len() + path.len() + 1);
+        if self.room.is_none() {
+            return Ok(());
+        }
+        self.errors.push(FieldError {
+            message: String::from_str(alloc, message)?,
+            place,
+            path: copy_path(alloc, path)?,
+        })?;
         Ok(())
+    }
+
+    /// Returns all of them, unless they are too many.
+    pub fn whole(&self) -> Option<&[FieldError]>
+        ensures some { IfSome result (λ errors. (left : ℕ) × ((errors_kept self.now).room ≡ Some left)
+            × (errors_of errors.now ≡ (errors_kept self.now).errors)) }
+        ensures none { IfNone result ((errors_kept self.now).room ≡ None) }
+    {
+        match self.room {
+            Some(_) => Some(self.errors.as_slice()),
+            None => None,
+        }
     }
 }

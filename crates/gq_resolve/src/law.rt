@@ -1,17 +1,14 @@
 //! Laws of the definitions. The function does nothing: its contract is the law.
 
-ghost use Rattle.std.specs.Prelude.{◌≡◌, ◌∷◌, ℕ, List, [], false};
+ghost use Rattle.std.specs.Prelude.{◌≡◌, ℕ, List, [], false};
 ghost use Rattle.load_memory.specs.Pairs.{MemoryOf};
 ghost use Rattle.execution.specs.Completion.{is_open};
 ghost use Rattle.execution.specs.Loads.{Reader, AnswersMore};
 ghost use Rattle.execution.specs.Program.{Program, needs, tree};
-ghost use Rattle.execution.specs.Examples.{users_and_one_without_name, nullable_users, siblings_under_a_null};
-ghost use Rattle.execution.specs.Residual.{unanswered};
 ghost use Rattle.gq_check.specs.Plans.{PlanOf};
 ghost use Rattle.gq_resolve.specs.Counting.{count_read, plan_read};
 ghost use Rattle.gq_resolve.specs.Evaluated.{front_over};
 ghost use Rattle.plan_walk.specs.Reading.{reader};
-ghost use Rattle.gq_resolve.specs.Faulted.{nulls_from};
 ghost use Rattle.gq_resolve.specs.KeyByKey.{IsKeyByKey, AreGivenBy, MakesCalls, called_loads};
 ghost use Rattle.plan_program.specs.PlanPrograms.{plan_program};
 
@@ -30,13 +27,4 @@ pub fn loads_are_calls()
         → is_open (tree p R) ≡ false → count_read p Q ≡ count_read p R }
     ensures plans { (plan : PlanOf) (m : MemoryOf) → front_over m (plan_program plan) ≡ []
         → MakesCalls (plan_program plan) (reader m) (plan_read plan m) }
-{}
-
-/// Examples of the numbers of nulls: that of an item, after the root, its list and the item before; that of the root; and that of an
-/// object after the root, in which each field has an error.
-pub fn nulls_are_numbered()
-    ensures item { nulls_from 0
-        (tree nullable_users unanswered) ≡ 3 ∷ [] }
-    ensures root { nulls_from 0 (tree users_and_one_without_name unanswered) ≡ 0 ∷ [] }
-    ensures outermost { nulls_from 0 (tree siblings_under_a_null unanswered) ≡ 1 ∷ [] }
 {}

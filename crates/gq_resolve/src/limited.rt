@@ -1,12 +1,14 @@
-//! Answers whose texts have a limit in bytes.
+//! The texts of answers, which may have a limit in bytes.
 
 ghost use Rattle.std.specs.Prelude.{◌≡◌, IfOk, string_bytes};
-ghost use Rattle.gq_resolve.specs.Limited.{too_long_text, limited_text, IsDone, IsLimitedAnswer};
+ghost use Rattle.plan_program.specs.PlanPrograms.{plan_program};
+ghost use Rattle.plan_walk.specs.Reading.{lookup};
+ghost use Rattle.gq_resolve.specs.Limited.{too_long_text, limited_text, AnswersWithin, IsAnswerText, IsDone, IsLimitedAnswer};
 ghost use Rattle.gq_resolve.specs.Suspended.{plan_on};
 
-use crate::advance::FinishedWalk;
-use crate::faulted_text::faulted_text;
-use crate::output::Output;
+use crate::advance::{FinishedWalk, go_over};
+use crate::completed_text::CompletedText;
+use crate::output::{NO_LIMIT, Output};
 use answer_json::write_refusal;
 use plan_walk::walk::Walk;
 use std::alloc::{AllocError, Global};
@@ -30,8 +32,39 @@ fn limit_text(alloc: Global, text: String, most: usize) -> Result<String, AllocE
     Ok(text)
 }
 
-/// The text of an answer of which nothing is missing, or its refusal where that has more bytes. An answer without errors was
-/// written, if it isn't too long. Any other is written now.
+/// The text of an answer of which nothing is missing. None only where it is certain that it has more than `most` bytes.
+///
+/// An answer without errors was written, if it isn't too long. Any other is completed now, since an error can make null what was
+/// written around it.
+fn completed_text(
+    walk: &Walk<'_>,
+    walked: FinishedWalk<Output>,
+    most: usize,
+) -> Result<Option<String>, AllocError>
+    ensures { IsDone (plan_on walk.now) walk.now.memory.now walked → IfOk result
+        (AnswersWithin most (plan_program (plan_on walk.now)) (lookup walk.now.memory.now)) }
+{
+    let FinishedWalk { rooted, out } = walked;
+    if out.is_plain {
+        return Ok(Some(out.into_text()));
+    }
+    drop(out);
+    let walked = go_over(walk, rooted, CompletedText::new(walk.alloc, most))?;
+    walked.out.finish()
+}
+
+/// The text of an answer of which nothing is missing.
+pub fn whole_text(walk: &Walk<'_>, walked: FinishedWalk<Output>) -> Result<String, AllocError>
+    ensures { IsDone (plan_on walk.now) walk.now.memory.now walked
+        → IfOk result (IsAnswerText (plan_on walk.now) walk.now.memory.now) }
+{
+    match completed_text(walk, walked, NO_LIMIT)? {
+        Some(text) => Ok(text),
+        None => Err(AllocError),
+    }
+}
+
+/// The same, or its refusal where it has more than `most` bytes.
 pub fn text_or_refusal(
     walk: &Walk<'_>,
     walked: FinishedWalk<Output>,
@@ -40,12 +73,7 @@ pub fn text_or_refusal(
     ensures { IsDone (plan_on walk.now) walk.now.memory.now walked
         → IfOk result (IsLimitedAnswer most (plan_on walk.now) walk.now.memory.now) }
 {
-    let FinishedWalk { rooted, out } = walked;
-    if out.is_plain {
-        return limit_text(walk.alloc, out.into_text(), most);
-    }
-    drop(out);
-    match faulted_text(walk, rooted, most)? {
+    match completed_text(walk, walked, most)? {
         Some(text) => limit_text(walk.alloc, text, most),
         None => too_long(walk.alloc),
     }

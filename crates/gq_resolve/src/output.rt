@@ -63,6 +63,17 @@ pub fn least_bytes(token: Token<'_>) -> usize
     }
 }
 
+/// Returns what was written, as text.
+pub fn writer_text(writer: Writer) -> String
+    requires { writer.before ≡ [] }
+    ensures { string_bytes result
+        ≡ print writer.tokens }
+{
+    let bytes = writer.into_inner();
+    // SAFETY: a writer's text is UTF-8.
+    unsafe { String::from_utf8_unchecked(bytes) }
+}
+
 impl Output {
     ghost use Rattle.gq_resolve.specs.Written.{IsWriting, Adds, AddsLeafValue, AddsLeaf};
 
@@ -101,9 +112,7 @@ impl Output {
         ensures { string_bytes result
             ≡ print self.writer.tokens }
     {
-        let bytes = self.writer.into_inner();
-        // SAFETY: a writer's text is UTF-8.
-        unsafe { String::from_utf8_unchecked(bytes) }
+        writer_text(self.writer)
     }
 
     /// Tells whether it is still written.

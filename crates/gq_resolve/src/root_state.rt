@@ -10,10 +10,9 @@ ghost use Rattle.gq_resolve.specs.Evaluated.{missing_over, IsEvaluated, AddsPart
 ghost use Rattle.gq_resolve.specs.Limited.{limited_answer};
 ghost use Rattle.gq_resolve.specs.Suspended.{FitsMemory, IsRooted};
 
-use crate::advance::{FinishedWalk, RootObject, Suspension, advance, build_response};
+use crate::advance::{RootObject, Suspension, advance, build_response};
 use crate::answered::ExecutionResult;
-use crate::faulted_text::whole_text;
-use crate::limited::text_or_refusal;
+use crate::limited::{text_or_refusal, whole_text};
 use crate::most_groups::most_groups_of;
 use crate::output::NO_LIMIT;
 use futures::task::Poll;
@@ -101,15 +100,10 @@ impl RootState {
             memory,
             most: self.most,
         };
-        let walked = advance(&walk, NO_LIMIT, &mut self.stopped, wants)?;
-        let Some(FinishedWalk { rooted, out }) = walked else {
-            return Ok(Poll::Pending);
-        };
-        if out.is_plain {
-            return Ok(Poll::Ready(out.into_text()));
+        match advance(&walk, NO_LIMIT, &mut self.stopped, wants)? {
+            Some(walked) => Ok(Poll::Ready(whole_text(&walk, walked)?)),
+            None => Ok(Poll::Pending),
         }
-        drop(out);
-        Ok(Poll::Ready(whole_text(&walk, rooted)?))
     }
 
     /// Does the same, where the text may have `most` bytes and no more: a longer one is refused, and the text is that of

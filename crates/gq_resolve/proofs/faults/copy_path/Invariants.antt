@@ -1,6 +1,0 @@
-use Rattle.std.proofs.Common.{◌≡◌, map, take}
-use Rattle.gq_resolve.specs.Answered.{part_of}
-use Rattle.gq_resolve.proofs.faults.copy_path.Given as goal
-
-abbrev pub invariant-loop-step : goal.invariant-loop-step
-invariant-loop-step l = map part_of l.copy.items ≡ map part_of (take l.step-index l.path)
