@@ -1,18 +1,18 @@
 //! The text of an answer with its errors, as it is completed (sections 6.4.3 and 6.4.4).
 
-ghost use Rattle.std.specs.Prelude.{◌≡◌, ◌∷◌, [], ℕ, false, IfOk, OnOk, string_bytes};
+ghost use Rattle.std.specs.Prelude.{◌≡◌, ◌∷◌, [], ℕ, false, IfOk, OnOk};
 ghost use Rattle.std.specs.Fmt.{signed_decimal};
 ghost use Rattle.execution.specs.Loads.{Reader};
 ghost use Rattle.execution.specs.Program.{Program};
-ghost use Rattle.json.specs.Print.{IsPrintable, begins, ends, token_text};
+ghost use Rattle.json.specs.Print.{IsPrintable, begins, ends, print};
 ghost use Rattle.json.specs.Reads.{token_of};
-ghost use Rattle.json.specs.Token.{number};
+ghost use Rattle.json.specs.Token.{Token as JsonToken, number};
 ghost use Rattle.plan_program.specs.Prepared.{leaf_value_seen};
 ghost use Rattle.plan_walk.specs.Positions.{is_non_null, kind_of};
 ghost use Rattle.plan_walk.specs.Puts.{puts};
 ghost use Rattle.gq_resolve.specs.Answered.{part_of};
 ghost use Rattle.gq_resolve.specs.Limited.{AnswersWithin};
-ghost use Rattle.gq_resolve.specs.Texted.{text_of, written, nulled, closed, entered_at, depth_in, faulted, given_leaf_value, nothing_written, put_all, put_all-more, written_of};
+ghost use Rattle.gq_resolve.specs.Texted.{IsTokenText, text_of, written, nulled, closed, entered_at, depth_in, faulted, given_leaf_value, nothing_written, put_all, put_all-more, written_of};
 
 use crate::bounded::{BoundedErrors, BoundedText};
 use crate::output::{FIRST_ROOM, writer_text};
@@ -80,29 +80,6 @@ fn ends(token: Token<'_>) -> bool
     )
 }
 
-// The text of a token, in the memory of another text.
-fn token_text(room: Vec<u8>, token: Token<'_>) -> Result<String, AllocError>
-    requires { IsPrintable (token_of token) }
-    ensures { IfOk result (λ text. string_bytes text ≡ token_text (token_of token.entry)) }
-{
-    let mut room = room;
-    room.clear();
-    let mut writer = Writer::new(room);
-    writer.token(token)?;
-    Ok(writer_text(writer))
-}
-
-// The text of a number, in the memory of another text.
-fn number_text(room: Vec<u8>, value: i32) -> Result<String, AllocError>
-    ensures { IfOk result (λ text. string_bytes text ≡ signed_decimal value) }
-{
-    let mut room = room;
-    room.clear();
-    let mut writer = Writer::new(room);
-    writer.i64(i64::from(value))?;
-    Ok(writer_text(writer))
-}
-
 impl CompletedText {
     /// Nothing yet, at the root of an answer that may have `most` bytes.
     pub fn new(alloc: Global, most: usize) -> CompletedText
@@ -140,33 +117,51 @@ impl CompletedText {
         Ok(Some(text))
     }
 
-    // Puts a token.
-    fn put(&mut self, token: Token<'_>) -> Result<(), AllocError>
-        requires { IsPrintable (token_of token) }
-        ensures { OnOk result (written_of self.new ≡ written (token_of token.entry ∷ []) (written_of self.old)) }
+    // Returns what a token is written with.
+    fn token_writer(&mut self) -> Writer
+        ensures before { result.before ≡ [] }
+        ensures tokens { result.tokens ≡ [] }
+        ensures same { written_of self.new ≡ written_of self.old }
     {
+        let mut room = mem::replace(&mut self.room, Vec::new(self.alloc));
+        room.clear();
+        Writer::new(room)
+    }
+
+    // Appends what a token was written with, unless it stands in what becomes null.
+    fn append(&mut self, writer: Writer, begins: bool, ends: bool) -> Result<(), AllocError>
+        requires { writer.before ≡ [] }
+        ensures { OnOk result ((t : JsonToken) → IsTokenText t (print writer.tokens) begins ends
+            → written_of self.new ≡ written (t ∷ []) (written_of self.old)) }
+    {
+        let text = writer_text(writer);
         if self.muted {
             return Ok(());
         }
-        let room = mem::replace(&mut self.room, Vec::new(self.alloc));
-        let text = token_text(room, token)?;
-        self.text.append(text.as_str(), begins(token), ends(token))?;
+        self.text.append(text.as_str(), begins, ends)?;
         self.room = text.into_bytes();
         Ok(())
     }
 
+    // Puts a token.
+    fn put(&mut self, token: Token<'_>) -> Result<(), AllocError>
+        requires { IsPrintable (token_of token) }
+        ensures { OnOk result (written_of self.new
+            ≡ written (token_of token.entry ∷ []) (written_of self.old)) }
+    {
+        let mut writer = self.token_writer();
+        writer.token(token)?;
+        self.append(writer, begins(token), ends(token))
+    }
+
     // Puts a number.
     fn put_number(&mut self, value: i32) -> Result<(), AllocError>
-        ensures { OnOk result (written_of self.new ≡ written (number (signed_decimal value) ∷ []) (written_of self.old)) }
+        ensures { OnOk result (written_of self.new
+            ≡ written (number (signed_decimal value) ∷ []) (written_of self.old)) }
     {
-        if self.muted {
-            return Ok(());
-        }
-        let room = mem::replace(&mut self.room, Vec::new(self.alloc));
-        let text = number_text(room, value)?;
-        self.text.append(text.as_str(), true, true)?;
-        self.room = text.into_bytes();
-        Ok(())
+        let mut writer = self.token_writer();
+        writer.i64(i64::from(value))?;
+        self.append(writer, true, true)
     }
 
     // Puts an error, and a null in its place.
@@ -295,10 +290,10 @@ impl Sink for CompletedText {
         self.path.truncate(level.depth);
         self.nullability = level.nullability;
         self.place = level.place;
-        if self.muted {
-            return self.end_null(level.muted, level.before);
+        if !self.muted {
+            return self.end_kept(kind, level.before);
         }
-        self.end_kept(kind, level.before)
+        self.end_null(level.muted, level.before)
     }
 
     fn field(&mut self, position: FieldPosition<'_>) -> Result<(), AllocError> {

@@ -7,15 +7,6 @@ use Rattle.plan_walk.specs.Positions.{kind_of}
 use Rattle.gq_resolve.proofs.Completing.{open-push, steps-left, ended-null, ended-kept}
 use Rattle.gq_resolve.proofs.completed_text.CompletedTextSink.end.Goals as goal
 
-pub returns-then-self : goal.returns-then-self
-returns-then-self c =
-    let w : WrittenOf = written_of c.args.self.now in
-    let l : OpenOf = level_seen c.in-Some.level in
-    let ls : List OpenOf = levels_seen c.pop.new.self.items in
-    let seen : w.levels ≡ l ∷ ls = ap levels_seen c.in-Some.ensures.items ∙ open-push c.pop.new.self.items c.in-Some.level in
-    let path : List Part = map part_of c.truncate.new.self.items in
-    on_ok_weaker c.end_null.result (λ e. λ v. e ∙ ended-null w (kind_of c.args.kind) w.levels l ls path seen (steps-left c.args.self.now.path.items c.truncate.new.self.items c.in-Some.level.depth c.truncate.ensures.items) c.if-self.true) c.end_null.ensures
-
 pub returns : goal.returns
 returns c =
     let w : WrittenOf = written_of c.args.self.now in
@@ -23,4 +14,13 @@ returns c =
     let ls : List OpenOf = levels_seen c.pop.new.self.items in
     let seen : w.levels ≡ l ∷ ls = ap levels_seen c.in-Some.ensures.items ∙ open-push c.pop.new.self.items c.in-Some.level in
     let path : List Part = map part_of c.truncate.new.self.items in
-    on_ok_weaker c.end_kept.result (λ e. λ v. e ∙ ended-kept w (kind_of c.args.kind) w.levels l ls path seen (steps-left c.args.self.now.path.items c.truncate.new.self.items c.in-Some.level.depth c.truncate.ensures.items) c.if-self.false) c.end_kept.ensures
+    on_ok_weaker c.end_null.result (λ e. λ v. e ∙ ended-null w (kind_of c.args.kind) w.levels l ls path seen (steps-left c.args.self.now.path.items c.truncate.new.self.items c.in-Some.level.depth c.truncate.ensures.items) c.if-not-self.false) c.end_null.ensures
+
+pub returns-then-not-self : goal.returns-then-not-self
+returns-then-not-self c =
+    let w : WrittenOf = written_of c.args.self.now in
+    let l : OpenOf = level_seen c.in-Some.level in
+    let ls : List OpenOf = levels_seen c.pop.new.self.items in
+    let seen : w.levels ≡ l ∷ ls = ap levels_seen c.in-Some.ensures.items ∙ open-push c.pop.new.self.items c.in-Some.level in
+    let path : List Part = map part_of c.truncate.new.self.items in
+    on_ok_weaker c.end_kept.result (λ e. λ v. e ∙ ended-kept w (kind_of c.args.kind) w.levels l ls path seen (steps-left c.args.self.now.path.items c.truncate.new.self.items c.in-Some.level.depth c.truncate.ensures.items) c.if-not-self.true) c.end_kept.ensures
