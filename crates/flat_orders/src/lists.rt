@@ -87,6 +87,27 @@ fn write_keys(shapes: &mut Vec<u32>, texts: &mut TextBuffer, keys: &[Key]) -> Re
     Ok(())
 }
 
+// Writes a list at the end. When out of memory, nothing is known of what was written.
+fn write_list(
+    counts: &mut Vec<u32>,
+    shapes: &mut Vec<u32>,
+    texts: &mut TextBuffer,
+    keys: &[Key],
+) -> Result<(), AllocError>
+    ensures counts { OnOk result (counts.new.items
+        ≡ counts.old.items ++ length (map key_of keys.now) ∷ []) }
+    ensures shapes { OnOk result
+        (shapes.new.items ≡ shapes.old.items ++ map shape_of (map key_of keys.now)) }
+    ensures texts { OnOk result (texts.new ≡ texts.old
+        ++ flat_map texts_in (map key_of keys.now)) }
+{
+    let Ok(count) = u32::try_from(keys.len()) else {
+        return Err(AllocError);
+    };
+    counts.push(count)?;
+    write_keys(shapes, texts, keys)
+}
+
 impl KeyLists {
     /// No list yet.
     pub fn new(alloc: Global) -> KeyLists
@@ -99,32 +120,35 @@ impl KeyLists {
         }
     }
 
-    /// Does the same with one list more at the end.
-    ///
-    /// Lists are taken by value, so that what was half written goes with them when memory runs out.
+    /// Lets all lists go. Their room stays for those that come.
+    pub fn clear(&mut self)
+        ensures { self.new ≡ [] }
+    {
+        self.counts.clear();
+        self.shapes.clear();
+        self.texts.clear();
+    }
+
+    /// Adds a list at the end.
     ///
     /// # Errors
     ///
-    /// When out of memory, or where there would be more keys or bytes than 32 bits count.
-    pub fn with(self, keys: &[Key]) -> Result<KeyLists, AllocError>
-        ensures { IfOk result (λ lists.
-            lists ≡ self ++ map key_of keys.now ∷ []) }
+    /// When out of memory, or where there would be more keys or bytes than 32 bits count. All lists are let go then, as one may be half
+    /// written.
+    pub fn push(&mut self, keys: &[Key]) -> Result<(), AllocError>
+        ensures pushed { OnOk result
+            (self.new ≡ self.old ++ map key_of keys.now ∷ []) }
+        ensures cleared { OnErr result (self.new ≡ []) }
     {
-        let KeyLists {
-            mut counts,
-            mut shapes,
-            mut texts,
-        } = self;
-        let Ok(count) = u32::try_from(keys.len()) else {
-            return Err(AllocError);
-        };
-        counts.push(count)?;
-        write_keys(&mut shapes, &mut texts, keys)?;
-        Ok(KeyLists {
-            counts,
-            shapes,
-            texts,
-        })
+        match write_list(&mut self.counts, &mut self.shapes, &mut self.texts, keys) {
+            Ok(()) => Ok(()),
+            Err(fault) => {
+                self.counts.clear();
+                self.shapes.clear();
+                self.texts.clear();
+                Err(fault)
+            }
+        }
     }
 
     /// Returns how many elements the buffers have to hold that [`copy_to`](KeyLists::copy_to) fills.

@@ -44,6 +44,24 @@ impl Drop for FlatOrders {
     }
 }
 
+// Writes an order at the end. When out of memory, nothing is known of what was written.
+fn write_order(
+    loaders: &mut Vec<u32>,
+    lists: &mut KeyLists,
+    loader: usize,
+    keys: &[Key],
+) -> Result<(), AllocError>
+    ensures loaders { OnOk result (loaders.new.items ≡ loaders.old.items ++ loader ∷ []) }
+    ensures lists { OnOk result
+        (lists.new ≡ lists.old ++ map key_of keys.now ∷ []) }
+{
+    let Ok(number) = u32::try_from(loader) else {
+        return Err(AllocError);
+    };
+    loaders.push(number)?;
+    lists.push(keys)
+}
+
 impl FlatOrders {
     /// No order yet.
     pub fn new(alloc: Global) -> FlatOrders
@@ -55,28 +73,32 @@ impl FlatOrders {
         }
     }
 
-    /// Does the same with one order more at the end.
+    /// Lets all orders go. Their room stays for those that come.
+    pub fn clear(&mut self)
+        ensures { self.new ≡ [] }
+    {
+        self.loaders.clear();
+        self.keys.clear();
+    }
+
+    /// Adds an order at the end.
     ///
     /// # Errors
     ///
-    /// When out of memory, or where there would be more keys or bytes than 32 bits count.
-    pub fn with(self, loader: usize, keys: &[Key]) -> Result<FlatOrders, AllocError>
-        ensures { IfOk result (λ orders.
-            orders ≡ self ++ order_of loader (map key_of keys.now) ∷ []) }
+    /// When out of memory, or where there would be more keys or bytes than 32 bits count. All orders are let go then.
+    pub fn push(&mut self, loader: usize, keys: &[Key]) -> Result<(), AllocError>
+        ensures pushed { OnOk result
+            (self.new ≡ self.old ++ order_of loader (map key_of keys.now) ∷ []) }
+        ensures cleared { OnErr result (self.new ≡ []) }
     {
-        let FlatOrders {
-            mut loaders,
-            keys: lists,
-        } = self;
-        let Ok(loader) = u32::try_from(loader) else {
-            return Err(AllocError);
-        };
-        loaders.push(loader)?;
-        let lists = lists.with(keys)?;
-        Ok(FlatOrders {
-            loaders,
-            keys: lists,
-        })
+        match write_order(&mut self.loaders, &mut self.keys, loader, keys) {
+            Ok(()) => Ok(()),
+            Err(fault) => {
+                self.loaders.clear();
+                self.keys.clear();
+                Err(fault)
+            }
+        }
     }
 
     /// Returns how many elements the buffers have to hold that [`copy_to`](FlatOrders::copy_to) fills. There is a list of keys for each

@@ -51,6 +51,14 @@ impl TextBuffer {
         }
     }
 
+    /// Lets all texts go. Their room stays for those that come.
+    pub fn clear(&mut self)
+        ensures { self.new ≡ [] }
+    {
+        self.text.clear();
+        self.ends.clear();
+    }
+
     /// Returns how many texts there are.
     pub fn len(&self) -> usize
         ensures { result ≡ length self.now }

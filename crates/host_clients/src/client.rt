@@ -208,7 +208,7 @@ impl HostClient {
             HostClient::Idle(_) | HostClient::Moved => Err(Fault::Idle),
             HostClient::Answered(_) | HostClient::Loaded(_) => Ok(ClientProgress::Done),
             HostClient::Loading(_) => self.load_on(alloc),
-            HostClient::Asked(under_way) => match under_way.step(alloc) {
+            HostClient::Asked(under_way) => match under_way.step() {
                 Ok(Step::Round) => Ok(ClientProgress::Round),
                 Ok(Step::Waiting) => Ok(ClientProgress::Waiting),
                 Ok(Step::Answered(answer)) => {
@@ -269,7 +269,6 @@ impl HostClient {
     /// Takes the answer to an order.
     pub(crate) fn take(
         &mut self,
-        alloc: Global,
         number: usize,
         answer: Result<Vec<Item>, FetchFault>,
     ) -> Result<(), Fault>
@@ -282,8 +281,8 @@ impl HostClient {
             (OrderFault (pending_of self.old) number) }
     {
         match self {
-            HostClient::Asked(under_way) => Ok(under_way.take(alloc, number, answer)?),
-            HostClient::Loading(loading) => Ok(loading.take(alloc, number, answer)?),
+            HostClient::Asked(under_way) => Ok(under_way.take(number, answer)?),
+            HostClient::Loading(loading) => Ok(loading.take(number, answer)?),
             _ => Err(Fault::NoOrder),
         }
     }
@@ -315,7 +314,7 @@ impl HostClient {
             Some(_) => {}
         }
         let items = reply.items(alloc)?;
-        self.take(alloc, number, Ok(items))
+        self.take(number, Ok(items))
     }
 
     /// Takes it that the batch of an order failed as a whole, with this text.
@@ -341,7 +340,7 @@ impl HostClient {
             return Err(Fault::NotUtf8);
         };
         let text = String::from_str(alloc, text)?;
-        self.take(alloc, number, Err(FetchFault::Failed(text)))
+        self.take(number, Err(FetchFault::Failed(text)))
     }
 
     /// Gives up what is on its way. The finished rounds stay known.

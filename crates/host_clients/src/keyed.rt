@@ -162,6 +162,6 @@ impl HostClient {
             (KeyedRowsFault number (laid_rows reply.now) self.old) }
     {
         let items = self.keyed_items(alloc, number, reply)?;
-        Ok(self.take(alloc, number, Ok(items))?)
+        Ok(self.take(number, Ok(items))?)
     }
 }

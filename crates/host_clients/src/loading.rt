@@ -13,7 +13,7 @@ ghost use Rattle.host_clients.specs.Refused.{OrderFault};
 use crate::client::{ClientProgress, HostClient};
 use crate::fault::Fault;
 use crate::loaded::LoadedClient;
-use crate::under_way::orders_of;
+use crate::under_way::write_orders;
 use flat_orders::FlatOrders;
 use flat_outcomes::FlatOutcomes;
 use load_memory::{Item, Key};
@@ -86,8 +86,10 @@ impl LoadUnderWay {
     pub(crate) fn advance(self, alloc: Global) -> (HostClient, Result<ClientProgress, Fault>)
         ensures { LoadsOnWith self result.0 result.1 }
     {
-        let LoadUnderWay { hand, orders } = self;
-        let mut hand = hand;
+        let LoadUnderWay {
+            mut hand,
+            mut orders,
+        } = self;
         match hand.advance() {
             Ok(LoadAdvance::Loaded(outcomes)) => match FlatOutcomes::of(alloc, &outcomes) {
                 Ok(outcomes) => {
@@ -101,8 +103,8 @@ impl LoadUnderWay {
                 }
                 Err(_) => (HostClient::Idle(hand.into_client()), Err(Fault::NoMemory)),
             },
-            Ok(LoadAdvance::Round) => match orders_of(alloc, hand.orders()) {
-                Ok(orders) => {
+            Ok(LoadAdvance::Round) => match write_orders(&mut orders, hand.orders()) {
+                Ok(()) => {
                     let loading = LoadUnderWay { hand, orders };
                     (HostClient::Loading(loading), Ok(ClientProgress::Round))
                 }
@@ -138,7 +140,6 @@ impl LoadUnderWay {
     /// Takes the answer to the order of this number. When out of memory, it is over, and nothing is stored.
     pub(crate) fn take(
         &mut self,
-        alloc: Global,
         number: usize,
         answer: Result<Vec<Item>, FetchFault>,
     ) -> Result<(), TakeFault>
@@ -158,7 +159,7 @@ impl LoadUnderWay {
         match self.hand.answer(number, answer) {
             Ok(()) => Ok(()),
             Err(TakeFault::NoMemory) => {
-                self.orders = FlatOrders::new(alloc);
+                self.orders.clear();
                 Err(TakeFault::NoMemory)
             }
             Err(fault) => Err(fault),

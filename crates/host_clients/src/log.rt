@@ -40,7 +40,7 @@ impl BatchLog {
         for entry in entries {
             rounds.push(entry.round)?;
             stored.push(u32::from(entry.stored))?;
-            keys = keys.with(entry.keys.as_slice())?;
+            keys.push(entry.keys.as_slice())?;
         }
         Ok(BatchLog {
             rounds,

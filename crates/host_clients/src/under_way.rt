@@ -79,32 +79,33 @@ impl Drop for UnderWay {
     }
 }
 
-// The orders with one more at the end, which may have its reply.
-fn with_one(orders: FlatOrders, one: &Pending) -> Result<FlatOrders, AllocError>
-    ensures { IfOk result
-        (λ more. more ≡ orders ++ order_in one.now ∷ []) }
+// Adds an order, which may have its reply, at the end of orders.
+fn write_order(orders: &mut FlatOrders, one: &Pending) -> Result<(), AllocError>
+    ensures written { OnOk result
+        (orders.new ≡ orders.old ++ order_in one.now ∷ []) }
+    ensures cleared { OnErr result (orders.new ≡ []) }
 {
     match one {
-        Pending::Out(order) => orders.with(order.loader(), order.keys()),
-        Pending::In(reply) => orders.with(reply.loader, reply.keys.as_slice()),
+        Pending::Out(order) => orders.push(order.loader(), order.keys()),
+        Pending::In(reply) => orders.push(reply.loader, reply.keys.as_slice()),
     }
 }
 
-/// The orders of a round, to be copied out.
-pub(crate) fn orders_of(alloc: Global, pending: &[Pending]) -> Result<FlatOrders, AllocError>
-    ensures { IfOk result
-        (λ orders. orders ≡ map order_in pending.now) }
+/// Writes the orders of a round, to be copied out, in place of those of the round before.
+pub(crate) fn write_orders(orders: &mut FlatOrders, pending: &[Pending]) -> Result<(), AllocError>
+    ensures written { OnOk result
+        (orders.new ≡ map order_in pending.now) }
+    ensures cleared { OnErr result (orders.new ≡ []) }
 {
-    let mut orders = FlatOrders::new(alloc);
+    orders.clear();
     for one in pending {
-        let more = with_one(orders, one)?;
-        orders = more;
+        write_order(orders, one)?;
     }
-    Ok(orders)
+    Ok(())
 }
 
 // Gives up the round that is out, if one is, and lets its orders go.
-fn give_up(alloc: Global, hand: &mut ByHand<HandedIn>, orders: &mut FlatOrders)
+fn give_up(hand: &mut ByHand<HandedIn>, orders: &mut FlatOrders)
     ensures out { orders.new ≡ orders_out hand.new }
     ensures underway { GoesOn any_tell hand.old hand.new }
     ensures client { hand.new.client ≡ hand.old.client }
@@ -112,7 +113,7 @@ fn give_up(alloc: Global, hand: &mut ByHand<HandedIn>, orders: &mut FlatOrders)
         ≡ hand.old.planned }
 {
     hand.give_up();
-    *orders = FlatOrders::new(alloc);
+    orders.clear();
 }
 
 impl UnderWay {
@@ -150,28 +151,25 @@ impl UnderWay {
     /// # Errors
     ///
     /// [`NoMemory`](Fault::NoMemory), and [`Stopped`](Fault::Stopped) where memory ran out before: it is to be given up.
-    pub(crate) fn step(&mut self, alloc: Global) -> Result<Step, Fault>
+    pub(crate) fn step(&mut self) -> Result<Step, Fault>
         ensures { StepsTo self.old self.new result }
     {
         match self.hand.advance() {
             Ok(ClientAdvance::Answered(answer)) => {
-                give_up(alloc, &mut self.hand, &mut self.orders);
+                give_up(&mut self.hand, &mut self.orders);
                 Ok(Step::Answered(answer))
             }
-            Ok(ClientAdvance::Round) => match orders_of(alloc, self.hand.orders()) {
-                Ok(orders) => {
-                    self.orders = orders;
-                    Ok(Step::Round)
-                }
+            Ok(ClientAdvance::Round) => match write_orders(&mut self.orders, self.hand.orders()) {
+                Ok(()) => Ok(Step::Round),
                 Err(_) => {
-                    give_up(alloc, &mut self.hand, &mut self.orders);
+                    give_up(&mut self.hand, &mut self.orders);
                     Err(Fault::NoMemory)
                 }
             },
             Ok(ClientAdvance::Waiting) => Ok(Step::Waiting),
             Ok(ClientAdvance::Over) => Err(Fault::Stopped),
             Err(_) => {
-                give_up(alloc, &mut self.hand, &mut self.orders);
+                give_up(&mut self.hand, &mut self.orders);
                 Err(Fault::NoMemory)
             }
         }
@@ -220,7 +218,6 @@ impl UnderWay {
     /// Takes the answer to the order of this number. When out of memory, it is over, and nothing is stored.
     pub(crate) fn take(
         &mut self,
-        alloc: Global,
         number: usize,
         answer: Result<Vec<Item>, FetchFault>,
     ) -> Result<(), TakeFault>
@@ -240,7 +237,7 @@ impl UnderWay {
         match self.hand.answer(number, answer) {
             Ok(()) => Ok(()),
             Err(TakeFault::NoMemory) => {
-                self.orders = FlatOrders::new(alloc);
+                self.orders.clear();
                 Err(TakeFault::NoMemory)
             }
             Err(fault) => Err(fault),

@@ -1,4 +1,4 @@
-use Rattle.std.proofs.Common.{◌≡◌, ◌∙◌}
+use Rattle.std.proofs.Common.{◌∙◌}
 use Rattle.std.proofs.lemmas.List.{take_all}
 use Rattle.load_memory.specs.Keys.{key_of}
 use Rattle.flat_orders.proofs.Writing.{shapes-more, texts-more}

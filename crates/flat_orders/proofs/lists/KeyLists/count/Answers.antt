@@ -1,4 +1,4 @@
-use Rattle.std.proofs.Common.{◌≡◌, ◌<◌, ◌≤◌, length, arith}
+use Rattle.std.proofs.Common.{◌<◌, ◌≤◌, length, arith}
 use Rattle.flat_orders.proofs.Writing.{count-within, count-past}
 use Rattle.flat_orders.proofs.lists.KeyLists.count.Goals as goal
 

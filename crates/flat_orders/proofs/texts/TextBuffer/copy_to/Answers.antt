@@ -1,4 +1,4 @@
-use Rattle.std.proofs.Common.{◌≡◌, ◌∙◌, length, refl, string_bytes, arith}
+use Rattle.std.proofs.Common.{◌≡◌, length, refl, string_bytes, arith}
 use Rattle.std.proofs.lemmas.Bool.{false≢true}
 use Rattle.load_memory.proofs.CellLaws.{length-cut}
 use Rattle.flat_orders.specs.Written.{size_of}

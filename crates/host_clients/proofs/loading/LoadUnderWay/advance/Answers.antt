@@ -14,8 +14,8 @@ invariant_of-loaded c =
 pub invariant_of-loading : goal.invariant_of-loading
 invariant_of-loading c =
     let e = c.advance.ensures in
-    holds-load-after c.self.inside.hand c.advance.new.self e.asked e.underway e.same c.self.inside.orders c.in-Ok-orders_of.orders c.self.invariant
-    (c.in-Ok-orders_of.ensures ∙ ap (map order_in) c.orders.ensures)
+    holds-load-after c.self.inside.hand c.advance.new.self e.asked e.underway e.same c.self.inside.orders c.write_orders.new.orders c.self.invariant
+    (c.in-Ok-write_orders.ensures.written ∙ ap (map order_in) c.orders.ensures)
 
 pub invariant_of-loading-in-Ok-Waiting : goal.invariant_of-loading-in-Ok-Waiting
 invariant_of-loading-in-Ok-Waiting c =
@@ -34,14 +34,14 @@ returns-in-Ok-Loaded c =
     let e = c.advance.ensures in let back = c.into_client-in-Err-of in
     rw (← c.self.view_is) (stops-load c.self.inside.hand c.advance.new.self e.asked e.underway e.same back.result back.ensures.client back.ensures.stopped, inl refl)
 
-pub returns-in-Ok-orders_of : goal.returns-in-Ok-orders_of
-returns-in-Ok-orders_of c =
+pub returns-in-Ok-write_orders : goal.returns-in-Ok-write_orders
+returns-in-Ok-write_orders c =
     let e = c.advance.ensures in let round = c.in-Ok-Round in
     rw (← c.self.view_is) (makes-load-round c.self.inside.hand c.advance.new.self e.asked e.underway e.same (rw round.field-0-is at round.ensures.advanced) (rw round.field-0-is at round.ensures.stored))
 
 pub returns-in-Ok-Round : goal.returns-in-Ok-Round
 returns-in-Ok-Round c =
-    let e = c.advance.ensures in let back = c.into_client-in-Err-orders_of in
+    let e = c.advance.ensures in let back = c.into_client-in-Err-write_orders in
     rw (← c.self.view_is) (stops-load c.self.inside.hand c.advance.new.self e.asked e.underway e.same back.result back.ensures.client back.ensures.stopped, inl refl)
 
 pub returns : goal.returns

@@ -14,8 +14,8 @@ invariant_of-self c =
 pub invariant_of-self-in-Err-NoMemory : goal.invariant_of-self-in-Err-NoMemory
 invariant_of-self-in-Err-NoMemory c =
     let e = c.answer.ensures in let is : c.answer.result ≡ Err NoMemory = (let i = c.in-Err-NoMemory.is in let f = c.in-Err-NoMemory.field-0-is in cc) in
-    holds-load-over c.self.inside.hand c.answer.new.self c.self.inside.orders c.new.result c.in-Err-NoMemory.ensures.stopped e.client e.asked (e.refused.over is)
-    c.new.ensures c.self.invariant
+    holds-load-over c.self.inside.hand c.answer.new.self c.self.inside.orders c.clear.new.self c.in-Err-NoMemory.ensures.stopped e.client e.asked (e.refused.over is)
+    c.clear.ensures c.self.invariant
 
 pub returns-in-Ok-clause-taken : goal.returns-in-Ok-clause-taken
 returns-in-Ok-clause-taken c =

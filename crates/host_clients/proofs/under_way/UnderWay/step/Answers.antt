@@ -12,13 +12,13 @@ invariant_of-self c =
 pub invariant_of-self-in-Ok : goal.invariant_of-self-in-Ok
 invariant_of-self-in-Ok c =
     let e = c.advance.ensures in
-    let orders = c.in-Ok.ensures ∙ ap (map order_in) c.orders.ensures in
-    holds-after c.self.inside.queries.value c.self.inside.hand c.advance.new.self c.self.inside.note.asked c.in-Ok.orders e.underway e.planned c.self.invariant.is_of orders
+    let orders = c.in-Ok.ensures.written ∙ ap (map order_in) c.orders.ensures in
+    holds-after c.self.inside.queries.value c.self.inside.hand c.advance.new.self c.self.inside.note.asked c.write_orders.new.orders e.underway e.planned c.self.invariant.is_of orders
 
-pub invariant_of-self-in-Err-orders_of : goal.invariant_of-self-in-Err-orders_of
-invariant_of-self-in-Err-orders_of c =
-    let e = c.advance.ensures in let up = c.give_up-in-Err-orders_of.ensures in
-    holds-ended c.self.inside.hand c.advance.new.self c.give_up-in-Err-orders_of.new.hand e.underway e.planned up.underway up.planned c.self.inside.queries.value c.self.inside.note.asked c.give_up-in-Err-orders_of.new.orders c.self.invariant.is_of up.out
+pub invariant_of-self-in-Err-write_orders : goal.invariant_of-self-in-Err-write_orders
+invariant_of-self-in-Err-write_orders c =
+    let e = c.advance.ensures in let up = c.give_up-in-Err-write_orders.ensures in
+    holds-ended c.self.inside.hand c.advance.new.self c.give_up-in-Err-write_orders.new.hand e.underway e.planned up.underway up.planned c.self.inside.queries.value c.self.inside.note.asked c.give_up-in-Err-write_orders.new.orders c.self.invariant.is_of up.out
 
 pub invariant_of-self-in-Err : goal.invariant_of-self-in-Err
 invariant_of-self-in-Err c =
@@ -38,10 +38,10 @@ returns-in-Ok c =
     let u : UnderWayOf = record { hand = c.self.inside.hand; server = c.self.inside.queries.value; asked = c.self.inside.note.asked } in let e = c.advance.ensures in let round = c.in-Ok-Round in
     rw (← c.self.view_is) (makes-round u c.advance.new.self e.same e.underway e.planned (rw round.field-0-is at round.ensures.stored) (rw round.field-0-is at round.ensures.stepped).1)
 
-pub returns-in-Err-orders_of : goal.returns-in-Err-orders_of
-returns-in-Err-orders_of c =
-    let u : UnderWayOf = record { hand = c.self.inside.hand; server = c.self.inside.queries.value; asked = c.self.inside.note.asked } in let e = c.advance.ensures in let up = c.give_up-in-Err-orders_of.ensures in
-    rw (← c.self.view_is) (is-stopped u c.advance.new.self c.give_up-in-Err-orders_of.new.hand e.underway e.planned e.same up.underway up.planned up.client, inl refl)
+pub returns-in-Err-write_orders : goal.returns-in-Err-write_orders
+returns-in-Err-write_orders c =
+    let u : UnderWayOf = record { hand = c.self.inside.hand; server = c.self.inside.queries.value; asked = c.self.inside.note.asked } in let e = c.advance.ensures in let up = c.give_up-in-Err-write_orders.ensures in
+    rw (← c.self.view_is) (is-stopped u c.advance.new.self c.give_up-in-Err-write_orders.new.hand e.underway e.planned e.same up.underway up.planned up.client, inl refl)
 
 pub returns-in-Err : goal.returns-in-Err
 returns-in-Err c =
