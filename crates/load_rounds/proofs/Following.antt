@@ -27,7 +27,7 @@ use Rattle.execution.specs.Executes.{IsTextOf}
 use Rattle.load_rounds.proofs.Numbering.{source-at}
 pub use Rattle.load_rounds.proofs.Stepping.{SameSources}
 use Rattle.load_rounds.proofs.Stepping.{made-recorded, end-recorded}
-use Rattle.load_rounds.proofs.Onces.{ran-rules}
+use Rattle.load_rounds.proofs.Stepping.{ran-rules}
 use Rattle.load_rounds.proofs.Lacking.{length-wanting}
 
 pub nothing-modes : (modes : List KeyMode) → modes_wanted (map nothing_wanted modes) ≡ modes

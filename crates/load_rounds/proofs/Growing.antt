@@ -11,7 +11,7 @@ use Rattle.execution.specs.Executes.{GrowsTo}
 use Rattle.load_rounds.specs.Sessions.{SessionOf, StateOf, state_of, rules_of, session_modes, memory_of, after_step}
 use Rattle.load_rounds.specs.Calls.{RoundRan}
 use Rattle.load_rounds.specs.ByHand.{received}
-use Rattle.load_rounds.proofs.Onces.{ran-rules}
+use Rattle.load_rounds.proofs.Stepping.{ran-rules}
 use Rattle.load_rounds.proofs.Runs.{marked-rules, lost-rules}
 
 pub grows-trans : (l m n : MemoryOf) → GrowsTo l m → GrowsTo m n → GrowsTo l n

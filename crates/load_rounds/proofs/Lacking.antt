@@ -30,21 +30,36 @@ pub length-wanting : (w : List WantedOf) (ls : List Load) → length (wanting w 
 length-wanting w [] = refl
 length-wanting w (l ∷ ls) = length-wanting (with_wanted w l.loader l.key) ls ∙ length-with w l.loader l.key
 
+-- some load is there
+abbrev pub lacks : List Load → Bool
+lacks [] = false
+lacks (l ∷ ls) = true
+
+lacks-last : (ls : List Load) (l : Load) → lacks (ls ++ l ∷ []) ≡ true
+lacks-last [] l = refl
+lacks-last (x ∷ xs) l = refl
+
+-- these are the wants of the keys so far, and whether some key is missing
+abbrev pub LacksSoFar : Reader → ℕ → List WantedOf → List KeyOf → List WantedOf → Bool → Type 0
+LacksSoFar R loader none keys wants some = (wants ≡ wanting none (missing R (map (load_of loader) keys))) × (some ≡ lacks (missing R (map (load_of loader) keys)))
+
 module _ (R : Reader) (loader : ℕ) (none : List WantedOf) (keys : List KeyOf) (k : KeyOf) where
   one-more : missing R (map (load_of loader) (keys ++ k ∷ [])) ≡ missing R (map (load_of loader) keys) ++ missing R (load_of loader k ∷ [])
   one-more = ap (missing R) (map-append (load_of loader) keys (k ∷ [])) ∙ missing-append R (map (load_of loader) keys) (load_of loader k ∷ [])
 
   -- a key more that isn't known
-  pub lacks-more : (w w' : List WantedOf) → w ≡ wanting none (missing R (map (load_of loader) keys)) → is_none (R (load_of loader k)) ≡ true → w' ≡ with_wanted w loader k → w' ≡ wanting none (missing R (map (load_of loader) (keys ++ k ∷ [])))
-  lacks-more w w' is lacks put =
-      let last : missing R (load_of loader k ∷ []) ≡ load_of loader k ∷ [] = rw lacks refl in
-      put ∙ ap (λ v. with_wanted v loader k) is ∙ sym (wanting-append none (missing R (map (load_of loader) keys)) (load_of loader k ∷ [])) ∙ sym (ap (wanting none) (one-more ∙ ap (λ ls. missing R (map (load_of loader) keys) ++ ls) last))
+  pub lacks-more : (w w' : List WantedOf) (b : Bool) → LacksSoFar R loader none keys w b → is_none (R (load_of loader k)) ≡ true → w' ≡ with_wanted w loader k → LacksSoFar R loader none (keys ++ k ∷ []) w' true
+  lacks-more w w' b so none-yet put =
+      let last : missing R (load_of loader k ∷ []) ≡ load_of loader k ∷ [] = rw none-yet refl in
+      let more = one-more ∙ ap (λ ls. missing R (map (load_of loader) keys) ++ ls) last in
+      (put ∙ ap (λ v. with_wanted v loader k) so.0 ∙ sym (wanting-append none (missing R (map (load_of loader) keys)) (load_of loader k ∷ [])) ∙ sym (ap (wanting none) more), sym (ap lacks more ∙ lacks-last (missing R (map (load_of loader) keys)) (load_of loader k)))
 
   -- a key more that is known
-  pub knows-more : (w : List WantedOf) → w ≡ wanting none (missing R (map (load_of loader) keys)) → is_none (R (load_of loader k)) ≡ false → w ≡ wanting none (missing R (map (load_of loader) (keys ++ k ∷ [])))
-  knows-more w is known =
+  pub knows-more : (w : List WantedOf) (b : Bool) → LacksSoFar R loader none keys w b → is_none (R (load_of loader k)) ≡ false → LacksSoFar R loader none (keys ++ k ∷ []) w b
+  knows-more w b so known =
       let last : missing R (load_of loader k ∷ []) ≡ [] = rw known refl in
-      is ∙ sym (ap (wanting none) (one-more ∙ ap (λ ls. missing R (map (load_of loader) keys) ++ ls) last ∙ append-nil (missing R (map (load_of loader) keys))))
+      let more = one-more ∙ ap (λ ls. missing R (map (load_of loader) keys) ++ ls) last ∙ append-nil (missing R (map (load_of loader) keys)) in
+      (so.0 ∙ sym (ap (wanting none) more), so.1 ∙ sym (ap lacks more))
 
 -- a look-up finds nothing exactly if nothing is known
 pub unknown : (o : Option (Bor Outcome)) (x : Option OutcomeOf) → option_map outcome_of (option_copied o) ≡ x → is_none x ≡ not (is_some o)

@@ -6,11 +6,9 @@ pub mod Growing
 pub mod Histories
 pub mod Holding
 pub mod KeyByKey
-pub mod Keyed
+pub mod Reading
 pub mod Lacking
-pub mod Loadings
 pub mod Numbering
-pub mod Onces
 pub mod PairSources
 pub mod Polls
 pub mod Requests

@@ -15,7 +15,7 @@ use Rattle.load_rounds.specs.Calls.{RoundLost}
 use Rattle.load_rounds.specs.Headline.{asked_steps, Headline, StopsAnswering}
 use Rattle.load_rounds.specs.SharedRounds.{RequestOf, ReportOf, items_from, together, greatest, AreShared, SharedHeadline}
 
-front-one : (modes : List KeyMode) (r : RequestOf) (M : Memory) → front modes (together (r ∷ [])) M ≡ front modes r.program M
+pub front-one : (modes : List KeyMode) (r : RequestOf) (M : Memory) → front modes (together (r ∷ [])) M ≡ front modes r.program M
 front-one modes r M = ap (λ ls. firsts modes (missing (read modes M) ls)) (append-nil (needs r.program (read modes M)))
 
 one-some : (loads : List Load) → loads ≢ [] → one_unless_empty loads ≡ 1

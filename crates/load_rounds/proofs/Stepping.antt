@@ -90,6 +90,13 @@ module _ {S : Type 0} where
   record-same [] = tt
   record-same (l ∷ ls) = (record { same = refl; made = 0; orders = omega arith; entries = omega arith }, record-same ls)
 
+  -- a session keeps its loaders
+  pub record-many : (xs ys : List (LoaderOf S)) → AreOnRecord xs ys → length ys ≡ length xs
+  record-many [] [] h = refl
+  record-many [] (y ∷ ys) h = absurd h
+  record-many (x ∷ xs) [] h = absurd h
+  record-many (x ∷ xs) (y ∷ ys) h = ap suc (record-many xs ys h.1)
+
   one-then : (a b c : LoaderOf S) → IsOnRecord a b → IsOnRecord b c → IsOnRecord a c
   one-then a b c h k = record { same = k.same ∙ h.same; made = h.made + k.made; orders = omega (arith, h.orders, k.orders); entries = omega (arith, h.entries, k.entries) }
 
@@ -127,6 +134,9 @@ asking-rounds rules p M [] = tt
 asking-rounds rules p M (r ∷ rs) = asking-rounds rules p (after_round rules M r) rs
 
 module _ {S : Type 0} (may : S → List KeyOf → AnswerOf → Type 0) where
+  pub ran-rules : (old new : StateOf S) (loads : List Load) → RoundRan may old new loads → rules_of new ≡ rules_of old
+  ran-rules old new loads h = ap rules_of h.after ∙ rules-logged true (old.rounds + 1) 0 (λ n. keys_for n loads) old.loaders
+
   pub ran-recorded : (old new : StateOf S) (loads : List Load) → RoundRan may old new loads → AreOnRecord old.loaders new.loaders
   ran-recorded old new loads h = rw h.after (record-logged true (old.rounds + 1) 0 (λ n. keys_for n loads) old.loaders)
 

@@ -4,7 +4,7 @@ pub mod Executes
 pub mod Headline
 pub mod Histories
 pub mod KeyByKey
-pub mod Loadings
+pub mod Reading
 pub mod Rounds
 pub mod ByHand
 pub mod Sessions

@@ -1,53 +1,162 @@
-//! Keys of one loader: those that aren't known, and what is known.
-ghost use Rattle.std.specs.Prelude.{◌≡◌, ◌<◌, All, IsSome, Some, map, length, IfOk, option_map, option_copied};
+//! Keys of a loader as a program, and what is known of them.
+ghost use Rattle.std.specs.Prelude.{◌≡◌, ◌<◌, ◌+◌, [], ⊤, All, IsSome, Some, map, length, IfOk};
 ghost use Rattle.load_memory.specs.Keys.{key_of};
 ghost use Rattle.load_memory.specs.Outcomes.{outcome_of};
 ghost use Rattle.load_memory.specs.Pairs.{look};
 ghost use Rattle.execution.specs.Loads.{read};
-ghost use Rattle.execution.specs.Front.{missing, wanted};
+ghost use Rattle.execution.specs.Executes.{CanExecute, IsExecuted};
 ghost use Rattle.load_rounds.specs.Calls.{load_of, reader_of};
+ghost use Rattle.load_rounds.specs.Reading.{keys_of, no_text, reading};
 
-use load_memory::{Key, Memory, Outcome, cache_key};
+use crate::session::Session;
+use execution::Execute;
+use futures::task::Poll;
+use load_memory::{Key, Keys, Memory, Outcome, Probe};
 use load_queue::Wants;
 use std::alloc::{AllocError, Global};
+use std::marker::Model;
 
-/// Returns what is known of a key.
-fn known_of<'a>(
-    alloc: Global,
-    memory: &'a Memory,
+/// Keys of a loader, which are loaded as anything else that is executed: their program is a list that reads each of them. Its text is empty;
+/// [`Session::known_outcomes`] tells the outcomes once nothing is missing.
+///
+/// A contract sees the loader and its keys, which clones share.
+#[derive(Drop)]
+pub struct KeysToLoad {
     loader: usize,
-    key: &Key,
-) -> Result<Option<&'a Outcome>, AllocError>
-    requires { loader < length memory.now.modes }
-    ensures { IfOk result (λ known. option_map outcome_of (option_copied known)
-        ≡ read memory.now.modes (look memory.now.pairs) (load_of loader (key_of key.now))) }
-{
-    let cached = cache_key(alloc, key, memory.mode(loader))?;
-    Ok(memory.get(loader, &cached))
+    keys: Keys,
 }
 
-/// The keys that the memory lacks, as wants of their loader.
-pub(crate) fn missing_keys(
+impl Model for KeysToLoad {
+    ghost use Rattle.std.specs.Prelude.{map};
+    ghost use Rattle.load_memory.specs.Keys.{key_of};
+    ghost use Rattle.load_rounds.specs.Reading.{KeysOf, keys_of};
+
+    ghost Value = { KeysOf };
+
+    ghost view = { λ k. keys_of k.loader (map key_of k.keys) };
+}
+
+impl Clone for KeysToLoad {
+    ghost is_clone = { λ x y. y ≡ x };
+
+    fn clone(&self) -> Result<KeysToLoad, AllocError> {
+        Ok(KeysToLoad {
+            loader: self.loader,
+            keys: self.keys.clone()?,
+        })
+    }
+}
+
+impl KeysToLoad {
+    /// Keys of the loader of this number.
+    pub fn new(loader: usize, keys: Vec<Key>) -> Result<KeysToLoad, AllocError>
+        ensures { IfOk result (λ all. all ≡ keys_of loader (map key_of keys.items)) }
+    {
+        Ok(KeysToLoad {
+            loader,
+            keys: Keys::from_vec(keys)?,
+        })
+    }
+
+    /// The loader's number.
+    pub fn loader(&self) -> usize
+        ensures { result ≡ self.now.loader }
+    {
+        self.loader
+    }
+
+    /// The keys, in order.
+    pub fn keys(&self) -> &[Key]
+        ensures { map key_of result.now ≡ self.now.keys }
+    {
+        self.keys.as_slice()
+    }
+}
+
+impl Execute<()> for KeysToLoad {
+    ghost use Rattle.load_rounds.specs.Reading.{keys_fits, keys_loaders, keys_program, keys_text};
+
+    ghost program = { keys_program };
+
+    ghost text_of = { keys_text };
+
+    ghost loaders = { keys_loaders };
+
+    ghost fits = { keys_fits };
+
+    fn start(&self) {}
+
+    fn execute(
+        &self,
+        _progress: &mut (),
+        alloc: Global,
+        memory: &Memory,
+        wants: &mut Wants,
+    ) -> Result<Poll<String>, AllocError> {
+        want_missing(alloc, memory, self.loader, self.keys.as_slice(), wants)
+    }
+}
+
+/// Keys of a loader that are loaded while they are lent.
+#[derive(Drop)]
+pub(crate) struct LentKeys<'k> {
+    pub(crate) loader: usize,
+    pub(crate) keys: &'k [Key],
+}
+
+impl<'k> Execute<()> for LentKeys<'k> {
+    ghost program = { λ k. reading k.loader (map key_of k.keys.now) };
+
+    ghost text_of = { λ _. no_text };
+
+    ghost loaders = { λ k. k.loader + 1 };
+
+    ghost fits = { λ _ _ _. ⊤ };
+
+    fn start(&self) {}
+
+    fn execute(
+        &self,
+        _progress: &mut (),
+        alloc: Global,
+        memory: &Memory,
+        wants: &mut Wants,
+    ) -> Result<Poll<String>, AllocError> {
+        want_missing(alloc, memory, self.loader, self.keys, wants)
+    }
+}
+
+// Wants the keys that the memory lacks. Ready if it lacks none.
+fn want_missing(
     alloc: Global,
     memory: &Memory,
     loader: usize,
     keys: &[Key],
-) -> Result<Wants, AllocError>
-    requires { loader < length memory.now.modes }
-    ensures { IfOk result (λ wants. wants ≡ wanted memory.now.modes
-        (missing (reader_of memory.now) (map (load_of loader) (map key_of keys.now)))) }
+    wants: &mut Wants,
+) -> Result<Poll<String>, AllocError>
+    requires { CanExecute (loader + 1) memory.now wants.old }
+    ensures { IfOk result (IsExecuted no_text wants.old wants.new
+        (reading loader (map key_of keys.now)) memory.now) }
 {
-    let mut wants = Wants::new(alloc, memory)?;
+    let mut probe = Probe::new();
+    let mut is_missing = false;
     for key in keys {
-        if known_of(alloc, memory, loader, key)?.is_none() {
+        if memory
+            .look_up(alloc, &mut probe, loader, key.as_key_ref())?
+            .is_none()
+        {
             wants.add(loader, key.clone()?)?;
+            is_missing = true;
         }
     }
-    Ok(wants)
+    if is_missing {
+        return Ok(Poll::Pending);
+    }
+    Ok(Poll::Ready(String::new(alloc)))
 }
 
-/// Copies of what is known of keys, place by place.
-pub(crate) fn known_outcomes(
+// Copies of what is known of keys, place by place.
+fn copied_outcomes(
     alloc: Global,
     memory: &Memory,
     loader: usize,
@@ -59,12 +168,28 @@ pub(crate) fn known_outcomes(
     ensures { IfOk result (λ v. map (λ k. reader_of memory.now (load_of loader k))
         (map key_of keys.now) ≡ map Some (map outcome_of v.items)) }
 {
+    let mut probe = Probe::new();
     let mut outcomes = Vec::with_capacity(alloc, keys.len())?;
     for key in keys {
-        let Some(outcome) = known_of(alloc, memory, loader, key)? else {
+        let Some(outcome) = memory.look_up(alloc, &mut probe, loader, key.as_key_ref())? else {
             unreachable!();
         };
         outcomes.push(outcome.clone()?)?;
     }
     Ok(outcomes)
+}
+
+impl<S> Session<S> {
+    ghost use Rattle.load_rounds.specs.Sessions.{state_of};
+    ghost use Rattle.load_rounds.specs.Calls.{AreKnown, front_at};
+
+    /// Copies of what is known of a loader's keys, place by place, where none of them is missing.
+    pub fn known_outcomes(&self, loader: usize, keys: &[Key]) -> Result<Vec<Outcome>, AllocError>
+        requires loader { loader < length self.now.loaders }
+        requires known { front_at (state_of self.now) loader (map key_of keys.now) ≡ [] }
+        ensures { IfOk result (λ outcomes. AreKnown (state_of self.now)
+            loader (map key_of keys.now) (map outcome_of outcomes.items)) }
+    {
+        copied_outcomes(self.alloc(), self.memory(), loader, keys)
+    }
 }

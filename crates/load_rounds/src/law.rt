@@ -15,7 +15,11 @@ ghost use Rattle.load_memory.specs.Outcomes.{ItemOf};
 ghost use Rattle.load_memory.specs.declared.key.KeyMode.{KeyMode};
 ghost use Rattle.load_rounds.specs.KeyByKey.{AnswerKeyByKey, RespectModes, HasLawfulLog, IsAnsweredAlike, IsAnsweredDirectly};
 ghost use Rattle.load_rounds.specs.SharedKeyByKey.{AreAnsweredAlike, AreAnsweredDirectly};
-ghost use Rattle.load_rounds.specs.Histories.{Call, IsMadeOf, AreMadeOf, Leads, IsCall, AreCalls, clears_at, IsFrom, gained_cells, AskTwice, IsFailedAt};
+ghost use Rattle.execution.specs.Front.{front_of_keys};
+ghost use Rattle.load_rounds.specs.Calls.{AreKnown};
+ghost use Rattle.load_rounds.specs.Headline.{StopsAnswering};
+ghost use Rattle.load_rounds.specs.Reading.{CanLoad, HasRead, reading};
+ghost use Rattle.load_rounds.specs.Histories.{Call, Loading, StoppedLoading, IsMadeOf, AreMadeOf, Leads, IsCall, AreCalls, clears_at, IsFrom, gained_cells, AskTwice, IsFailedAt};
 
 use load_queue::LocalSource;
 
@@ -88,4 +92,15 @@ pub fn requests_key_by_key<S: LocalSource>()
         → AnswerKeyByKey S.may_tell item → AreAnsweredAlike S.may_tell }
     ensures direct { (item : _) (mode_of : S → KeyMode) → AnswerKeyByKey S.may_tell item
         → RespectModes mode_of item → AreAnsweredDirectly S.may_tell item mode_of }
+{}
+
+/// *Keys are a program*: a list that reads each of them. Its front is what a call that loads them asks for. A run of it that has answered is
+/// such a call, with the outcomes that the memory has then: one round at most. A run where memory ran out is such a call that stopped.
+pub fn keys_are_a_program<S: LocalSource>()
+    ensures front { (modes : _) (loader : _) (keys : _) (M : Memory)
+        → front modes (reading loader keys) M ≡ front_of_keys modes loader keys M }
+    ensures loaded { (old new : _) (l ks os : _) → HasRead S.may_tell old new l ks
+        → AreKnown new l ks os → IsCall S.may_tell (Loading l ks os) old new }
+    ensures stopped { (old new : StateOf S) (l ks : _) → CanLoad old l → StopsAnswering S.may_tell
+        old new (reading l ks) → IsCall S.may_tell (StoppedLoading l ks) old new }
 {}

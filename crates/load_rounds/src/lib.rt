@@ -11,8 +11,8 @@
 //! takes their replies in any order. Each call's contract says what has been done since the run was begun (`specs::ByHand`,
 //! `IsRun`), and in the end that is the headline.
 //!
-//! Keys of one loader are loaded in turn ([`Session::load_many`]), or in a round that the caller runs ([`Session::begin_load`],
-//! [`Session::end_load`]): `specs::Loadings`.
+//! Keys of one loader are a program too ([`KeysToLoad`]): whatever answers plans loads them, and then the session tells their outcomes
+//! ([`Session::known_outcomes`]). What a run of it does is what [`Session::load_many`] does (`law::keys_are_a_program`).
 //!
 //! Answers are given to whatever can be executed ([`Execute`]): it loads keys, and gives a text. A
 //! plan of a GraphQL document is that; nothing here knows of one.
@@ -27,9 +27,8 @@ pub mod answering;
 pub mod by_hand;
 mod executed;
 pub mod fault;
-mod keys;
+pub mod keys;
 pub mod law;
-pub mod load;
 mod restart;
 mod round;
 pub mod session;
@@ -42,5 +41,5 @@ pub use answering::Answering;
 pub use by_hand::{Next, RoundsByHand, Stage};
 pub use execution::Execute;
 pub use fault::SessionFault;
-pub use load::NextLoad;
+pub use keys::KeysToLoad;
 pub use session::Session;

@@ -15,7 +15,7 @@ ghost use Rattle.execution.specs.Sessions.{Forgot, Lost, AskedLoads};
 ghost use Rattle.load_rounds.specs.Rounds.{AreWanted};
 
 use crate::fault::SessionFault;
-use crate::load::NextLoad;
+use crate::keys::LentKeys;
 use crate::restart::{forget_all, restart_all};
 use crate::round::{cut_all, mark_all, run_all, run_and_keep};
 use load_memory::{Item, Key, Memory, Outcome, Receipt, Reply, Shelf, cache_key};
@@ -343,13 +343,11 @@ impl<S: LocalSource> Session<S> {
         ensures recorded { AreOnRecord
             self.old.loaders self.new.loaders }
     {
-        match self.begin_load(loader, keys)? {
-            NextLoad::Loaded(outcomes) => Ok(outcomes),
-            NextLoad::Round(orders) => {
-                let replies = run_all(self.alloc(), orders, self.loaders())?;
-                Ok(self.end_load(loader, keys, replies)?)
-            }
+        if loader >= self.loaders.len() {
+            return Err(SessionFault::NoSuchLoader);
         }
+        self.answer(&LentKeys { loader, keys })?;
+        Ok(self.known_outcomes(loader, keys)?)
     }
 
     /// Asks for the wanted keys in one round, batch after batch, and stores the replies. The room of the wants is kept.

@@ -1,5 +1,5 @@
 -- Lemmas on how far a hand is, and what its calls make of that.
-use Rattle.std.proofs.Common.{◌≡◌, ◌<◌, ◌∙◌, ◌⊎◌, ℕ, List, [], ◌∷◌, map, length, refl, ap, sym, subst, arith, inl, inr, false}
+use Rattle.std.proofs.Common.{◌≡◌, ◌<◌, ◌≤◌, ◌∙◌, ◌⊎◌, ◌+◌, ℕ, List, [], ◌∷◌, map, length, refl, ap, sym, subst, arith, inl, inr, false}
 use Rattle.std.proofs.lemmas.List.{length-map}
 use Rattle.std.proofs.lemmas.List.Elements.{All-head, All-tail, All-nil, All-cons}
 use Rattle.std.proofs.lemmas.List.Sorted.{IsPermutation-refl}
@@ -9,7 +9,7 @@ use Rattle.load_memory.specs.Pairs.{MemoryOf}
 use Rattle.load_memory.specs.Replies.{ReplyOf}
 use Rattle.load_memory.proofs.ReplyPairs.{All-of_map}
 use Rattle.load_queue.specs.Answers.{AnswerOf}
-use Rattle.load_queue.specs.Loaders.{LoaderOf, as_made, stored_in}
+use Rattle.load_queue.specs.Loaders.{LoaderOf, AreOnRecord, marked, stored_in}
 use Rattle.load_queue.specs.Orders.{OrderOf, CutOf}
 use Rattle.execution.specs.Program.{Program}
 use Rattle.execution.specs.Completion.{AnsweredOf}
@@ -24,15 +24,15 @@ use Rattle.load_rounds.specs.SharedRounds.{joint, requests, AreAnswers}
 use Rattle.load_rounds.specs.SharedRuns.{RunAllOf, IsRunAll}
 use Rattle.load_rounds.specs.declared.by_hand.Stage.TheVariants as stage
 use Rattle.load_rounds.proofs.Numbering.{orders-below, orders-loads}
-use Rattle.load_rounds.proofs.Runs.{run-stops, round-asked, round-orders}
-use Rattle.load_rounds.proofs.Stepping.{steps-made}
+use Rattle.load_rounds.proofs.Runs.{lost-rules, run-stops, round-asked, round-orders}
+use Rattle.load_rounds.proofs.Stepping.{record-logged, record-many, record-same, record-then}
 use Rattle.rounds_by_hand.specs.declared.hand.Advance.{Advance}
 use Rattle.rounds_by_hand.specs.declared.hand.Advance.TheVariants as did
 use Rattle.rounds_by_hand.specs.declared.pending.Pending.{Pending}
 use Rattle.rounds_by_hand.specs.declared.pending.Pending.TheVariants.{Out, In}
 use Rattle.rounds_by_hand.specs.Pending.{order_in, still_out, is_in, IsAnswered}
 use Rattle.rounds_by_hand.proofs.Orders.{out-orders, out-away, out-own}
-use Rattle.rounds_by_hand.specs.Hands.{FarOf, handed, out, over, IsOutWith, HoldsFar, HasGone, GoesFrom, StepsFrom, TellsFrom, StopsFrom}
+use Rattle.rounds_by_hand.specs.Hands.{FarOf, HandOf, handed, out, over, KeepsHand, KeepsLoaders, IsOutWith, HoldsFar, HasGone, GoesFrom, StepsFrom, TellsFrom, StopsFrom}
 
 -- orders of which none is answered
 pub none-answered : (may : ℕ → List KeyOf → AnswerOf → Type 0) (ps : List Pending) → All (λ one. is_in one ≡ false) ps → All (IsAnswered may) ps
@@ -45,21 +45,35 @@ none-answered may (p ∷ ps) away = All-cons (IsAnswered may) p ps (go p (All-he
 
 module _ {S : Type 0} where
   -- a session keeps its loaders
-  made-many : (as' bs : List (LoaderOf S)) → map as_made as' ≡ map as_made bs → length as' ≡ length bs
-  made-many as' bs e = sym (length-map as' as_made) ∙ ap length e ∙ length-map bs as_made
+  pub same-kept : (old new : StateOf S) → new ≡ old → KeepsLoaders old new
+  same-kept old new e = rw e (record { rules = refl; recorded = record-same old.loaders })
 
-  pub lost-many : (old new : StateOf S) (loads : List Load) → new ≡ after_step old (Lost loads) → length new.loaders ≡ length old.loaders
-  lost-many old new loads e = made-many new.loaders old.loaders (ap (λ (s : StateOf S). map as_made s.loaders) e ∙ steps-made old (Lost loads ∷ []))
+  pub then-kept : (old mid new : StateOf S) → KeepsLoaders old mid → KeepsLoaders mid new → KeepsLoaders old new
+  then-kept old mid new h k = record { rules = k.rules ∙ h.rules; recorded = record-then old.loaders mid.loaders new.loaders h.recorded k.recorded }
 
-  pub forgot-many : (old new : StateOf S) → new ≡ after_step old Forgot → length new.loaders ≡ length old.loaders
-  forgot-many old new e = ap (λ (s : StateOf S). length s.loaders) e
+  pub kept-many : (old new : StateOf S) → KeepsLoaders old new → length new.loaders ≡ length old.loaders
+  kept-many old new h = record-many old.loaders new.loaders h.recorded
 
-  pub unasked-many : (p : Program) (old new : StateOf S) → IsUnasked p old new → length new.loaders ≡ length old.loaders
-  unasked-many p old new (inl same) = ap (λ (s : StateOf S). length s.loaders) same
-  unasked-many p old new (inr lost) = lost-many old new (of_first lost.loaders (front_in old p)) lost.after
+  pub lost-kept : (old new : StateOf S) (loads : List Load) → new ≡ after_step old (Lost loads) → KeepsLoaders old new
+  lost-kept old new loads e = rw e (record { rules = lost-rules old loads; recorded = record-logged false (old.rounds + 1) 0 (λ n. keys_for n loads) old.loaders })
 
-  pub received-many : (old new : StateOf S) (replies : List ReplyOf) → new ≡ received old replies → length new.loaders ≡ length old.loaders
-  received-many old new replies e = ap (λ (s : StateOf S). length s.loaders) e ∙ length-map old.loaders (λ l. stored_in l old.rounds)
+  pub forgot-kept : (old new : StateOf S) → new ≡ after_step old Forgot → KeepsLoaders old new
+  forgot-kept old new e = rw e (record { rules = refl; recorded = record-same old.loaders })
+
+  pub unasked-kept : (p : Program) (old new : StateOf S) → IsUnasked p old new → KeepsLoaders old new
+  unasked-kept p old new (inl same) = same-kept old new same
+  unasked-kept p old new (inr lost) = lost-kept old new (of_first lost.loaders (front_in old p)) lost.after
+
+  stored-rules : (round : ℕ) (ls : List (LoaderOf S)) → map rule_of (map (λ l. stored_in l round) ls) ≡ map rule_of ls
+  stored-rules round [] = refl
+  stored-rules round (l ∷ ls) = ap (λ rs. rule_of l ∷ rs) (stored-rules round ls)
+
+  stored-recorded : (round : ℕ) (ls : List (LoaderOf S)) → AreOnRecord ls (map (λ l. stored_in l round) ls)
+  stored-recorded round [] = tt
+  stored-recorded round (l ∷ ls) = (record { same = refl; made = 0; orders = omega arith; entries = omega (arith, length-map l.log (marked round)) }, stored-recorded round ls)
+
+  pub received-kept : (old new : StateOf S) (replies : List ReplyOf) → new ≡ received old replies → KeepsLoaders old new
+  received-kept old new replies e = rw e (record { rules = stored-rules old.rounds old.loaders; recorded = stored-recorded old.rounds old.loaders })
 
   -- each order of a round is of one of the loaders
   pub have-loaders : (s : StateOf S) (p : Program) → All (λ (o : OrderOf). o.loader < length s.loaders) (orders_in s p)
@@ -120,6 +134,19 @@ module _ {S : Type 0} where
     pub stops-weaker : (from more : SessionOf S → Type 0) (now : SessionOf S) (plans others : List P) → others ≡ plans → ((begun : SessionOf S) → from begun → more begun)
         → StopsFrom program text_of may more now others → StopsFrom program text_of may from now plans
     stops-weaker from more now plans others e to tells = λ begun h. subst (λ ps. StopsAnswering may (state_of begun) (state_of now) (joint program text_of ps)) e (tells begun (to begun h))
+
+  module _ {P E : Type 0} (program : P → Program) (text_of : P → AnsweredOf → List ℕ) (loaders : P → ℕ) (fits : P → E → MemoryOf → Type 0) where
+    -- what a step keeps
+    pub keeps-hand : (old new : HandOf S P E) → All (λ plan. loaders plan ≤ length old.session.loaders) old.plans → KeepsLoaders (state_of old.session) (state_of new.session) → new.plans ≡ old.plans
+        → HoldsFar program text_of loaders fits new.session new.plans new.far → KeepsHand program text_of loaders fits old new
+    keeps-hand old new enough kept same round = record {
+      holds = record {
+        enough = subst (All (λ plan. loaders plan ≤ length new.session.loaders)) (sym same) (subst (λ n. All (λ plan. loaders plan ≤ n) old.plans) (sym (kept-many (state_of old.session) (state_of new.session) kept)) enough);
+        round = round;
+      };
+      plans = same;
+      session = kept;
+    }
 
   module _ {P E : Type 0} (program : P → Program) (text_of : P → AnsweredOf → List ℕ) (loaders : P → ℕ) (fits : P → E → MemoryOf → Type 0) (may : S → List KeyOf → AnswerOf → Type 0) where
     -- a step from sessions on which more holds, and of plans that are the same

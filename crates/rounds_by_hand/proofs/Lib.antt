@@ -1,6 +1,5 @@
 pub mod Far
 pub mod Orders
 pub mod Taking
-pub mod LoadFar
+pub mod LoadHands
 pub mod Storing
-pub mod LoadStoring

@@ -10,7 +10,8 @@ use Rattle.load_queue.specs.declared.source.FetchFault.{FetchFault}
 use Rattle.execution.specs.Program.{Program}
 use Rattle.execution.specs.Completion.{AnsweredOf}
 use Rattle.execution.specs.Rounds.{any_answer, may_at}
-use Rattle.load_rounds.specs.Sessions.{SessionOf, StateOf, state_of, memory_of}
+use Rattle.load_queue.specs.Loaders.{AreOnRecord}
+use Rattle.load_rounds.specs.Sessions.{SessionOf, StateOf, state_of, rules_of, memory_of}
 use Rattle.load_rounds.specs.Headline.{StopsAnswering}
 use Rattle.load_rounds.specs.ByHand.{orders_in, IsAsked}
 use Rattle.load_rounds.specs.SharedRounds.{requests, joint, AreAnswers}
@@ -96,6 +97,11 @@ OnStep Round fact = fact
 OnStep Waiting fact = Unit {0}
 OnStep Over fact = Unit {0}
 
+-- the loaders of a session stay, with their modes and limits, and each order that is made of one stands in its log
+pub record KeepsLoaders {S : Type 0} (old new : StateOf S) : Type 0 where
+  pub rules : rules_of new ≡ rules_of old
+  pub recorded : AreOnRecord old.loaders new.loaders
+
 module _ {S P : Type 0} (program : P → Program) (text_of : P → AnsweredOf → List ℕ)
     (may : S → List KeyOf → AnswerOf → Type 0) where
   -- from whichever session they were begun: the answers have the headline
@@ -171,11 +177,11 @@ module _ {S P E : Type 0} where
         pub enough : All (λ plan. loaders plan ≤ length session.loaders) plans
         pub round : HoldsFar session plans far
 
-      -- What a step keeps: what holds between calls, the plans, and how many loaders the session has.
+      -- What a step keeps: what holds between calls, the plans, and the loaders.
       pub record KeepsHand (old new : HandOf S P E) : Type 0 where
         pub holds : Holds new.session new.plans new.far
         pub plans : new.plans ≡ old.plans
-        pub count : length new.session.loaders ≡ length old.session.loaders
+        pub session : KeepsLoaders (state_of old.session) (state_of new.session)
 
       -- An answer to an order keeps more: the session is as it was.
       pub record KeepsSession (old new : HandOf S P E) : Type 0 where

@@ -8,16 +8,14 @@
 //! the reply to an order is what is stored, whoever gave it (`StoresReplies` of `specs/Hands.antt`). The requests of
 //! these calls are what the hand was made with, the loaders that the plans need, and each call keeps that.
 //!
-//! A [`LoadHand`] does the same for keys of one loader, which take at most one round: `IsLoadUnderway` of
-//! `specs/LoadHands.antt`, and in the end what was done is a call of `load_many`. There too, what was given as the reply to an order is what
-//! is stored (`StoresLoadReplies` of `specs/LoadHands.antt`).
+//! Keys of one loader are a program too, and a [`LoadHand`] is a hand of it, which takes at most one round and tells the keys' outcomes. In the
+//! end what was done is a call of `load_many` (`specs/LoadHands.antt`).
 #![tactic(auto)]
 
 pub mod fault;
 pub mod hand;
 pub mod handed_in;
 pub mod load_hand;
-mod load_steps;
 pub mod pending;
 mod seen;
 mod steps;
@@ -26,5 +24,5 @@ mod threads;
 pub use fault::TakeFault;
 pub use hand::{Advance, Hand};
 pub use handed_in::HandedIn;
-pub use load_hand::{LoadAdvance, LoadHand};
+pub use load_hand::{LoadAdvance, LoadHand, PlannedLoad};
 pub use pending::Pending;

@@ -2,7 +2,7 @@
 ghost use Rattle.std.specs.Prelude.{◌≡◌, ◌≤◌, All, length, IfOk, OnOk, OnErr};
 ghost use Rattle.load_rounds.specs.Sessions.{SessionOf, state_of, memory_of};
 ghost use Rattle.load_rounds.specs.SharedRuns.{CanGoOnAll, FitsRun, FitsLater, KeepsFitting};
-ghost use Rattle.rounds_by_hand.specs.Hands.{far_of, IsOutWith, StepsFrom, StopsFrom};
+ghost use Rattle.rounds_by_hand.specs.Hands.{far_of, IsOutWith, KeepsLoaders, StepsFrom, StopsFrom};
 ghost use Rattle.rounds_by_hand.specs.Hands.{RunSteps, RunStops, OutSteps, OutStops, GoesOnIfAnswered};
 ghost use Rattle.rounds_by_hand.specs.Stored.{ForgetsFailed, KnowsTheSame, StoresRound};
 
@@ -25,8 +25,8 @@ fn go_on<E: Drop, P: Execute<E> + Drop, S: LocalSource>(
         run session.new P.loaders P.fits (far_of gone.0) gone.1) }
     ensures stopped { OnErr result
         (RunStops P.program P.text_of S.may_tell session.old run session.new) }
-    ensures loaders { length session.new.loaders
-        ≡ length session.old.loaders }
+    ensures loaders { KeepsLoaders
+        (state_of session.old) (state_of session.new) }
     ensures same { OnOk result
         (KnowsTheSame session.old session.new) }
 {
@@ -48,8 +48,8 @@ pub(crate) fn begin<E: Drop, P: Execute<E> + Drop, S: LocalSource>(
         (λ begun. session.old ≡ begun) session.new plans.items (far_of gone.0) gone.1) }
     ensures stopped { OnErr result (StopsFrom P.program P.text_of
         S.may_tell (λ begun. session.old ≡ begun) session.new plans.items) }
-    ensures loaders { length session.new.loaders
-        ≡ length session.old.loaders }
+    ensures loaders { KeepsLoaders
+        (state_of session.old) (state_of session.new) }
     ensures forgot { OnOk result
         (ForgetsFailed session.old session.new) }
 {
@@ -73,8 +73,8 @@ fn store<E: Drop, P: Execute<E> + Drop, S: LocalSource>(
         S.may_tell session.old run session.new pending.items) }
     ensures lost { OnErr result
         (state_of session.new ≡ state_of session.old) }
-    ensures loaders { length session.new.loaders
-        ≡ length session.old.loaders }
+    ensures loaders { KeepsLoaders
+        (state_of session.old) (state_of session.new) }
     ensures stored { OnOk result (StoresRound S.may_tell
         session.old session.new pending.items) }
 {
@@ -100,8 +100,8 @@ pub(crate) fn finish_round<E: Drop, P: Execute<E> + Drop, S: LocalSource>(
         run session.new P.loaders P.fits pending.items (far_of gone.0) gone.1) }
     ensures stopped { OnErr result
         (OutStops P.program P.text_of S.may_tell session.old run session.new pending.items) }
-    ensures loaders { length session.new.loaders
-        ≡ length session.old.loaders }
+    ensures loaders { KeepsLoaders
+        (state_of session.old) (state_of session.new) }
     ensures stored { OnOk result (StoresRound S.may_tell
         session.old session.new pending.items) }
 {

@@ -5,7 +5,7 @@ use Rattle.load_rounds.specs.Sessions.{StateOf, state_of, after_step}
 use Rattle.load_rounds.specs.SharedRuns.{IsRunAll}
 use Rattle.load_rounds.proofs.States.{on-err}
 use Rattle.rounds_by_hand.specs.Hands.{far_of}
-use Rattle.rounds_by_hand.proofs.Far.{forgot-stops, steps-weaker, stops-weaker}
+use Rattle.rounds_by_hand.proofs.Far.{forgot-kept, forgot-stops, steps-weaker, stops-weaker, then-kept}
 use Rattle.rounds_by_hand.proofs.steps.begin.Goals as goal
 
 pub returns-in_err-run-clause-stopped : goal.returns-in_err-run-clause-stopped
@@ -38,3 +38,11 @@ returns-clause-stopped g c =
 pub returns-clause-forgot : goal.returns-clause-forgot
 returns-clause-forgot g c =
     on_ok_weaker c.go_on.result (λ same. same ∙ ap (λ (s : StateOf g.row.S.Denot). s.memory) c.begin_all.ensures.forgot) c.go_on.ensures.same
+
+pub returns-in_err-run-clause-loaders : goal.returns-in_err-run-clause-loaders
+returns-in_err-run-clause-loaders g c = forgot-kept (state_of c.args.session.now) (state_of c.begin_all.new.self) c.in_err-run.ensures.forgot
+
+pub returns-clause-loaders : goal.returns-clause-loaders
+returns-clause-loaders g c =
+    let mid = state_of c.begin_all.new.self in
+    then-kept (state_of c.args.session.now) mid (state_of c.go_on.new.session) (forgot-kept (state_of c.args.session.now) mid c.begin_all.ensures.forgot) c.go_on.ensures.loaders

@@ -5,7 +5,7 @@ use Rattle.load_rounds.specs.Sessions.{state_of}
 use Rattle.load_rounds.specs.SharedRuns.{RunAllOf, IsRunAll}
 use Rattle.load_rounds.proofs.States.{on-err}
 use Rattle.rounds_by_hand.specs.Hands.{HasGone, out, far_of}
-use Rattle.rounds_by_hand.proofs.Far.{stops, steps-weaker, stops-weaker}
+use Rattle.rounds_by_hand.proofs.Far.{kept-many, stops, steps-weaker, stops-weaker, then-kept}
 use Rattle.rounds_by_hand.proofs.Storing.{stored-then}
 use Rattle.rounds_by_hand.proofs.steps.finish_round.Goals as goal
 
@@ -21,7 +21,7 @@ go_on-requires g c =
     let ready = c.in_ok-run.ensures.ready in
     let plans : run.plans ≡ c.args.run.plans = ap (λ (r : RunAllOf g.row.P.Denot g.row.E.Denot). r.plans) ready in
     let stage = ap (λ (r : RunAllOf g.row.P.Denot g.row.E.Denot). r.stage) ready in
-    let enough = subst (λ n. All (λ plan. loaders plan ≤ n) run.plans) (sym c.store.ensures.loaders) (subst (All (λ plan. loaders plan ≤ length c.args.session.now.loaders)) (sym plans) c.requires.enough) in
+    let enough = subst (λ n. All (λ plan. loaders plan ≤ n) run.plans) (sym (kept-many (state_of c.args.session.now) (state_of c.store.new.session) c.store.ensures.loaders)) (subst (All (λ plan. loaders plan ≤ length c.args.session.now.loaders)) (sym plans) c.requires.enough) in
     record { can = record { ready = stage; within = enough }; fits = c.in_ok-run.ensures.fits c.requires.fits }
 
 pub returns-clause-gone : goal.returns-clause-gone
@@ -51,3 +51,6 @@ returns-clause-stopped g c =
 pub returns-clause-stored : goal.returns-clause-stored
 returns-clause-stored g c =
     on_ok_weaker c.go_on.result (stored-then g.S.LocalSource.may_tell c.args.session.now c.store.new.session c.go_on.new.session c.args.pending.items c.in_ok-run.ensures.stored) c.go_on.ensures.same
+
+pub returns-clause-loaders : goal.returns-clause-loaders
+returns-clause-loaders g c = then-kept (state_of c.args.session.now) (state_of c.store.new.session) (state_of c.go_on.new.session) c.store.ensures.loaders c.go_on.ensures.loaders

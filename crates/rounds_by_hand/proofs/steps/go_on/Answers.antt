@@ -7,7 +7,7 @@ use Rattle.load_rounds.specs.ByHand.{front_in}
 use Rattle.load_rounds.specs.Sessions.{StateOf, state_of}
 use Rattle.load_rounds.specs.SharedRounds.{joint}
 use Rattle.load_rounds.proofs.States.{on-err}
-use Rattle.rounds_by_hand.proofs.Far.{none-answered, stops, unasked-many, lost-many, out-with}
+use Rattle.rounds_by_hand.proofs.Far.{none-answered, same-kept, stops, unasked-kept, lost-kept, out-with}
 use Rattle.rounds_by_hand.proofs.steps.go_on.Goals as goal
 
 pub returns-in_err-answers-clause-stopped : goal.returns-in_err-answers-clause-stopped
@@ -16,7 +16,7 @@ returns-in_err-answers-clause-stopped g c =
 
 pub returns-in_err-answers-clause-loaders : goal.returns-in_err-answers-clause-loaders
 returns-in_err-answers-clause-loaders g c =
-    unasked-many (joint g.P.Execute.program g.P.Execute.text_of c.args.run.plans) (state_of c.args.session.now) (state_of c.next_round.new.session) c.in_err-answers.ensures.failed.lost
+    unasked-kept (joint g.P.Execute.program g.P.Execute.text_of c.args.run.plans) (state_of c.args.session.now) (state_of c.next_round.new.session) c.in_err-answers.ensures.failed.lost
 
 pub returns-in-Finished-clause-gone : goal.returns-in-Finished-clause-gone
 returns-in-Finished-clause-gone g c = record {
@@ -26,6 +26,11 @@ returns-in-Finished-clause-gone g c = record {
   tells = λ begun is. (rw c.in-Finished.is at c.in_ok-answers.ensures.run.answers) (state_of begun) is;
 }
 
+pub returns-in-Finished-clause-loaders : goal.returns-in-Finished-clause-loaders
+returns-in-Finished-clause-loaders g c =
+    let next = rw c.in-Finished.is at c.in_ok-answers.ensures.next in
+    same-kept (state_of c.args.session.now) (state_of c.next_round.new.session) next.0.same
+
 pub returns-in_err-all_out-in-Round-clause-stopped : goal.returns-in_err-all_out-in-Round-clause-stopped
 returns-in_err-all_out-in-Round-clause-stopped g c =
     on-err c.from_residual-in_err-all_out-in-Round.result (λ begun is. stops g.P.Execute.program g.P.Execute.text_of g.S.LocalSource.may_tell (state_of begun) (state_of c.next_round.new.session) c.next_round.new.self c.args.run.plans c.next_round.ensures.left.plans (c.next_round.ensures.run.since (state_of begun) is))
@@ -34,7 +39,7 @@ pub returns-in_err-all_out-in-Round-clause-loaders : goal.returns-in_err-all_out
 returns-in_err-all_out-in-Round-clause-loaders g c =
     let s = state_of c.args.session.now in
     let next = rw c.in-Round.is at c.in_ok-answers.ensures.next in
-    lost-many s (state_of c.next_round.new.session) (front_in s (joint g.P.Execute.program g.P.Execute.text_of c.args.run.plans)) next.0.entered
+    lost-kept s (state_of c.next_round.new.session) (front_in s (joint g.P.Execute.program g.P.Execute.text_of c.args.run.plans)) next.0.entered
 
 pub returns-in_ok-all_out-in-Round-clause-gone : goal.returns-in_ok-all_out-in-Round-clause-gone
 returns-in_ok-all_out-in-Round-clause-gone g c =
@@ -58,7 +63,7 @@ pub returns-in_ok-all_out-in-Round-clause-loaders : goal.returns-in_ok-all_out-i
 returns-in_ok-all_out-in-Round-clause-loaders g c =
     let s = state_of c.args.session.now in
     let next = rw c.in-Round.is at c.in_ok-answers.ensures.next in
-    lost-many s (state_of c.next_round.new.session) (front_in s (joint g.P.Execute.program g.P.Execute.text_of c.args.run.plans)) next.0.entered
+    lost-kept s (state_of c.next_round.new.session) (front_in s (joint g.P.Execute.program g.P.Execute.text_of c.args.run.plans)) next.0.entered
 
 -- ---- a step on makes nothing known
 

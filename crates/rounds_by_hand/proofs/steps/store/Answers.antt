@@ -1,10 +1,10 @@
-use Rattle.std.proofs.Common.{map, ap}
+use Rattle.std.proofs.Common.{map, ap, refl}
 use Rattle.load_memory.specs.Replies.{reply_of}
 use Rattle.execution.specs.Program.{Program}
 use Rattle.load_rounds.specs.Histories.{any_tell}
 use Rattle.load_rounds.specs.Sessions.{StateOf, state_of}
 use Rattle.load_rounds.specs.SharedRounds.{joint}
-use Rattle.rounds_by_hand.proofs.Far.{orders-have, received-in}
+use Rattle.rounds_by_hand.proofs.Far.{orders-have, received-in, received-kept, same-kept}
 use Rattle.rounds_by_hand.proofs.steps.store.Goals as goal
 
 pub replies_to-requires-clause-loaders : goal.replies_to-requires-clause-loaders
@@ -40,3 +40,14 @@ returns-clause-stored g c = record {
   replied = rw c.loaders.ensures at c.in_ok-replies.ensures.as_given;
   stored = ap (λ (s : StateOf g.row.S.Denot). s.memory) c.in_ok-take_owned.ensures.taken.stored;
 }
+
+-- ---- the loaders stay
+
+pub returns-in_err-replies-clause-loaders : goal.returns-in_err-replies-clause-loaders
+returns-in_err-replies-clause-loaders g c = same-kept (state_of c.args.session.now) (state_of c.args.session.now) refl
+
+pub returns-in_err-take_owned-clause-loaders : goal.returns-in_err-take_owned-clause-loaders
+returns-in_err-take_owned-clause-loaders g c = same-kept (state_of c.args.session.now) (state_of c.take_owned.new.session) c.in_err-take_owned.ensures.failed.same
+
+pub returns-clause-loaders : goal.returns-clause-loaders
+returns-clause-loaders g c = received-kept (state_of c.args.session.now) (state_of c.take_owned.new.session) (map reply_of c.in_ok-replies.replies.items) c.in_ok-take_owned.ensures.taken.stored

@@ -1,55 +1,39 @@
-use Rattle.std.proofs.Common.{◌≤◌, ℕ, map, length, arith, inr}
+use Rattle.std.proofs.Common.{map, arith, inl, string_bytes}
 use Rattle.load_memory.specs.Keys.{key_of}
-use Rattle.load_memory.specs.Replies.{reply_of}
+use Rattle.load_rounds.specs.Reading.{CanLoad}
 use Rattle.load_rounds.specs.Sessions.{state_of}
-use Rattle.load_rounds.proofs.Loadings.{record-many, told-some, loading-lost}
-use Rattle.load_rounds.proofs.Stepping.{record-then}
+use Rattle.load_rounds.proofs.Reading.{read-complete, read-once, reading-stops}
+use Rattle.load_rounds.proofs.Stepping.{record-many, record-same}
 use Rattle.load_rounds.proofs.session.Session.load_many.Goals as goal
 
-pub run_all-requires : goal.run_all-requires
-run_all-requires g c =
-    let begun = rw c.in-Round.is at c.in_ok-outcomes.ensures.begun in
-    rw c.loaders.ensures begun.2
+pub returns-then-loader-len-clause-recorded : goal.returns-then-loader-len-clause-recorded
+returns-then-loader-len-clause-recorded g c = record-same c.args.self.now.loaders
 
-pub returns-in_err-replies-in-Round-clause-no_memory : goal.returns-in_err-replies-in-Round-clause-no_memory
-returns-in_err-replies-in-Round-clause-no_memory g c = λ h.
-    let begun = rw c.in-Round.is at c.in_ok-outcomes.ensures.begun in
-    inr (loading-lost (state_of c.args.self.now) (state_of c.begin_load.new.self) c.args.loader (map key_of c.args.keys.now) begun.0)
+pub returns-in_err-answer-clause-no_memory : goal.returns-in_err-answer-clause-no_memory
+returns-in_err-answer-clause-no_memory g c = λ h.
+    let can : CanLoad (state_of c.args.self.now) c.args.loader = rw (← c.self.view_is) (record { within = omega (arith, c.if-loader-len.false, c.len.ensures); limited = c.self.invariant.limited }) in
+    reading-stops g.S.LocalSource.may_tell (state_of c.args.self.now) c.args.loader (map key_of c.args.keys.now) can (state_of c.answer.new.self) c.in_err-answer.ensures.stopped
 
-pub end_load-requires-clause-loader : goal.end_load-requires-clause-loader
-end_load-requires-clause-loader g c =
-    let loader : ℕ = c.args.loader in
-    let many = record-many c.args.self.now.loaders c.begin_load.new.self.loaders c.in_ok-outcomes.ensures.recorded in
-    let no : length c.args.self.now.loaders ≤ loader → ⊥ = λ le. cc (c.in_ok-outcomes.ensures.no_loader.1 le) in
-    omega (arith, many, no)
+pub known_outcomes-requires-clause-loader : goal.known_outcomes-requires-clause-loader
+known_outcomes-requires-clause-loader g c =
+    let can : CanLoad (state_of c.args.self.now) c.args.loader = rw (← c.self.view_is) (record { within = omega (arith, c.if-loader-len.false, c.len.ensures); limited = c.self.invariant.limited }) in
+    let lt = can.within in
+    omega (arith, lt, record-many c.args.self.now.loaders c.answer.new.self.loaders c.in_ok-answer.ensures.answer.recorded)
 
-pub end_load-requires-clause-out : goal.end_load-requires-clause-out
-end_load-requires-clause-out g c =
-    let begun = rw c.in-Round.is at c.in_ok-outcomes.ensures.begun in
-    (state_of c.args.self.now, begun.0)
+pub known_outcomes-requires-clause-known : goal.known_outcomes-requires-clause-known
+known_outcomes-requires-clause-known g c =
+    let a = c.in_ok-answer.field-0 in
+    read-complete g.S.LocalSource.may_tell (state_of c.args.self.now) c.args.loader (map key_of c.args.keys.now) (state_of c.answer.new.self) (record { text = string_bytes a.text; rounds = a.rounds; headline = c.in_ok-answer.ensures.answer })
 
-pub end_load-requires-clause-round : goal.end_load-requires-clause-round
-end_load-requires-clause-round g c =
-    let begun = rw c.in-Round.is at c.in_ok-outcomes.ensures.begun in
-    let told = rw (c.loaders.ensures, begun.1) at c.in_ok-replies-in-Round.ensures in
-    told-some g.S.LocalSource.may_tell (state_of c.begin_load.new.self) c.args.loader (map key_of c.args.keys.now) (map reply_of c.in_ok-replies-in-Round.replies.items) told
+pub returns-in_err-known_outcomes-clause-no_memory : goal.returns-in_err-known_outcomes-clause-no_memory
+returns-in_err-known_outcomes-clause-no_memory g c = λ h.
+    let a = c.in_ok-answer.field-0 in
+    inl (read-once g.S.LocalSource.may_tell (state_of c.args.self.now) c.args.loader (map key_of c.args.keys.now) (state_of c.answer.new.self) (record { text = string_bytes a.text; rounds = a.rounds; headline = c.in_ok-answer.ensures.answer }))
 
-pub returns-in_err-end_load-in-Round-clause-no_memory : goal.returns-in_err-end_load-in-Round-clause-no_memory
-returns-in_err-end_load-in-Round-clause-no_memory g c = λ h.
-    let begun = rw c.in-Round.is at c.in_ok-outcomes.ensures.begun in
-    let told = rw (c.loaders.ensures, begun.1) at c.in_ok-replies-in-Round.ensures in
-    c.in_err-end_load-in-Round.ensures.stopped (state_of c.args.self.now) begun.0 told
-
-pub returns-in_ok-end_load-in-Round-clause-loaded : goal.returns-in_ok-end_load-in-Round-clause-loaded
-returns-in_ok-end_load-in-Round-clause-loaded g c =
-    let begun = rw c.in-Round.is at c.in_ok-outcomes.ensures.begun in
-    let told = rw (c.loaders.ensures, begun.1) at c.in_ok-replies-in-Round.ensures in
-    c.in_ok-end_load-in-Round.ensures.loaded (state_of c.args.self.now) begun.0 told
-
--- ---- every order is on record
-
-pub returns-in_err-end_load-in-Round-clause-recorded : goal.returns-in_err-end_load-in-Round-clause-recorded
-returns-in_err-end_load-in-Round-clause-recorded g c = record-then c.args.self.now.loaders c.begin_load.new.self.loaders c.end_load.new.self.loaders c.in_ok-outcomes.ensures.recorded c.end_load.ensures.recorded
-
-pub returns-in_ok-end_load-in-Round-clause-recorded : goal.returns-in_ok-end_load-in-Round-clause-recorded
-returns-in_ok-end_load-in-Round-clause-recorded g c = record-then c.args.self.now.loaders c.begin_load.new.self.loaders c.end_load.new.self.loaders c.in_ok-outcomes.ensures.recorded c.end_load.ensures.recorded
+pub returns-clause-loaded : goal.returns-clause-loaded
+returns-clause-loaded g c =
+    let a = c.in_ok-answer.field-0 in
+    record {
+      round = read-once g.S.LocalSource.may_tell (state_of c.args.self.now) c.args.loader (map key_of c.args.keys.now) (state_of c.answer.new.self) (record { text = string_bytes a.text; rounds = a.rounds; headline = c.in_ok-answer.ensures.answer });
+      known = c.in_ok-known_outcomes.ensures;
+    }

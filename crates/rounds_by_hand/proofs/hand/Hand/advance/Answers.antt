@@ -1,8 +1,10 @@
-use Rattle.std.proofs.Common.{◌≡◌, ◌∙◌, sym, true}
+use Rattle.std.proofs.Common.{◌≡◌, ◌∙◌, sym, true, refl}
 use Rattle.std.proofs.lemmas.Result.{on_ok_weaker}
 use Rattle.std.specs.List.{list_all}
+use Rattle.load_rounds.specs.Sessions.{state_of}
 use Rattle.rounds_by_hand.specs.Hands.{pending_in, StoresReplies}
 use Rattle.rounds_by_hand.specs.Pending.{is_in}
+use Rattle.rounds_by_hand.proofs.Far.{keeps-hand, same-kept}
 use Rattle.rounds_by_hand.proofs.Storing.{stores-given, if-step}
 use Rattle.rounds_by_hand.proofs.hand.Hand.advance.Goals as goal
 
@@ -14,3 +16,9 @@ returns-clause-stored g c =
     let each : list_all is_in (pending_in old.far) ≡ true = rw c.orders.ensures at (sym c.are_in.ensures ∙ c.if-not-are_in.false) in
     if-step (StoresReplies old new) result
     (on_ok_weaker result (stores-given g.S.LocalSource.may_tell old.far old.session new.session each) c.ask_and_advance.ensures.stored)
+
+pub returns-then-not-are_in-clause-kept : goal.returns-then-not-are_in-clause-kept
+returns-then-not-are_in-clause-kept g c =
+    let X = g.P.Execute in
+    let s = state_of c.args.self.now.session in
+    keeps-hand X.program X.text_of X.loaders X.fits c.args.self.now c.args.self.now c.requires.enough (same-kept s s refl) refl c.requires.round

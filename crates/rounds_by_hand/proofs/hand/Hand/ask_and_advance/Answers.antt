@@ -1,7 +1,8 @@
 use Rattle.std.proofs.Common.{◌≡◌, ◌≤◌, ◌∙◌, sym, subst, refl, length}
 use Rattle.std.specs.Prelude.{All}
-use Rattle.rounds_by_hand.specs.Hands.{HasGone, IsUnderway, out}
-use Rattle.rounds_by_hand.proofs.Far.{tells-weaker}
+use Rattle.load_rounds.specs.Sessions.{state_of}
+use Rattle.rounds_by_hand.specs.Hands.{HasGone, HoldsFar, IsUnderway, far_of, out, over}
+use Rattle.rounds_by_hand.proofs.Far.{keeps-hand, same-kept, tells-weaker}
 use Rattle.rounds_by_hand.proofs.hand.Hand.ask_and_advance.Goals as goal
 use Rattle.rounds_by_hand.proofs.hand.Hand.ask_and_advance.Goals.{in-Over, in-Handed+in_ok-begin-in-Handed, in-Out+in_ok-far-in-Out}
 
@@ -58,4 +59,30 @@ returns-clause-stored g c =
       | in-Over w ↦ rw (← c.self.view_is, w.self-inside-is) (rw (value ∙ w.in-Over.is) refl)
       | in-Handed+in_ok-begin-in-Handed w ↦ rw (← c.self.view_is, w.self-inside-is) (rw (value ∙ w.in-Handed.is) w.in_ok-begin-in-Handed.ensures.forgot)
       | in-Out+in_ok-far-in-Out w ↦ rw (← c.self.view_is, w.self-inside-is) (rw (value ∙ w.in-Out.is) w.in_ok-far-in-Out.ensures.stored)
+    ]
+
+pub returns-clause-kept : goal.returns-clause-kept
+returns-clause-kept g c =
+    let X = g.P.Execute in
+    let s = c.self.inside.session in
+    let plans = c.self.inside.plans.value.items in
+    let was = far_of c.self.inside.far in
+    let value = sym c.replace.ensures.value in
+    let enough = rw (← c.self.view_is) at c.requires.enough in
+    elim c.match-replace.branch [
+      | in-Over w ↦ rw (← c.self.view_is, w.far-is, w.self-inside-is) (keeps-hand X.program X.text_of X.loaders X.fits (record { session = s; plans = plans; far = was }) (record { session = s; plans = plans; far = over }) enough (same-kept (state_of s) (state_of s) refl) refl tt)
+      | in-Handed+in_ok-begin-in-Handed w ↦
+          let new = w.begin.new.session in
+          let far = far_of w.in_ok-begin-in-Handed.far in
+          let handed = rw (value ∙ w.in-Handed.is) at c.self.invariant in
+          rw (← c.self.view_is, w.far-is, w.self-inside-is)
+          (keeps-hand X.program X.text_of X.loaders X.fits (record { session = s; plans = plans; far = was }) (record { session = new; plans = plans; far = far }) enough w.begin.ensures.loaders refl
+          (subst (λ ps. HoldsFar X.program X.text_of X.loaders X.fits new ps far) handed w.in_ok-begin-in-Handed.ensures.gone.holds))
+      | in-Out+in_ok-far-in-Out w ↦
+          let new = w.finish_round.new.session in
+          let far = far_of w.in_ok-far-in-Out.far in
+          let round = rw (value ∙ w.in-Out.is) at (rw (← c.self.view_is) at c.requires.round) in
+          rw (← c.self.view_is, w.far-is, w.self-inside-is)
+          (keeps-hand X.program X.text_of X.loaders X.fits (record { session = s; plans = plans; far = was }) (record { session = new; plans = plans; far = far }) enough w.finish_round.ensures.loaders refl
+          (subst (λ ps. HoldsFar X.program X.text_of X.loaders X.fits new ps far) round.0 w.in_ok-far-in-Out.ensures.gone.holds))
     ]
