@@ -1,5 +1,4 @@
 pub mod Far
 pub mod Orders
 pub mod Taking
-pub mod LoadHands
 pub mod Storing

@@ -1,4 +1,3 @@
 pub mod Pending
 pub mod Stored
 pub mod Hands
-pub mod LoadHands

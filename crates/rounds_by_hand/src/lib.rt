@@ -8,14 +8,12 @@
 //! the reply to an order is what is stored, whoever gave it (`StoresReplies` of `specs/Hands.antt`). The requests of
 //! these calls are what the hand was made with, the loaders that the plans need, and each call keeps that.
 //!
-//! Keys of one loader are a program too, and a [`LoadHand`] is a hand of it, which takes at most one round and tells the keys' outcomes. In the
-//! end what was done is a call of `load_many` (`specs/LoadHands.antt`).
+//! Keys of one loader are loaded so too: their program is a plan like any other (`KeysToLoad` of `load_rounds`).
 #![tactic(auto)]
 
 pub mod fault;
 pub mod hand;
 pub mod handed_in;
-pub mod load_hand;
 pub mod pending;
 mod seen;
 mod steps;
@@ -24,5 +22,4 @@ mod threads;
 pub use fault::TakeFault;
 pub use hand::{Advance, Hand};
 pub use handed_in::HandedIn;
-pub use load_hand::{LoadAdvance, LoadHand, PlannedLoad};
-pub use pending::Pending;
+pub use pending::{Pending, are_in};

@@ -34,7 +34,7 @@ pub(crate) fn all_out(orders: Vec<Order>) -> Result<Vec<Pending>, AllocError>
 }
 
 /// Tells whether each order was answered.
-pub(crate) fn are_in(pending: &[Pending]) -> bool
+pub fn are_in(pending: &[Pending]) -> bool
     ensures { result ≡ list_all is_in pending.now }
 {
     for one in pending {

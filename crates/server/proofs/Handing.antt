@@ -9,6 +9,7 @@ use Rattle.load_memory.specs.declared.outcome.Item.{Item}
 use Rattle.load_queue.specs.Answers.{AnswerOf}
 use Rattle.load_queue.specs.declared.source.FetchFault.{FetchFault}
 use Rattle.gq_resolve.specs.declared.root_state.RootState.{RootState}
+use Rattle.load_rounds.proofs.Stepping.{record-many}
 use Rattle.load_rounds.specs.Headline.{StopsAnswering}
 use Rattle.load_rounds.specs.Sessions.{SessionOf, state_of}
 use Rattle.load_rounds.specs.SharedRounds.{SharedHeadline, requests, joint, report_of}
@@ -153,7 +154,7 @@ pub holds-on : {S : Type 0} (server : ServerOf) (most : Option ℕ) (form : Resp
 holds-on server most form loaders refuses old new was open' kept =
     let refuses_is : refuses ≡ is_refused (planned_of form loaders new.plans) = was.refuses_is ∙ ap (λ ps. is_refused (planned_of form loaders ps)) (sym kept.plans) in
     record {
-      loaders = subst (λ n. length server.bindings.loaders ≤ n) (sym kept.count) was.loaders;
+      loaders = subst (λ n. length server.bindings.loaders ≤ n) (sym (record-many old.session.loaders new.session.loaders kept.session.recorded)) was.loaders;
       refuses_is = refuses_is;
       holds = kept.holds;
       refused = λ e. absurd (cc (sym open' ∙ refuses_is ∙ e));

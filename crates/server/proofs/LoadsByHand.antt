@@ -1,26 +1,272 @@
--- Lemmas on what the calls of a load by hand make of a client.
-use Rattle.std.proofs.Common.{◌≤◌, ℕ, List, length, arith}
+-- Lemmas on keys that a client loads by hand: what the calls of a hand make of them.
+use Rattle.std.proofs.Common.{◌≡◌, ◌≢◌, ◌<◌, ◌≤◌, ◌∙◌, ◌⊎◌, ℕ, List, [], ◌∷◌, map, length, refl, ap, sym, subst, arith, inl, inr}
+use Rattle.std.proofs.lemmas.List.{length-map}
+use Rattle.std.proofs.lemmas.List.Elements.{All-cons, All-head, All-nil, All-tail}
+use Rattle.std.specs.Global.{Vec}
+use Rattle.std.specs.Prelude.{All, Option, Some, None, Result, Ok, Err, IfOk, IfSome, OnOk}
 use Rattle.load_memory.specs.Keys.{KeyOf}
+use Rattle.load_memory.specs.declared.outcome.Item.{Item}
+use Rattle.load_memory.specs.Pairs.{look}
+use Rattle.load_memory.specs.Replies.{ReplyOf, reply_of}
 use Rattle.load_queue.specs.Answers.{AnswerOf}
-use Rattle.load_queue.specs.Loaders.{LoaderOf, AreOnRecord}
-use Rattle.load_rounds.proofs.Loadings.{record-many}
-use Rattle.rounds_by_hand.specs.LoadHands.{GivesUpLoad, LoadsKeys}
-use Rattle.rounds_by_hand.specs.declared.load_hand.LoadAdvance.{LoadAdvance}
-use Rattle.rounds_by_hand.specs.declared.load_hand.LoadAdvance.TheVariants.{Loaded, Round, Waiting, Over}
-use Rattle.server.specs.Clients.{ClientOf}
-use Rattle.server.specs.LoadsByHand.{LoadByHandOf, ClientLoads, ClientStopsLoad, load_in}
+use Rattle.load_queue.specs.declared.source.FetchFault.{FetchFault}
+use Rattle.execution.specs.Loads.{Load}
+use Rattle.execution.specs.Program.{Program}
+use Rattle.execution.specs.Front.{front, front_of_keys}
+use Rattle.execution.specs.Rounds.{RuleOf, rule_of, modes_of, any_answer, may_at, round_orders, AreReplies, AreLimited, without_failed}
+use Rattle.execution.specs.Sessions.{Forgot}
+use Rattle.load_rounds.specs.Sessions.{SessionOf, StateOf, state_of, rules_of, session_modes, of_first}
+use Rattle.load_rounds.specs.Calls.{RoundLost, front_at}
+use Rattle.load_rounds.specs.ByHand.{IsAsked, front_in}
+use Rattle.load_rounds.specs.Headline.{StopsAnswering, asked_steps}
+use Rattle.load_rounds.specs.Histories.{IsCallOf, StoppedLoading}
+use Rattle.load_rounds.specs.Reading.{KeysOf, CanLoad, HasRead, keys_fits, keys_loaders, keys_program, keys_text}
+use Rattle.load_rounds.specs.SharedRounds.{ReportOf, SharedHeadline, joint, report_of, request_of}
+use Rattle.load_rounds.specs.SharedRuns.{RunAllOf}
+use Rattle.load_rounds.proofs.Reading.{read-complete, read-fills, read-once, reading-front, reading-stops}
+use Rattle.load_rounds.proofs.Requests.{front-one, headline-one, stops-one}
+use Rattle.load_rounds.proofs.Runs.{lost-rules}
+use Rattle.load_rounds.proofs.Stepping.{record-many, steps-rules}
+use Rattle.rounds_by_hand.specs.declared.hand.Advance.{Advance}
+use Rattle.rounds_by_hand.specs.declared.hand.Advance.TheVariants as did
+use Rattle.server.specs.declared.load_by_hand.LoadAdvance.{LoadAdvance}
+use Rattle.server.specs.declared.load_by_hand.LoadAdvance.TheVariants.{Loaded, Round, Waiting, Over}
+use Rattle.rounds_by_hand.specs.declared.pending.Pending.{Pending}
+use Rattle.rounds_by_hand.specs.declared.pending.Pending.TheVariants.{Out, In}
+use Rattle.rounds_by_hand.specs.Pending.{order_in, AreRepliesFor, HasAnswer, IsAnswered}
+use Rattle.rounds_by_hand.specs.Stored.{StoresRound}
+use Rattle.rounds_by_hand.specs.Hands.{FarOf, HandOf, handed, out, over, AnswersFrom, AsksAndAdvances, GivesUp, GoesOn, GoesOnIfMay, HasGone, HoldsFar, IsNewRound, IsOutWith, IsOver, KeepsHand, KeepsLoaders, KeepsSession, StoresAskedFrom}
+use Rattle.plan_requests.specs.Servers.{ServerOf}
+use Rattle.server.specs.Clients.{HasLoaders, client_of}
+use Rattle.server.specs.Hands.{IsFinished}
+use Rattle.server.specs.LoadsByHand.{AsksAndAdvancesLoad, ClientLoads, ClientStopsLoad, HoldsLoad, LoadGoesOn, LoadGoesOnIfMay, OnLoadStep, TellsLoad, load_by_hand_of}
 
-module _ {S : Type 0} where
-  -- the session keeps its loaders
-  pub still-enough : (n : ℕ) (xs ys : List (LoaderOf S)) → AreOnRecord xs ys → n ≤ length xs → n ≤ length ys
-  still-enough n xs ys recorded le = let many = record-many xs ys recorded in omega (arith, le, many)
+-- ---- the replies to a round that is stored
 
-  module _ (may : S → List KeyOf → AnswerOf → Type 0) where
-    pub client-loads : (old new : LoadByHandOf S) (did : LoadAdvance) → LoadsKeys may (load_in old) (load_in new) did → ClientLoads may old new did
-    client-loads old new (Loaded outcomes) loads = λ c h. loads c.session h
-    client-loads old new Round loads = tt
-    client-loads old new Waiting loads = tt
-    client-loads old new Over loads = tt
+module _ (may : ℕ → List KeyOf → AnswerOf → Type 0) where
+  replies-any : (ps : List Pending) (rs : List ReplyOf) → All (IsAnswered any_answer) ps → AreRepliesFor may ps rs → AreReplies any_answer (map order_in ps) rs
+  replies-any [] [] each fit = tt
+  replies-any [] (r ∷ rs) each fit = absurd fit
+  replies-any (p ∷ ps) [] each fit = absurd fit
+  replies-any (Out order ∷ ps) (r ∷ rs) each fit =
+      let is = fit.0 in
+      (record { loader = is.loader; keys = is.keys; answer = is.answer; may_be = tt; outcomes = is.outcomes }, replies-any ps rs (All-tail (IsAnswered any_answer) (Out order) ps each) fit.1)
+  replies-any (In reply ∷ ps) (r ∷ rs) each fit =
+      let own : HasAnswer any_answer (reply_of reply) = All-head (IsAnswered any_answer) (In reply) ps each in
+      (rw fit.0 (record { loader = refl; keys = refl; answer = own.answer; may_be = own.may_be; outcomes = own.outcomes }), replies-any ps rs (All-tail (IsAnswered any_answer) (In reply) ps each) fit.1)
 
-    pub client-stops : (old : LoadByHandOf S) (client : ClientOf S) → GivesUpLoad may (load_in old) client.session → ClientStopsLoad may old client
-    client-stops old client stops = λ c h. stops c.session h
+-- ---- what is missing of the keys
+
+module _ {S : Type 0} (keys : KeysOf) where
+  abbrev lacking : StateOf S → List Load
+  lacking s = front_at s keys.loader keys.keys
+
+  keys-front : (s : StateOf S) (plans : List KeysOf) → plans ≡ keys ∷ [] → front_in s (joint keys_program keys_text plans) ≡ lacking s
+  keys-front s plans e = rw e (front-one (session_modes s) (request_of (keys_program keys) (keys_text keys)) s.memory ∙ reading-front (session_modes s) keys.loader keys.keys s.memory)
+
+  -- a round that is out asks something
+  asked-lacks : (s : StateOf S) (p : Program) → IsAsked p s → front_in s p ≢ []
+  asked-lacks s p is none =
+      let same : front_in s p ≡ front_in is.before p = ap (λ (t : StateOf S). front_in t p) is.entered ∙ ap (λ rs. front (modes_of rs) p is.before.memory) (lost-rules is.before (front_in is.before p)) in
+      is.lacks (sym same ∙ none)
+
+  out-lacks : (s : StateOf S) (run : RunAllOf KeysOf (Unit {0})) (ps : List Pending) (plans : List KeysOf) → plans ≡ keys ∷ [] → run.plans ≡ plans → IsOutWith keys_program keys_text s run ps → lacking s ≢ []
+  out-lacks s run ps plans is same h none = asked-lacks s (joint keys_program keys_text run.plans) h.latest (keys-front s run.plans (same ∙ is) ∙ none)
+
+  -- once it is stored nothing is missing
+  stored-none : (may : S → List KeyOf → AnswerOf → Type 0) (old new : SessionOf S) (run : RunAllOf KeysOf (Unit {0})) (ps : List Pending) (plans : List KeysOf) → plans ≡ keys ∷ [] → run.plans ≡ plans → IsOutWith keys_program keys_text (state_of old) run ps
+      → StoresRound may old new ps → KeepsLoaders (state_of old) (state_of new) → AreLimited (rules_of (state_of old)) → keys.loader < length old.loaders → lacking (state_of new) ≡ []
+  stored-none may old new run ps plans is same h stores kept limited lt =
+      let rules : List RuleOf = rules_of (state_of old) in
+      let orders : map order_in ps ≡ round_orders rules (lacking (state_of old)) = h.orders ∙ ap (round_orders rules) (keys-front (state_of old) run.plans (same ∙ is)) in
+      let told : AreReplies any_answer (round_orders rules (lacking (state_of old))) stores.replies = subst (λ os. AreReplies any_answer os stores.replies) orders (replies-any (may_at may old.loaders) ps stores.replies h.answers stores.replied) in
+      let filled = read-fills any_answer rules keys.loader keys.keys (look old.pairs) stores.replies limited (omega (arith, lt, length-map old.loaders rule_of)) (out-lacks (state_of old) run ps plans is same h) told in
+      ap (λ rs. front_of_keys (modes_of rs) keys.loader keys.keys (look new.pairs)) kept.rules ∙ ap (front_of_keys (modes_of rules) keys.loader keys.keys) stores.stored ∙ filled
+
+  -- it is begun
+  pub holds-new : (server : ServerOf) (session : SessionOf S) (plans : List KeysOf) → HasLoaders server session → plans ≡ keys ∷ [] → AreLimited (rules_of (state_of session)) → keys.loader < length session.loaders → HoldsLoad server keys (record { session = session; plans = plans; far = handed })
+  holds-new server session plans has is limited lt = record {
+    has = has;
+    plans = is;
+    holds = record {
+      enough = subst (All (λ plan. keys_loaders plan ≤ length session.loaders)) (sym is) (All-cons (λ plan. keys_loaders plan ≤ length session.loaders) keys [] (omega (arith, lt)) (All-nil (λ plan. keys_loaders plan ≤ length session.loaders)));
+      round = tt;
+    };
+    limited = limited;
+  }
+
+  module _ (server : ServerOf) (most : Option ℕ) (may : S → List KeyOf → AnswerOf → Type 0) where
+    -- ---- answers
+
+    headline-read : (begun now : StateOf S) (reports : List ReportOf) → SharedHeadline may begun now (request_of (keys_program keys) (keys_text keys) ∷ []) reports → HasRead may begun now keys.loader keys.keys
+    headline-read begun now [] h = absurd h.answers
+    headline-read begun now (t ∷ []) h = record { text = t.text; rounds = t.rounds; headline = headline-one may begun now (request_of (keys_program keys) (keys_text keys)) t h }
+    headline-read begun now (t ∷ u ∷ ts) h = absurd h.answers.1
+
+    within-of : (old : HandOf S KeysOf (Unit {0})) → HoldsLoad server keys old → keys.loader < length old.session.loaders
+    within-of old h =
+        let enough : All (λ plan. keys_loaders plan ≤ length old.session.loaders) (keys ∷ []) = subst (All (λ plan. keys_loaders plan ≤ length old.session.loaders)) h.plans h.holds.enough in
+        let own = All-head (λ plan. keys_loaders plan ≤ length old.session.loaders) keys [] enough in
+        omega (arith, own)
+
+    module _ (old new : HandOf S KeysOf (Unit {0})) (h : HoldsLoad server keys old) (kept : KeepsHand keys_program keys_text keys_loaders keys_fits old new) where
+      within : keys.loader < length old.session.loaders
+      within = within-of old h
+
+      pub within-after : keys.loader < length new.session.loaders
+      within-after = omega (arith, within, record-many old.session.loaders new.session.loaders kept.session.recorded)
+
+      -- what holds between calls
+      pub holds-after : HoldsLoad server keys new
+      holds-after = record {
+        has = subst (λ n. length server.bindings.loaders ≤ n) (sym (record-many old.session.loaders new.session.loaders kept.session.recorded)) h.has;
+        plans = kept.plans ∙ h.plans;
+        holds = kept.holds;
+        limited = subst AreLimited (sym kept.session.rules) h.limited;
+      }
+
+      module _ (answers : Advance) (tells : AnswersFrom keys_program keys_text may old new answers) where
+        -- from whichever session it was begun: the program was run
+        has-read : (begun : SessionOf S) → HasGone keys_program keys_text may begun old.session old.plans old.far → IsFinished answers → HasRead may (state_of begun) (state_of new.session) keys.loader keys.keys
+        has-read begun is finished = go answers finished tells
+          where
+            go : (a : Advance) → IsFinished a → AnswersFrom keys_program keys_text may old new a → HasRead may (state_of begun) (state_of new.session) keys.loader keys.keys
+            go (did.Finished all) f t =
+                headline-read (state_of begun) (state_of new.session) (map report_of all.items)
+                (subst (λ ps. SharedHeadline may (state_of begun) (state_of new.session) (map (λ plan. request_of (keys_program plan) (keys_text plan)) ps) (map report_of all.items)) (kept.plans ∙ h.plans) (t begun is))
+            go did.Round f t = absurd f
+            go did.Waiting f t = absurd f
+            go did.Over f t = absurd f
+
+        -- then nothing is missing
+        pub none-missing : AsksAndAdvances old new answers → StoresAskedFrom may old.far old.session new.session → IsFinished answers → front_at (state_of new.session) keys.loader keys.keys ≡ []
+        none-missing adv stores finished = go old.far refl
+          where
+            on : (a : Advance) → IsFinished a → AsksAndAdvances old new a → ¬ (IsOver old.far)
+            on (did.Finished all) f d = d.0
+            on did.Round f d = absurd f
+            on did.Waiting f d = absurd f
+            on did.Over f d = absurd f
+
+            go : (far : FarOf KeysOf (Unit {0})) → old.far ≡ far → lacking (state_of new.session) ≡ []
+            go handed e = read-complete may (state_of old.session) keys.loader keys.keys (state_of new.session) (has-read old.session (subst (λ f. HasGone keys_program keys_text may old.session old.session old.plans f) (sym e) refl) finished)
+            go (out run ps) e =
+                let round = subst (HoldsFar keys_program keys_text keys_loaders keys_fits old.session old.plans) e h.holds.round in
+                let stored : StoresRound may old.session new.session ps = subst (λ f. StoresAskedFrom may f old.session new.session) e stores in
+                stored-none may old.session new.session run ps old.plans h.plans round.0 round.1 stored kept.session h.limited within
+            go over e = absurd (on answers finished adv e)
+
+        -- the outcomes are those of a call that loads the keys
+        pub loads-keys : (told : LoadAdvance) → TellsLoad new.session keys answers told → ClientLoads may (load_by_hand_of (client_of server most old.session) keys old.far) (load_by_hand_of (client_of server most new.session) keys new.far) told
+        loads-keys told is = go answers told is refl
+          where
+            go : (a : Advance) (t : LoadAdvance) → TellsLoad new.session keys a t → a ≡ answers → ClientLoads may (load_by_hand_of (client_of server most old.session) keys old.far) (load_by_hand_of (client_of server most new.session) keys new.far) t
+            go (did.Finished all) (Loaded outcomes) known e = λ begun gone.
+                let run = has-read begun.session (subst (λ ps. HasGone keys_program keys_text may begun.session old.session ps old.far) (sym h.plans) gone) (subst IsFinished e tt) in
+                record { round = read-once may (state_of begun.session) keys.loader keys.keys (state_of new.session) run; known = known }
+            go (did.Finished all) Round known e = tt
+            go (did.Finished all) Waiting known e = tt
+            go (did.Finished all) Over known e = tt
+            go did.Round (Loaded outcomes) known e = absurd known
+            go did.Round Round known e = tt
+            go did.Round Waiting known e = tt
+            go did.Round Over known e = tt
+            go did.Waiting (Loaded outcomes) known e = absurd known
+            go did.Waiting Round known e = tt
+            go did.Waiting Waiting known e = tt
+            go did.Waiting Over known e = tt
+            go did.Over (Loaded outcomes) known e = absurd known
+            go did.Over Round known e = tt
+            go did.Over Waiting known e = tt
+            go did.Over Over known e = tt
+
+      -- a new round is the first
+      pub first-round : ¬ (IsOver old.far) → StoresAskedFrom may old.far old.session new.session → IsNewRound new.far → old.far ≡ handed
+      first-round on stores is = go old.far refl new.far refl
+        where
+          go : (far : FarOf KeysOf (Unit {0})) → old.far ≡ far → (now : FarOf KeysOf (Unit {0})) → new.far ≡ now → old.far ≡ handed
+          go handed e now f = e
+          go over e now f = absurd (on e)
+          go (out run ps) e handed f = absurd (subst IsNewRound f is)
+          go (out run ps) e over f = absurd (subst IsNewRound f is)
+          go (out run ps) e (out later qs) f =
+              let round = subst (HoldsFar keys_program keys_text keys_loaders keys_fits old.session old.plans) e h.holds.round in
+              let next = subst (HoldsFar keys_program keys_text keys_loaders keys_fits new.session new.plans) f kept.holds.round in
+              let stored : StoresRound may old.session new.session ps = subst (λ k. StoresAskedFrom may k old.session new.session) e stores in
+              absurd (out-lacks (state_of new.session) later qs new.plans (kept.plans ∙ h.plans) next.0 next.1 (stored-none may old.session new.session run ps old.plans h.plans round.0 round.1 stored kept.session h.limited within))
+
+      -- ---- what a call did
+
+      pub asks-advances : (a : Advance) (t : LoadAdvance) → TellsLoad new.session keys a t → AsksAndAdvances old new a → StoresAskedFrom may old.far old.session new.session → AsksAndAdvancesLoad (load_by_hand_of (client_of server most old.session) keys old.far) (load_by_hand_of (client_of server most new.session) keys new.far) t
+      asks-advances (did.Finished all) (Loaded outcomes) known adv stores = adv
+      asks-advances did.Round Round known adv stores = (first-round adv.0 stores adv.1, adv.1)
+      asks-advances did.Over Over known adv stores = (adv.0, ap (λ (x : HandOf S KeysOf (Unit {0})). load_by_hand_of (client_of server most x.session) keys x.far) adv.1)
+      asks-advances did.Waiting t known adv stores = absurd adv
+      asks-advances (did.Finished all) Round known adv stores = absurd known
+      asks-advances (did.Finished all) Waiting known adv stores = absurd known
+      asks-advances (did.Finished all) Over known adv stores = absurd known
+      asks-advances did.Round (Loaded outcomes) known adv stores = absurd known
+      asks-advances did.Round Waiting known adv stores = absurd known
+      asks-advances did.Round Over known adv stores = absurd known
+      asks-advances did.Over (Loaded outcomes) known adv stores = absurd known
+      asks-advances did.Over Round known adv stores = absurd known
+      asks-advances did.Over Waiting known adv stores = absurd known
+
+    -- ---- what was so before a call is so after it
+
+    pub goes-on : (old new : HandOf S KeysOf (Unit {0})) → old.plans ≡ keys ∷ [] → new.plans ≡ old.plans → GoesOn keys_program keys_text may old new → LoadGoesOn may (load_by_hand_of (client_of server most old.session) keys old.far) (load_by_hand_of (client_of server most new.session) keys new.far)
+    goes-on old new is same goes = λ begun gone.
+        subst (λ ps. HasGone keys_program keys_text may begun new.session ps new.far) (same ∙ is) (goes begun (subst (λ ps. HasGone keys_program keys_text may begun old.session ps old.far) (sym is) gone))
+
+    pub goes-on-if : (old new : HandOf S KeysOf (Unit {0})) (answer : Result (Vec Item) FetchFault) (one : Option Pending) → old.plans ≡ keys ∷ [] → new.plans ≡ old.plans → IfSome one (GoesOnIfMay keys_program keys_text may answer old new)
+        → IfSome one (LoadGoesOnIfMay may answer (load_by_hand_of (client_of server most old.session) keys old.far) (load_by_hand_of (client_of server most new.session) keys new.far))
+    goes-on-if old new answer None is same goes = tt
+    goes-on-if old new answer (Some one) is same goes = λ can. goes-on old new is same (goes can)
+
+    -- ---- an order is answered
+
+    pub holds-answered : (old new : HandOf S KeysOf (Unit {0})) → HoldsLoad server keys old → KeepsSession keys_program keys_text keys_loaders keys_fits old new → HoldsLoad server keys new
+    holds-answered old new h kept = record {
+      has = subst (HasLoaders server) (sym kept.session) h.has;
+      plans = kept.plans ∙ h.plans;
+      holds = kept.holds;
+      limited = subst (λ (s : SessionOf S). AreLimited (rules_of (state_of s))) (sym kept.session) h.limited;
+    }
+
+    -- ---- it is given up
+
+    stops-rules : (begun now : StateOf S) (p : Program) → StopsAnswering may begun now p → rules_of now ≡ rules_of begun
+    stops-rules begun now p h = go h.end ∙ ap rules_of h.made.after ∙ steps-rules begun (Forgot ∷ asked_steps (rules_of begun) p (without_failed begun.memory) h.log)
+      where
+        go : (now ≡ h.mid) ⊎ RoundLost h.mid now (front (session_modes begun) p h.mid.memory) → rules_of now ≡ rules_of h.mid
+        go (inl e) = ap rules_of e
+        go (inr lost) = ap rules_of lost.after ∙ lost-rules h.mid (of_first lost.loaders (front (session_modes begun) p h.mid.memory))
+
+    pub load-given-up : (old : HandOf S KeysOf (Unit {0})) (now : SessionOf S) → HoldsLoad server keys old → now ≡ old.session → GivesUp keys_program keys_text may old now
+        → ClientStopsLoad may (load_by_hand_of (client_of server most old.session) keys old.far) (client_of server most now)
+    load-given-up old now h same gives = λ c gone. go c.session (gives c.session (subst (λ ps. HasGone keys_program keys_text may c.session old.session ps old.far) (sym h.plans) gone))
+      where
+        go : (begun : SessionOf S) → (now ≡ begun) ⊎ StopsAnswering may (state_of begun) (state_of now) (joint keys_program keys_text old.plans) → (now ≡ begun) ⊎ IsCallOf may (StoppedLoading keys.loader keys.keys) begun now
+        go begun (inl e) = inl e
+        go begun (inr stops) = inr (reading-stops may (state_of begun) keys.loader keys.keys can (state_of now) one)
+          where
+            one : StopsAnswering may (state_of begun) (state_of now) (keys_program keys)
+            one = stops-one may (state_of begun) (state_of now) (request_of (keys_program keys) (keys_text keys)) (subst (λ ps. StopsAnswering may (state_of begun) (state_of now) (joint keys_program keys_text ps)) h.plans stops)
+
+            can : CanLoad (state_of begun) keys.loader
+            can = record {
+              within = omega (arith, within-of old h, ap (λ (s : SessionOf S). length s.loaders) same, record-many begun.loaders now.loaders one.recorded);
+              limited = subst AreLimited (sym (ap (λ (s : SessionOf S). rules_of (state_of s)) same) ∙ stops-rules (state_of begun) (state_of now) (keys_program keys) one) h.limited;
+            }
+
+-- ---- a fact of each call is one of each step
+
+on-load-step : (X : Type 0) (told : LoadAdvance) → X → OnLoadStep told X
+on-load-step X (Loaded outcomes) x = x
+on-load-step X Round x = x
+on-load-step X Waiting x = tt
+on-load-step X Over x = tt
+
+pub if-load-step : {T : Type 0} (X : Type 0) (r : Result LoadAdvance T) → OnOk r X → IfOk r (λ told. OnLoadStep told X)
+if-load-step X (Ok told) x = on-load-step X told x
+if-load-step X (Err e) x = tt

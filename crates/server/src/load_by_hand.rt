@@ -1,19 +1,69 @@
 //! A client that loads keys by hand: the caller asks their source itself.
 
-ghost use Rattle.std.specs.Prelude.{◌≡◌, ◌<◌, length, map, slice_get, IfOk, IfSome, OnOk, OnErr};
+ghost use Rattle.std.specs.Prelude.{◌≡◌, ◌<◌, [], length, map, slice_get, IfOk, IfSome, OnOk, OnErr};
 ghost use Rattle.load_memory.specs.Keys.{key_of};
-ghost use Rattle.rounds_by_hand.specs.LoadHands.{handed, over, load_pending_in};
+ghost use Rattle.load_rounds.specs.Calls.{front_at};
+ghost use Rattle.load_rounds.specs.Reading.{keys_of};
+ghost use Rattle.load_rounds.specs.Sessions.{state_of};
+ghost use Rattle.rounds_by_hand.specs.Hands.{handed, IsOver, pending_in};
 ghost use Rattle.rounds_by_hand.specs.Pending.{RefusesAnswer, TakesAnswer};
 ghost use Rattle.server.specs.Clients.{IsSameClient};
+ghost use Rattle.server.specs.Hands.{IsFinished};
+ghost use Rattle.server.specs.LoadsByHand.{TellsLoad};
 
 use crate::client::ClientSession;
 use crate::queries::Queries;
-use load_memory::{Item, Key};
+use load_memory::{Item, Key, Outcome};
 use load_queue::{FetchFault, LocalSource};
+use load_rounds::{KeysToLoad, Session};
 use plan_requests::Server;
-use rounds_by_hand::{LoadAdvance, LoadHand, Pending, TakeFault};
+use rounds_by_hand::{Advance, Hand, Pending, TakeFault, are_in};
 use std::alloc::{AllocError, Global};
 use std::marker::Model;
+
+/// Keys of a loader that are to be loaded by hand, with the memory that this takes before it begins.
+#[derive(Drop)]
+pub struct PlannedLoad {
+    keys: KeysToLoad,
+    // the same keys alone
+    plans: Vec<KeysToLoad>,
+}
+
+impl Model for PlannedLoad {
+    ghost use Rattle.std.specs.Prelude.{◌≡◌, [], ◌∷◌};
+    ghost use Rattle.load_rounds.specs.Reading.{KeysOf};
+
+    ghost Value = { KeysOf };
+
+    ghost view = { λ p. p.keys };
+
+    ghost invariant = { λ p. p.plans.items ≡ p.keys ∷ [] };
+}
+
+impl PlannedLoad {
+    /// Keys of the loader of this number.
+    pub fn new(loader: usize, keys: Vec<Key>) -> Result<PlannedLoad, AllocError>
+        ensures { IfOk result (λ planned. planned ≡ keys_of loader (map key_of keys.items)) }
+    {
+        let alloc = *keys.allocator();
+        let keys = KeysToLoad::new(loader, keys)?;
+        let plans = vec![in alloc; keys.clone()?]?;
+        Ok(PlannedLoad { keys, plans })
+    }
+}
+
+/// Says what a call of [`LoadByHand::advance`] did.
+#[derive(Drop)]
+pub enum LoadAdvance {
+    /// All keys are known. There is an outcome for each, in order.
+    Loaded(Vec<Outcome>),
+    /// The round of the keys that aren't known is out. Its orders are to be answered.
+    Round,
+    /// Nothing: the round that is out has an order that isn't answered.
+    Waiting,
+    /// Nothing: the outcomes were given before, or memory ran out.
+    Over,
+}
 
 /// Keys of a loader that a client loads as [`ClientSession::load_many`] loads them, but in a round that the caller runs. It owns the client
 /// meanwhile, so no one else can change its session.
@@ -22,30 +72,32 @@ use std::marker::Model;
 /// answers each of its orders ([`orders`](LoadByHand::orders)) by its number, in any order ([`answer`](LoadByHand::answer)), and advances
 /// again. At any time it gives the client back ([`into_client`](LoadByHand::into_client)).
 ///
-/// A contract sees the client, the loader and its keys, and how far the load is. What was done since it was begun is `IsLoadUnderway` of
-/// `rounds_by_hand`: each call keeps it, and in the end it says of the outcomes what [`ClientSession::load_many`] says.
+/// A contract sees the client, the keys with their loader, and how far the load is. What was done since it was begun is `IsLoadUnderway` of
+/// `specs/LoadsByHand.antt`: each call keeps it, and in the end it says of the outcomes what [`ClientSession::load_many`] says.
 pub struct LoadByHand<S> {
     alloc: Global,
     queries: Queries,
     max_answer: Option<usize>,
-    hand: LoadHand<S>,
+    keys: KeysToLoad,
+    // the program of these keys
+    hand: Hand<S, KeysToLoad, ()>,
 }
 
 impl<S> Model for LoadByHand<S> {
     ghost use Rattle.std.specs.Coded.{codes};
     ghost use Rattle.gq_parser.specs.contracts.tree.TypeRef as type_ref;
     ghost use Rattle.gq_parser.specs.contracts.tree.Literal as literal;
-    ghost use Rattle.server.specs.Clients.{HasLoaders, client_of};
-    ghost use Rattle.server.specs.LoadsByHand.{LoadByHandOf, load_by_hand_of};
+    ghost use Rattle.server.specs.Clients.{client_of};
+    ghost use Rattle.server.specs.LoadsByHand.{HoldsLoad, LoadByHandOf, load_by_hand_of};
 
     ghost Value = { LoadByHandOf S };
 
     ghost coded = { Prim.hlevel (codes, type_ref.the_row.coded, literal.the_row.coded, S.code) };
 
     ghost view = { λ b. load_by_hand_of
-        (client_of b.queries b.max_answer b.hand.session) b.hand.loader b.hand.keys b.hand.far };
+        (client_of b.queries b.max_answer b.hand.session) b.keys b.hand.far };
 
-    ghost invariant = { λ b. HasLoaders b.queries b.hand.session };
+    ghost invariant = { λ b. HoldsLoad b.queries b.keys b.hand };
 }
 
 impl<S: Drop> Drop for LoadByHand<S> {
@@ -54,8 +106,29 @@ impl<S: Drop> Drop for LoadByHand<S> {
             alloc: _,
             queries: _queries,
             max_answer: _,
+            keys: _keys,
             hand: _hand,
         } = self;
+    }
+}
+
+// Returns what is made of what the hand did: of its answer the outcomes of the keys.
+fn told<S>(session: &Session<S>, keys: &KeysToLoad, did: Advance) -> Result<LoadAdvance, AllocError>
+    requires within { keys.now.loader < length session.now.loaders }
+    requires known { IsFinished did
+        → front_at (state_of session.now) keys.now.loader keys.now.keys ≡ [] }
+    ensures told { IfOk result (TellsLoad session.now keys.now did) }
+    // Only outcomes take memory.
+    ensures finished { OnErr result (IsFinished did) }
+{
+    match did {
+        Advance::Finished(_answers) => Ok(LoadAdvance::Loaded(session.known_outcomes(
+            keys.loader(),
+            keys.keys(),
+        )?)),
+        Advance::Round => Ok(LoadAdvance::Round),
+        Advance::Waiting => Ok(LoadAdvance::Waiting),
+        Advance::Over => Ok(LoadAdvance::Over),
     }
 }
 
@@ -65,10 +138,9 @@ impl<S> ClientSession<S> {
     /// Keys of a loader, to be loaded in this client's session by hand. Nothing is done before the first call of
     /// [`advance`](LoadByHand::advance), and it takes no memory. Loaders are numbered from 0, in the order of their lines; the
     /// [session](ClientSession::session) tells how many there are.
-    pub fn load_by_hand(self, loader: usize, keys: Vec<Key>) -> LoadByHand<S>
-        requires { loader < length self.session.loaders }
-        ensures { result ≡ load_by_hand_of self loader
-            (map key_of keys.items) handed }
+    pub fn load_by_hand(self, planned: PlannedLoad) -> LoadByHand<S>
+        requires { planned.loader < length self.session.loaders }
+        ensures { result ≡ load_by_hand_of self planned handed }
     {
         let ClientSession {
             alloc,
@@ -76,11 +148,15 @@ impl<S> ClientSession<S> {
             session,
             max_answer,
         } = self;
+        // A contract also sees here that no loader's limit is 0.
+        let _memory = session.memory();
+        let PlannedLoad { keys, plans } = planned;
         LoadByHand {
             alloc,
             queries,
             max_answer,
-            hand: LoadHand::new(session, loader, keys),
+            keys,
+            hand: Hand::new(session, plans),
         }
     }
 }
@@ -95,16 +171,14 @@ impl<S> LoadByHand<S> {
 
     /// The orders of the round that is out, each with its reply once it is answered. There are none where no round is out.
     pub fn orders(&self) -> &[Pending]
-        ensures { result.now
-            ≡ load_pending_in self.now.far }
+        ensures { result.now ≡ pending_in self.now.far }
     {
         self.hand.orders()
     }
 }
 
 impl<S: LocalSource> LoadByHand<S> {
-    ghost use Rattle.rounds_by_hand.specs.LoadHands.{AdvancesLoad, AsksAndAdvancesLoad, IsSameLoad, LoadGoesOn, LoadGoesOnIfMay, OnLoadStep};
-    ghost use Rattle.server.specs.LoadsByHand.{ClientAsksAndStores, ClientLoads, ClientStopsLoad, ClientStores, load_in};
+    ghost use Rattle.server.specs.LoadsByHand.{AdvancesLoad, AsksAndAdvancesLoad, ClientAsksAndStores, ClientLoads, ClientStopsLoad, ClientStores, LoadGoesOn, LoadGoesOnIfMay, OnLoadStep};
 
     /// Stores the round that is out, if each of its orders is answered, and returns the outcomes. The first call begins: it forgets failed
     /// batches, and returns the outcomes if all keys are known; else the round that asks for the others is out.
@@ -113,21 +187,23 @@ impl<S: LocalSource> LoadByHand<S> {
     ///
     /// Only when out of memory: a round that was out is lost, or it is stored and its outcomes aren't copied. The load is over then.
     pub fn advance(&mut self) -> Result<LoadAdvance, AllocError>
-        ensures advanced { IfOk result (AdvancesLoad (load_in self.old) (load_in self.new)) }
-        ensures over { OnErr result (self.new.far ≡ over) }
+        ensures advanced { IfOk result (AdvancesLoad self.old self.new) }
+        ensures over { OnErr result (IsOver self.new.far) }
         ensures underway { LoadGoesOn S.may_tell
-            (load_in self.old) (load_in self.new) }
+            self.old self.new }
         ensures loaded { IfOk result
             (ClientLoads S.may_tell self.old self.new) }
         // What was given as the reply to an order is what is stored.
         ensures stored { IfOk result (λ did. OnLoadStep did
             (ClientStores self.old self.new.client)) }
-        ensures asked { IsSameLoad
-            (load_in self.old) (load_in self.new) }
+        ensures asked { self.new.keys ≡ self.old.keys }
         ensures same { IsSameClient
             self.old.client self.new.client }
     {
-        self.hand.advance()
+        if !are_in(self.orders()) {
+            return Ok(LoadAdvance::Waiting);
+        }
+        self.ask_and_advance()
     }
 
     /// Does what [`advance`](LoadByHand::advance) does, but asks the source of the loader for the orders that nobody has answered. So it
@@ -137,20 +213,20 @@ impl<S: LocalSource> LoadByHand<S> {
     ///
     /// Those of [`advance`](LoadByHand::advance).
     pub fn ask_and_advance(&mut self) -> Result<LoadAdvance, AllocError>
-        ensures advanced { IfOk result (AsksAndAdvancesLoad (load_in self.old) (load_in self.new)) }
-        ensures over { OnErr result (self.new.far ≡ over) }
+        ensures advanced { IfOk result (AsksAndAdvancesLoad self.old self.new) }
+        ensures over { OnErr result (IsOver self.new.far) }
         ensures underway { LoadGoesOn S.may_tell
-            (load_in self.old) (load_in self.new) }
+            self.old self.new }
         ensures loaded { IfOk result
             (ClientLoads S.may_tell self.old self.new) }
         ensures stored { OnOk result
             (ClientAsksAndStores S.may_tell self.old self.new.client) }
-        ensures asked { IsSameLoad
-            (load_in self.old) (load_in self.new) }
+        ensures asked { self.new.keys ≡ self.old.keys }
         ensures same { IsSameClient
             self.old.client self.new.client }
     {
-        self.hand.ask_and_advance()
+        let did = self.hand.ask_and_advance()?;
+        told(self.hand.session(), &self.keys, did)
     }
 
     /// Answers the order of this number in the round that is out, with items that came from elsewhere, or with a fault of the whole batch.
@@ -165,18 +241,17 @@ impl<S: LocalSource> LoadByHand<S> {
         number: usize,
         answer: Result<Vec<Item>, FetchFault>,
     ) -> Result<(), TakeFault>
-        ensures refused { RefusesAnswer (load_pending_in self.old.far) number
-            self.old self.new (self.new.far ≡ over) result }
-        ensures taken { OnOk result (TakesAnswer (load_pending_in self.old.far)
-            number answer (load_pending_in self.new.far)) }
+        ensures refused { RefusesAnswer (pending_in self.old.far) number
+            self.old self.new (IsOver self.new.far) result }
+        ensures taken { OnOk result (TakesAnswer (pending_in self.old.far)
+            number answer (pending_in self.new.far)) }
         // It is still as the sources may answer, if this answer is.
-        ensures underway { OnOk result (IfSome (slice_get (load_pending_in self.old.far) number)
-            (LoadGoesOnIfMay S.may_tell answer (load_in self.old) (load_in self.new))) }
+        ensures underway { OnOk result (IfSome (slice_get (pending_in self.old.far) number)
+            (LoadGoesOnIfMay S.may_tell answer self.old self.new)) }
         ensures stopped { OnErr result
-            (LoadGoesOn S.may_tell (load_in self.old) (load_in self.new)) }
+            (LoadGoesOn S.may_tell self.old self.new) }
         ensures client { self.new.client ≡ self.old.client }
-        ensures asked { IsSameLoad
-            (load_in self.old) (load_in self.new) }
+        ensures asked { self.new.keys ≡ self.old.keys }
     {
         self.hand.answer(number, answer)
     }
@@ -191,6 +266,7 @@ impl<S: LocalSource> LoadByHand<S> {
             alloc,
             queries,
             max_answer,
+            keys: _keys,
             hand,
         } = self;
         ClientSession {
