@@ -8,7 +8,7 @@ use books::{Books, fetch_books};
 use futures::executor::block_on;
 use server::{
     ByHand, ClientAdvance, ClientSession, CountedDevice, FetchFault, HandedIn, Item, Key,
-    LoadAdvance, LoadByHand, Outcome, Pending, Request, Row, Server, Sessions, Workers, serve,
+    LoadAdvance, LoadByHand, Outcome, Pending, PlannedLoad, Request, Row, Server, Sessions, Workers, serve,
     serve_with, source_fn,
 };
 use std::alloc::{AllocError, AllocGlobal, Global};
@@ -215,7 +215,8 @@ fn load_by_hand(alloc: Global, server: &Server) -> anyhow::Result<String> {
     let one = Key::of_text(alloc, "1")?;
     let other = Key::of_text(alloc, "7")?;
     let same = Key::of_text(alloc, "1")?;
-    let mut load = client.load_by_hand(BOOK_BY_ID, vec![in alloc; one, other, same]?);
+    let planned = PlannedLoad::new(BOOK_BY_ID, vec![in alloc; one, other, same]?)?;
+    let mut load = client.load_by_hand(planned);
     let outcomes = finish_load(alloc, &mut load)?;
     let client = load.into_client();
     let asked = client.session().logs(BOOK_BY_ID).unwrap_or(&[]).len();

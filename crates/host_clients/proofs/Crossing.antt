@@ -3,7 +3,9 @@
 use denote.Param.Send.{IsSend, sendable}
 use denote.Param.SendFields.{declared_send, variants_send, VariantsHave}
 use Rattle.std.proofs.Crossing as over
-use Rattle.rounds_by_hand.proofs.load_hand.LoadHand.TheSendSync as load_hand_crosses
+use Rattle.load_rounds.proofs.keys.KeysToLoad.TheSendSync as keys_cross
+use Rattle.load_rounds.specs.contracts.keys.KeysToLoad as keys
+use Rattle.rounds_by_hand.proofs.hand.Hand.TheSendSync as hand_crosses
 use Rattle.server.proofs.Crossing.{by_hand_send as request_by_hand_send, client_send, queries_send, server_send}
 use Rattle.server.specs.contracts.client.ClientSession as session
 use Rattle.server.specs.contracts.load_by_hand.LoadByHand as by_hand
@@ -42,7 +44,7 @@ under_way_send = let i = under_way_inside_send in record { owned = λ d vs x. (i
 by_hand_inside_send : IsSend (by_hand_inside.the_row handed_in.the_row)
 by_hand_inside_send =
     declared_send (by_hand_inside.the_type handed_in.the_row)
-    (search sendable depth 20, (search queries_send, (search sendable depth 20, (search (load_hand_crosses.the_send, sendable, handed_in_crosses.the_send) depth 20, tt))))
+    (search sendable depth 20, (search queries_send, (search sendable depth 20, (keys_cross.the_send, (search (hand_crosses.the_send, keys_cross.the_send, sendable, handed_in_crosses.the_send) depth 20, tt)))))
 
 by_hand_send : IsSend (by_hand.the_row handed_in.the_row)
 by_hand_send = let i = by_hand_inside_send in record { owned = λ d vs x. (i.owned x.0 vs, tt); leaving = λ k d w. tt }

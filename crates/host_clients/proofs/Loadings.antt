@@ -9,21 +9,22 @@ use Rattle.load_memory.specs.declared.outcome.Outcome.{Outcome}
 use Rattle.load_queue.specs.Orders.{OrderOf}
 use Rattle.load_queue.specs.declared.source.FetchFault.{FetchFault}
 use Rattle.load_rounds.specs.Histories.{Loading, StoppedLoading, any_tell}
-use Rattle.rounds_by_hand.specs.LoadHands.{AdvancesLoad, IsSameLoad, LoadGoesOn, LoadGoesOnIfMay, handed, over, load_pending_in}
+use Rattle.load_rounds.specs.Reading.{KeysOf}
+use Rattle.rounds_by_hand.specs.Hands.{handed, pending_in, IsOver}
 use Rattle.rounds_by_hand.specs.Pending.{TakesAnswer, order_in}
-use Rattle.rounds_by_hand.specs.declared.load_hand.LoadAdvance.TheVariants.{Loaded, Round}
+use Rattle.server.specs.declared.load_by_hand.LoadAdvance.TheVariants.{Loaded, Round}
 use Rattle.rounds_by_hand.specs.declared.pending.Pending.TheVariants.{Out}
 use Rattle.server.specs.Clients.{ClientOf, IsClientCall, IsSameClient}
-use Rattle.server.specs.LoadsByHand.{LoadByHandOf, ClientLoads, ClientStopsLoad, ClientStores, load_by_hand_of, load_in}
+use Rattle.server.specs.LoadsByHand.{LoadByHandOf, AdvancesLoad, ClientLoads, ClientStopsLoad, ClientStores, LoadGoesOn, LoadGoesOnIfMay, load_by_hand_of}
 use Rattle.rounds_by_hand.specs.declared.handed_in.HandedIn.{HandedIn}
 use Rattle.host_clients.specs.Clients.{LoadsIt, MakesLoadRound, StopsForLoad, StopsLoad, TakesForLoad, WaitsAt}
-use Rattle.host_clients.specs.Loads.{KeysOf, IsLoadOf, AreOutcomesOf, HoldsLoading, asked_by, load_orders}
+use Rattle.host_clients.specs.Loads.{IsLoadOf, AreOutcomesOf, HoldsLoading, load_orders}
 use Rattle.host_clients.proofs.Underway.{may-answer, orders-kept}
 
 -- a load is begun
-pub holds-load-begun : (hand : LoadByHandOf HandedIn) (c : ClientOf HandedIn) (loader : ℕ) (keys : List KeyOf) (orders : List OrderOf) → hand ≡ load_by_hand_of c loader keys handed
+pub holds-load-begun : (hand : LoadByHandOf HandedIn) (c : ClientOf HandedIn) (keys : KeysOf) (orders : List OrderOf) → hand ≡ load_by_hand_of c keys handed
     → orders ≡ [] → HoldsLoading hand orders
-holds-load-begun hand c loader keys orders is none = rw (is, none) (record {
+holds-load-begun hand c keys orders is none = rw (is, none) (record {
   is_of = record { begun = c; of_server = refl; underway = refl };
   orders_are = refl;
 })
@@ -32,23 +33,15 @@ holds-load-begun hand c loader keys orders is none = rw (is, none) (record {
 pub stopped-load : (l : LoadByHandOf HandedIn) (c : ClientOf HandedIn) → c ≡ l.client → ClientStopsLoad any_tell l c → StopsLoad l c
 stopped-load l c is stops = record { same = rw is (record { server = refl; most = refl }); stops = stops }
 
--- nothing has changed
-pub same-load : (old new : LoadByHandOf HandedIn) → load_in new ≡ load_in old → IsSameClient old.client new.client → new ≡ old
-same-load old new is client =
-    λ i. record { client = record { server = client.server i; most = client.most i; session = (is i).session }; loader = (is i).loader; keys = (is i).keys; far = (is i).far }
-
-module _ (old new : LoadByHandOf HandedIn) (keys : IsSameLoad (load_in old) (load_in new)) where
-  pub asked-same : asked_by new ≡ asked_by old
-  asked-same = rw (keys.loader, keys.keys) refl
-
-  module _ (goes : LoadGoesOn any_tell (load_in old) (load_in new)) (client : IsSameClient old.client new.client) where
+module _ (old new : LoadByHandOf HandedIn) (keys : new.keys ≡ old.keys) where
+  module _ (goes : LoadGoesOn any_tell old new) (client : IsSameClient old.client new.client) where
     is-load-of-after : IsLoadOf old → IsLoadOf new
     is-load-of-after of = record { begun = of.begun; of_server = client.server ∙ of.of_server; underway = goes of.begun.session of.underway }
 
     pub holds-load-after : (before orders : List OrderOf) → HoldsLoading old before → orders ≡ load_orders new → HoldsLoading new orders
     holds-load-after before orders h are = record { is_of = is-load-of-after h.is_of; orders_are = are }
 
-    pub makes-load-round : AdvancesLoad (load_in old) (load_in new) Round → ClientStores old new.client → MakesLoadRound old new
+    pub makes-load-round : AdvancesLoad old new Round → ClientStores old new.client → MakesLoadRound old new
     makes-load-round round stored = record { first = round.0; same_keys = keys; same = client; goes_on = goes; stored = stored; round = round.1 }
 
     -- it is given up
@@ -56,13 +49,13 @@ module _ (old new : LoadByHandOf HandedIn) (keys : IsSameLoad (load_in old) (loa
     stops-load c is stops = record {
       same = subst (IsSameClient old.client) (sym is) client;
       stops = λ begun underway.
-          subst (λ (k : KeysOf). (c.session ≡ begun.session) ⊎ IsClientCall any_tell (StoppedLoading k.loader k.keys) begun c) asked-same (stops begun (goes begun.session underway));
+          subst (λ (k : KeysOf). (c.session ≡ begun.session) ⊎ IsClientCall any_tell (StoppedLoading k.loader k.keys) begun c) keys (stops begun (goes begun.session underway));
     }
 
 -- a call gives the outcomes
 module _ (old new : LoadByHandOf HandedIn) (outcomes : Vec Outcome) (loads : ClientLoads any_tell old new (Loaded outcomes)) (client : IsSameClient old.client new.client) (c : ClientOf HandedIn)
-    (is : c ≡ new.client) (asked : KeysOf) (asks : asked ≡ asked_by old) where
-  loads-from : (begun : ClientOf HandedIn) → IsClientCall any_tell (Loading old.loader old.keys (map outcome_of outcomes.items)) begun new.client
+    (is : c ≡ new.client) (asked : KeysOf) (asks : asked ≡ old.keys) where
+  loads-from : (begun : ClientOf HandedIn) → IsClientCall any_tell (Loading old.keys.loader old.keys.keys (map outcome_of outcomes.items)) begun new.client
       → IsClientCall any_tell (Loading asked.loader asked.keys (map outcome_of outcomes.items)) begun c
   loads-from begun call = rw (asks, is) call
 
@@ -74,7 +67,7 @@ module _ (old new : LoadByHandOf HandedIn) (outcomes : Vec Outcome) (loads : Cli
     loads = loads-from of.begun (loads of.begun of.underway);
   }
 
-  pub loads-it : AdvancesLoad (load_in old) (load_in new) (Loaded outcomes) → ClientStores old new.client → LoadsIt old (record { client = c; asked = asked; outcomes = map outcome_of outcomes.items })
+  pub loads-it : AdvancesLoad old new (Loaded outcomes) → ClientStores old new.client → LoadsIt old (record { client = c; asked = asked; outcomes = map outcome_of outcomes.items })
   loads-it advances stored = record {
     ready = advances.0;
     asked_is = asks;
@@ -85,10 +78,10 @@ module _ (old new : LoadByHandOf HandedIn) (outcomes : Vec Outcome) (loads : Cli
 
 -- ---- an order takes an answer
 
-module _ (old new : LoadByHandOf HandedIn) (number : ℕ) (answer : Result (Vec Item) FetchFault) (takes : TakesAnswer (load_pending_in old.far) number answer (load_pending_in new.far))
-    (goes : IfSome (slice_get (load_pending_in old.far) number) (LoadGoesOnIfMay any_tell answer (load_in old) (load_in new))) (client : new.client ≡ old.client)
-    (keys : IsSameLoad (load_in old) (load_in new)) where
-  goes-on-taken : LoadGoesOn any_tell (load_in old) (load_in new)
+module _ (old new : LoadByHandOf HandedIn) (number : ℕ) (answer : Result (Vec Item) FetchFault) (takes : TakesAnswer (pending_in old.far) number answer (pending_in new.far))
+    (goes : IfSome (slice_get (pending_in old.far) number) (LoadGoesOnIfMay any_tell answer old new)) (client : new.client ≡ old.client)
+    (keys : new.keys ≡ old.keys) where
+  goes-on-taken : LoadGoesOn any_tell old new
   goes-on-taken = (rw takes.was at goes) (may-answer old.client.session.loaders (order_in (Out takes.order)) answer)
 
   pub holds-load-taken : (orders : List OrderOf) → HoldsLoading old orders → HoldsLoading new orders
@@ -101,14 +94,14 @@ module _ (old new : LoadByHandOf HandedIn) (number : ℕ) (answer : Result (Vec 
   takes-for-load = record { same_keys = keys; client_is = client; goes_on = goes-on-taken; takes = takes }
 
 -- memory ran out at a reply
-pub load-stopped-at : (old new : LoadByHandOf HandedIn) (number : ℕ) → LoadGoesOn any_tell (load_in old) (load_in new) → new.client ≡ old.client → IsSameLoad (load_in old) (load_in new)
-    → WaitsAt number (load_pending_in old.far) → new.far ≡ over → StopsForLoad number old new
+pub load-stopped-at : (old new : LoadByHandOf HandedIn) (number : ℕ) → LoadGoesOn any_tell old new → new.client ≡ old.client → new.keys ≡ old.keys
+    → WaitsAt number (pending_in old.far) → IsOver new.far → StopsForLoad number old new
 load-stopped-at old new number goes client keys waited is = record { same_keys = keys; client_is = client; goes_on = goes; waited = waited; is_over = is }
 
 -- no orders are left where memory ran out
-pub holds-load-over : (old new : LoadByHandOf HandedIn) (before orders : List OrderOf) → LoadGoesOn any_tell (load_in old) (load_in new) → new.client ≡ old.client
-    → IsSameLoad (load_in old) (load_in new) → new.far ≡ over → orders ≡ [] → HoldsLoading old before → HoldsLoading new orders
+pub holds-load-over : (old new : LoadByHandOf HandedIn) (before orders : List OrderOf) → LoadGoesOn any_tell old new → new.client ≡ old.client
+    → new.keys ≡ old.keys → IsOver new.far → orders ≡ [] → HoldsLoading old before → HoldsLoading new orders
 holds-load-over old new before orders goes client keys is none h =
     holds-load-after old new keys goes
     (record { server = ap (λ (x : ClientOf HandedIn). x.server) client; most = ap (λ (x : ClientOf HandedIn). x.most) client }) before orders h
-    (none ∙ sym (ap (λ far. map order_in (load_pending_in far)) is))
+    (none ∙ sym (ap (λ far. map order_in (pending_in far)) is))

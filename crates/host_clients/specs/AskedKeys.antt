@@ -1,6 +1,7 @@
 -- Keys that a client loads, as a host lays them out, and why they are refused.
 use Rattle.std.specs.Prelude.{◌≢◌}
-use Rattle.host_clients.specs.Loads.{KeysOf, keys_in}
+use Rattle.load_rounds.specs.Reading.{KeysOf}
+use Rattle.host_clients.specs.Loads.{keys_in}
 use Rattle.host_clients.specs.declared.asked_keys.FlatKeys.{FlatKeys}
 use Rattle.host_clients.specs.declared.fault.Fault.{Fault}
 use Rattle.host_clients.specs.declared.fault.Fault.TheVariants as fault

@@ -8,18 +8,18 @@ use Rattle.load_queue.specs.declared.source.FetchFault.TheVariants.{Failed}
 use Rattle.load_queue.specs.Orders.{OrderOf}
 use Rattle.flat_orders.specs.Orders.{keys_of}
 use Rattle.load_rounds.specs.Histories.{Loading as LoadingCall, any_tell}
-use Rattle.rounds_by_hand.specs.Hands.{handed, pending_in, IsNewRound, IsWaiting, IsOver}
-use Rattle.rounds_by_hand.specs.LoadHands.{handed as load_handed, over, can_advance_load, load_pending_in, IsLoadUnderway, IsLoadWaiting, IsNewLoadRound, IsSameLoad, LoadGoesOn}
+use Rattle.load_rounds.specs.Reading.{KeysOf}
+use Rattle.rounds_by_hand.specs.Hands.{handed, can_advance, pending_in, IsNewRound, IsWaiting, IsOver}
 use Rattle.rounds_by_hand.specs.Pending.{TakesAnswer, is_in_at}
 use Rattle.rounds_by_hand.specs.declared.pending.Pending.{Pending}
 use Rattle.plan_requests.specs.Servers.{ServerOf}
 use Rattle.server.specs.Clients.{ClientOf, IsClientCall, IsSameClient}
 use Rattle.server.specs.Hands.{IsUnderway, GoesOn, GivesUp, StoresReplies}
-use Rattle.server.specs.LoadsByHand.{LoadByHandOf, ClientStopsLoad, ClientStores, load_by_hand_of, load_in}
+use Rattle.server.specs.LoadsByHand.{LoadByHandOf, ClientStopsLoad, ClientStores, IsLoadUnderway, LoadGoesOn, load_by_hand_of}
 use Rattle.rounds_by_hand.specs.declared.handed_in.HandedIn.{HandedIn}
 use Rattle.host_clients.specs.Asked.{HostAsked, PlansHost, AnswersHost}
 use Rattle.host_clients.specs.Lines.{width_of}
-use Rattle.host_clients.specs.Loads.{KeysOf, LoadedOf, asked_by, load_orders}
+use Rattle.host_clients.specs.Loads.{LoadedOf, load_orders}
 use Rattle.host_clients.specs.UnderWay.{UnderWayOf, AnsweredOf, IsAnswerOf, report_in, orders_out}
 use Rattle.host_clients.specs.declared.fault.Fault.{Fault}
 use Rattle.host_clients.specs.declared.fault.Fault.TheVariants as fault
@@ -63,7 +63,7 @@ abbrev pub pending_of : HostClient → List Pending
 pending_of (Idle c) = []
 pending_of (Asked u) = pending_in u.hand.far
 pending_of (Answered a) = []
-pending_of (Loading l) = load_pending_in l.far
+pending_of (Loading l) = pending_in l.far
 pending_of (Loaded d) = []
 pending_of Moved = []
 
@@ -114,7 +114,7 @@ IsBegun server old asked new = ⊥
 -- a client that wasn't busy has begun to load keys; nothing is done of it yet
 abbrev pub IsBegunLoad : KeysOf → HostClient → HostClient → Type 0
 IsBegunLoad asked old (Loading l) = (client_in old ≡ Some l.client)
-    × (l ≡ load_by_hand_of l.client asked.loader asked.keys load_handed)
+    × (l ≡ load_by_hand_of l.client asked handed)
 IsBegunLoad asked old new = ⊥
 
 -- From whichever client it was begun: this answers it in the client's session. What the client knows now is what it knew, with just what
@@ -198,21 +198,21 @@ GoesOnWith u new result = ⊥
 -- that loads these keys, and these are its outcomes. What the client knows now is what it knew, with just what the host replied to the
 -- orders of the round.
 pub record LoadsIt (l : LoadByHandOf HandedIn) (d : LoadedOf) : Type 0 where
-  pub ready : can_advance_load l.far ≡ true
-  pub asked_is : d.asked ≡ asked_by l
+  pub ready : can_advance l.far ≡ true
+  pub asked_is : d.asked ≡ l.keys
   pub same : IsSameClient l.client d.client
   pub stored : ClientStores l d.client
-  pub loads : (c : ClientOf HandedIn) → IsLoadUnderway any_tell c.session (load_in l)
-      → IsClientCall any_tell (LoadingCall l.loader l.keys d.outcomes) c d.client
+  pub loads : (c : ClientOf HandedIn) → IsLoadUnderway any_tell c.session l
+      → IsClientCall any_tell (LoadingCall l.keys.loader l.keys.keys d.outcomes) c d.client
 
 -- nothing was done yet, and now the round of the keys that aren't known is out, over what the client knew
 pub record MakesLoadRound (l m : LoadByHandOf HandedIn) : Type 0 where
-  pub first : l.far ≡ load_handed
-  pub same_keys : IsSameLoad (load_in l) (load_in m)
+  pub first : l.far ≡ handed
+  pub same_keys : m.keys ≡ l.keys
   pub same : IsSameClient l.client m.client
-  pub goes_on : LoadGoesOn any_tell (load_in l) (load_in m)
+  pub goes_on : LoadGoesOn any_tell l m
   pub stored : ClientStores l m.client
-  pub round : IsNewLoadRound m.far
+  pub round : IsNewRound m.far
 
 -- it is given up: what was stored stays in the client's session, and perhaps the round was lost
 pub record StopsLoad (l : LoadByHandOf HandedIn) (c : ClientOf HandedIn) : Type 0 where
@@ -220,13 +220,13 @@ pub record StopsLoad (l : LoadByHandOf HandedIn) (c : ClientOf HandedIn) : Type 
   pub stops : ClientStopsLoad any_tell l c
 
 abbrev pub IsLoadStopFault : LoadByHandOf HandedIn → Fault → Type 0
-IsLoadStopFault l e = (e ≡ fault.NoMemory) ⊎ ((e ≡ fault.Stopped) × (l.far ≡ over))
+IsLoadStopFault l e = (e ≡ fault.NoMemory) ⊎ ((e ≡ fault.Stopped) × IsOver l.far)
 
 -- says what comes of going on
 abbrev pub LoadsOnWith : LoadByHandOf HandedIn → HostClient → Result ClientProgress Fault → Type 0
 LoadsOnWith l (Loaded d) (Ok Done) = LoadsIt l d
 LoadsOnWith l (Loading m) (Ok Round) = MakesLoadRound l m
-LoadsOnWith l (Loading m) (Ok Waiting) = IsLoadWaiting l.far × (m ≡ l)
+LoadsOnWith l (Loading m) (Ok Waiting) = IsWaiting l.far × (m ≡ l)
 LoadsOnWith l (Idle c) (Err e) = StopsLoad l c × IsLoadStopFault l e
 LoadsOnWith l new result = ⊥
 
@@ -249,10 +249,10 @@ pub record Takes (number : ℕ) (answer : Result (Vec Item) FetchFault)
 
 pub record TakesForLoad (number : ℕ) (answer : Result (Vec Item) FetchFault)
     (l m : LoadByHandOf HandedIn) : Type 0 where
-  pub same_keys : IsSameLoad (load_in l) (load_in m)
+  pub same_keys : m.keys ≡ l.keys
   pub client_is : m.client ≡ l.client
-  pub goes_on : LoadGoesOn any_tell (load_in l) (load_in m)
-  pub takes : TakesAnswer (load_pending_in l.far) number answer (load_pending_in m.far)
+  pub goes_on : LoadGoesOn any_tell l m
+  pub takes : TakesAnswer (pending_in l.far) number answer (pending_in m.far)
 
 -- an order of a request or of a load takes an answer
 abbrev pub TakesAnswerTo : ℕ → Result (Vec Item) FetchFault → HostClient → HostClient → Type 0
@@ -277,11 +277,11 @@ pub record Stops (number : ℕ) (u v : UnderWayOf) : Type 0 where
   pub is_over : IsOver v.hand.far
 
 pub record StopsForLoad (number : ℕ) (l m : LoadByHandOf HandedIn) : Type 0 where
-  pub same_keys : IsSameLoad (load_in l) (load_in m)
+  pub same_keys : m.keys ≡ l.keys
   pub client_is : m.client ≡ l.client
-  pub goes_on : LoadGoesOn any_tell (load_in l) (load_in m)
-  pub waited : WaitsAt number (load_pending_in l.far)
-  pub is_over : m.far ≡ over
+  pub goes_on : LoadGoesOn any_tell l m
+  pub waited : WaitsAt number (pending_in l.far)
+  pub is_over : IsOver m.far
 
 -- a request or a load stops at the reply to an order
 abbrev pub StopsAt : ℕ → HostClient → HostClient → Type 0

@@ -9,7 +9,8 @@ use Rattle.flat_rows.specs.Replies.{reply_items}
 use Rattle.flat_rows.specs.declared.fault.FlatFault.{FlatFault}
 use Rattle.flat_rows.specs.declared.reply.FlatReply.{FlatReply}
 use Rattle.host_clients.specs.Faults.{flat_fault}
-use Rattle.host_clients.specs.Loads.{KeysOf, keys_in}
+use Rattle.load_rounds.specs.Reading.{KeysOf}
+use Rattle.host_clients.specs.Loads.{keys_in}
 use Rattle.host_clients.specs.declared.asked_keys.FlatKeys.{FlatKeys}
 use Rattle.host_clients.specs.declared.fault.Fault.{Fault}
 use Rattle.host_clients.specs.declared.fault.Fault.TheVariants as fault

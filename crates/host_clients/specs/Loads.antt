@@ -7,10 +7,11 @@ use Rattle.load_queue.specs.Orders.{OrderOf}
 use Rattle.flat_orders.specs.Written.{keys_said}
 use Rattle.load_rounds.specs.Histories.{Loading, any_tell}
 use Rattle.plan_requests.specs.Servers.{ServerOf}
-use Rattle.rounds_by_hand.specs.LoadHands.{IsLoadUnderway, load_pending_in}
+use Rattle.load_rounds.specs.Reading.{KeysOf}
+use Rattle.rounds_by_hand.specs.Hands.{pending_in}
 use Rattle.rounds_by_hand.specs.Pending.{order_in}
 use Rattle.server.specs.Clients.{ClientOf, IsClientCall}
-use Rattle.server.specs.LoadsByHand.{LoadByHandOf, load_in}
+use Rattle.server.specs.LoadsByHand.{LoadByHandOf, IsLoadUnderway}
 use Rattle.rounds_by_hand.specs.declared.handed_in.HandedIn.{HandedIn}
 
 -- the keys of a host's texts, which end at these places: for each key the number of its texts
@@ -21,19 +22,11 @@ keys_in shapes ends bytes = keys_said shapes (cut bytes 0 ends)
 pub record IsLoadOf (hand : LoadByHandOf HandedIn) : Type 0 where
   pub begun : ClientOf HandedIn
   pub of_server : hand.client.server ≡ begun.server
-  pub underway : IsLoadUnderway any_tell begun.session (load_in hand)
+  pub underway : IsLoadUnderway any_tell begun.session hand
 
 -- the orders of the round that is out
 abbrev pub load_orders : LoadByHandOf HandedIn → List OrderOf
-load_orders hand = map order_in (load_pending_in hand.far)
-
--- says what was asked: keys of a loader
-pub record KeysOf : Type 0 where
-  pub loader : ℕ
-  pub keys : List KeyOf
-
-abbrev pub asked_by : LoadByHandOf HandedIn → KeysOf
-asked_by hand = record { loader = hand.loader; keys = hand.keys }
+load_orders hand = map order_in (pending_in hand.far)
 
 -- says what holds between calls
 pub record HoldsLoading (hand : LoadByHandOf HandedIn) (orders : List OrderOf) : Type 0 where

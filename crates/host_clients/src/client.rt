@@ -22,7 +22,7 @@ use flat_rows::FlatReply;
 use load_memory::Item;
 use load_queue::FetchFault;
 use rounds_by_hand::HandedIn;
-use server::{Answer, ClientSession, Queries};
+use server::{Answer, ClientSession, PlannedLoad, Queries};
 use std::alloc::Global;
 use std::{mem, str};
 
@@ -182,13 +182,14 @@ impl HostClient {
     {
         let client = self.client_with(keys.loader)?;
         let read = keys.read(alloc, key_width(client.server(), keys.loader))?;
+        let planned = PlannedLoad::new(keys.loader, read)?;
         match mem::replace(self, HostClient::Moved).into_idle() {
             Err(busy) => {
                 self.put(busy);
                 Err(Fault::Busy)
             }
             Ok(client) => {
-                let loading = LoadUnderWay::begin(alloc, client, keys.loader, read);
+                let loading = LoadUnderWay::begin(alloc, client, planned);
                 self.put(HostClient::Loading(loading));
                 Ok(())
             }

@@ -26,15 +26,15 @@ impl Model for LoadedClient {
     ghost use Rattle.gq_parser.specs.contracts.tree.TypeRef as type_ref;
     ghost use Rattle.gq_parser.specs.contracts.tree.Literal as literal;
     ghost use Rattle.rounds_by_hand.specs.contracts.handed_in.HandedIn as handed;
-    ghost use Rattle.host_clients.specs.Loads.{AreOutcomesOf, LoadedOf, asked_by};
+    ghost use Rattle.host_clients.specs.Loads.{AreOutcomesOf, LoadedOf};
 
     ghost Value = { LoadedOf };
 
     ghost coded = { Prim.hlevel (codes, type_ref.the_row.coded, literal.the_row.coded, handed.the_row.coded) };
 
-    ghost view = { λ d. record { client = d.client; asked = asked_by d.loaded.value; outcomes = d.outcomes } };
+    ghost view = { λ d. record { client = d.client; asked = d.loaded.value.keys; outcomes = d.outcomes } };
 
-    ghost invariant = { λ d. AreOutcomesOf d.client.server (asked_by d.loaded.value) d.outcomes };
+    ghost invariant = { λ d. AreOutcomesOf d.client.server d.loaded.value.keys d.outcomes };
 }
 
 impl Drop for LoadedClient {

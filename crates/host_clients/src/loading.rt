@@ -1,9 +1,8 @@
 //! Keys that a client loads, on their way to the outcomes.
 //!
 //! A load goes on in the turns of a request, so that a host has one loop for both.
-ghost use Rattle.std.specs.Prelude.{◌≡◌, ◌<◌, ◌≤◌, Some, IfErr, IfSome, IfNone, OnOk, IsErrOf, length, map, slice_get};
-ghost use Rattle.load_memory.specs.Keys.{key_of};
-ghost use Rattle.rounds_by_hand.specs.LoadHands.{handed, load_pending_in, over};
+ghost use Rattle.std.specs.Prelude.{◌≡◌, ◌<◌, ◌≤◌, Some, IfErr, IfSome, IfNone, OnOk, IsErrOf, length, slice_get};
+ghost use Rattle.rounds_by_hand.specs.Hands.{handed, IsOver, pending_in};
 ghost use Rattle.server.specs.LoadsByHand.{load_by_hand_of};
 ghost use Rattle.host_clients.specs.Clients.{LoadsOnWith, StopsForLoad, StopsLoad, TakesForLoad};
 ghost use Rattle.host_clients.specs.Faults.{take_fault};
@@ -16,10 +15,10 @@ use crate::loaded::LoadedClient;
 use crate::under_way::write_orders;
 use flat_orders::FlatOrders;
 use flat_outcomes::FlatOutcomes;
-use load_memory::{Item, Key};
+use load_memory::Item;
 use load_queue::FetchFault;
-use rounds_by_hand::{HandedIn, LoadAdvance, Pending, TakeFault};
-use server::{ClientSession, LoadByHand, Server};
+use rounds_by_hand::{HandedIn, Pending, TakeFault};
+use server::{ClientSession, LoadAdvance, LoadByHand, PlannedLoad, Server};
 use std::alloc::Global;
 use std::marker::Model;
 use std::snapshot::Snapshot;
@@ -64,15 +63,13 @@ impl LoadUnderWay {
     pub(crate) fn begin(
         alloc: Global,
         client: ClientSession<HandedIn>,
-        loader: usize,
-        keys: Vec<Key>,
+        planned: PlannedLoad,
     ) -> LoadUnderWay
-        requires { loader < length client.session.loaders }
-        ensures { result ≡ load_by_hand_of
-            client loader (map key_of keys.items) handed }
+        requires { planned.loader < length client.session.loaders }
+        ensures { result ≡ load_by_hand_of client planned handed }
     {
         LoadUnderWay {
-            hand: client.load_by_hand(loader, keys),
+            hand: client.load_by_hand(planned),
             orders: FlatOrders::new(alloc),
         }
     }
@@ -129,9 +126,9 @@ impl LoadUnderWay {
     /// The order of this number in the round that is out, and the server whose loader it is of.
     pub(crate) fn order(&self, number: usize) -> Option<(&Server, &Pending)>
         ensures some { IfSome result (λ found. (found.0.now ≡ self.now.client.server)
-            × (slice_get (load_pending_in self.now.far) number ≡ Some found.1.now)) }
+            × (slice_get (pending_in self.now.far) number ≡ Some found.1.now)) }
         ensures none { IfNone result
-            (length (load_pending_in self.now.far) ≤ number) }
+            (length (pending_in self.now.far) ≤ number) }
     {
         let order = self.hand.orders().get(number)?;
         Some((self.hand.server(), order))
@@ -150,11 +147,11 @@ impl LoadUnderWay {
         ensures kept { IsErrOf result TakeFault.Answered
             → self.new ≡ self.old }
         ensures over { IsErrOf result TakeFault.NoMemory
-            → self.new.far ≡ over }
+            → IsOver self.new.far }
         ensures stopped { IsErrOf result TakeFault.NoMemory
             → StopsForLoad number self.old self.new }
         ensures fault { IfErr result (λ e.
-            OrderFault (load_pending_in self.old.far) number (take_fault e)) }
+            OrderFault (pending_in self.old.far) number (take_fault e)) }
     {
         match self.hand.answer(number, answer) {
             Ok(()) => Ok(()),

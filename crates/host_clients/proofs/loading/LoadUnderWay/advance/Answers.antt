@@ -1,7 +1,8 @@
 use Rattle.std.proofs.Common.{◌∙◌, ap, inl, map, refl}
 use Rattle.rounds_by_hand.specs.Pending.{order_in}
-use Rattle.host_clients.specs.Loads.{asked_by}
-use Rattle.host_clients.proofs.Loadings.{asked-same, holds-load-after, loads-it, makes-load-round, outcomes-of, same-load, stops-load}
+use Rattle.rounds_by_hand.specs.declared.handed_in.HandedIn.{HandedIn}
+use Rattle.server.specs.LoadsByHand.{LoadByHandOf}
+use Rattle.host_clients.proofs.Loadings.{holds-load-after, loads-it, makes-load-round, outcomes-of, stops-load}
 use Rattle.host_clients.proofs.loading.LoadUnderWay.advance.Goals as goal
 
 pub invariant_of-loaded : goal.invariant_of-loaded
@@ -9,7 +10,7 @@ invariant_of-loaded c =
     let said = c.in-Ok-Loaded in
     rw (c.in-Ok.ensures, c.deref.ensures.value)
     (outcomes-of c.self.inside.hand c.advance.new.self said.outcomes (rw said.field-0-is at said.ensures.loaded) c.advance.ensures.same c.into_client.result c.into_client.ensures.client
-    (asked_by c.of-snapshot.result.value) (ap asked_by c.of-snapshot.ensures ∙ asked-same c.self.inside.hand c.advance.new.self c.advance.ensures.asked) c.self.invariant.is_of)
+    c.of-snapshot.result.value.keys (ap (λ (l : LoadByHandOf HandedIn). l.keys) c.of-snapshot.ensures ∙ c.advance.ensures.asked) c.self.invariant.is_of)
 
 pub invariant_of-loading : goal.invariant_of-loading
 invariant_of-loading c =
@@ -20,14 +21,15 @@ invariant_of-loading c =
 pub invariant_of-loading-in-Ok-Waiting : goal.invariant_of-loading-in-Ok-Waiting
 invariant_of-loading-in-Ok-Waiting c =
     let waits = c.in-Ok-Waiting in
-    rw (same-load c.self.inside.hand c.advance.new.self (rw waits.field-0-is at waits.ensures.advanced).1 c.advance.ensures.same) c.self.invariant
+    let did = rw waits.field-0-is at waits.ensures.advanced in
+    rw did.1 c.self.invariant
 
 pub returns-in-Ok : goal.returns-in-Ok
 returns-in-Ok c =
     let said = c.in-Ok-Loaded in
     rw (← c.self.view_is, c.in-Ok.ensures, c.deref.ensures.value)
     (loads-it c.self.inside.hand c.advance.new.self said.outcomes (rw said.field-0-is at said.ensures.loaded) c.advance.ensures.same c.into_client.result c.into_client.ensures.client
-    (asked_by c.of-snapshot.result.value) (ap asked_by c.of-snapshot.ensures ∙ asked-same c.self.inside.hand c.advance.new.self c.advance.ensures.asked) (rw said.field-0-is at said.ensures.advanced) (rw said.field-0-is at said.ensures.stored))
+    c.of-snapshot.result.value.keys (ap (λ (l : LoadByHandOf HandedIn). l.keys) c.of-snapshot.ensures ∙ c.advance.ensures.asked) (rw said.field-0-is at said.ensures.advanced) (rw said.field-0-is at said.ensures.stored))
 
 pub returns-in-Ok-Loaded : goal.returns-in-Ok-Loaded
 returns-in-Ok-Loaded c =

@@ -1,6 +1,6 @@
 use Rattle.std.proofs.Common.{◌≡◌, Err}
 use Rattle.rounds_by_hand.specs.declared.fault.TakeFault.TheVariants.{NoMemory}
-use Rattle.rounds_by_hand.specs.LoadHands.{load_pending_in}
+use Rattle.rounds_by_hand.specs.Hands.{pending_in}
 use Rattle.host_clients.proofs.Loadings.{holds-load-taken, holds-load-over, load-stopped-at, takes-for-load}
 use Rattle.host_clients.proofs.Refusals.{waits-at}
 use Rattle.host_clients.proofs.loading.LoadUnderWay.take.Goals as goal
@@ -28,4 +28,4 @@ returns-in-Err-NoMemory-clause-stopped c = λ stops.
     let e = c.answer.ensures in let is : c.answer.result ≡ Err NoMemory = (let i = c.in-Err-NoMemory.is in let f = c.in-Err-NoMemory.field-0-is in cc) in
     rw (← c.self.view_is)
     (load-stopped-at c.self.inside.hand c.answer.new.self c.args.number c.in-Err-NoMemory.ensures.stopped e.client e.asked
-    (waits-at (load_pending_in c.self.inside.hand.far) c.args.number c.answer.result is e.refused.no_order e.refused.answered) (e.refused.over is))
+    (waits-at (pending_in c.self.inside.hand.far) c.args.number c.answer.result is e.refused.no_order e.refused.answered) (e.refused.over is))
