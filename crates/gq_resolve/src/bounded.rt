@@ -108,8 +108,8 @@ impl BoundedText {
     }
 }
 
-// A copy of a step of a path.
-fn copy_step(alloc: Global, step: &PathSegment) -> Result<PathSegment, AllocError>
+/// A copy of a step of a path.
+pub fn copy_step(alloc: Global, step: &PathSegment) -> Result<PathSegment, AllocError>
     ensures { IfOk result
         (λ copy. part_of copy ≡ part_of step.now) }
 {

@@ -19,9 +19,9 @@ use crate::output::{FIRST_ROOM, writer_text};
 use answer_json::{PathSegment, begin_answer};
 use gq_lexer::Place;
 use json::{Token, Writer};
-use load_memory::KeyRef;
+use load_memory::{Cell, KeyRef};
 use plan_program::LeafValue;
-use plan_walk::cells::cell_value;
+use plan_walk::cells::{CellValue, cell_value, leaf_of};
 use plan_walk::positions::{FieldPosition, Items, Leaf, Nullability, Onward, PositionKind};
 use plan_walk::sink::Sink;
 use std::alloc::{AllocError, Global};
@@ -314,7 +314,13 @@ impl Sink for CompletedText {
         self.put_leaf_value(leaf_value, nullability)
     }
 
+    // A text is put without a copy.
     fn cell(&mut self, leaf: Leaf<'_>, nullability: Nullability) -> Result<(), AllocError> {
+        if let Cell::Text(text) = leaf.row.get(leaf.column) {
+            if let Some(CellValue::Text(text)) = leaf_of(leaf.schema, leaf.ty, text) {
+                return self.put(Token::String(text));
+            }
+        }
         let leaf_value = cell_value(self.alloc, leaf.schema, leaf.column, leaf.ty, leaf.row)?;
         self.put_leaf_value(&leaf_value, nullability)
     }

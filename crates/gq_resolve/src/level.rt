@@ -5,6 +5,7 @@ ghost use Rattle.execution.specs.Program.{Key, ObjectOf};
 ghost use Rattle.gq_resolve.specs.Answered.{part_of, response_of, is_null_response};
 ghost use Rattle.gq_resolve.specs.Built.{root_position, step_in, level_with, level_response, position_held, level_seen};
 
+use crate::bounded::copy_step;
 use answer_json::{PathSegment, Response};
 use gq_lexer::Place;
 use plan_walk::positions::Nullability;
@@ -58,10 +59,7 @@ impl Position {
         ensures { IfOk result (λ step.
             part_of step ≡ (position_held self.now).part) }
     {
-        match &self.step {
-            PathSegment::Key(key) => Ok(PathSegment::Key(String::from_str(alloc, key.as_str())?)),
-            PathSegment::Item(number) => Ok(PathSegment::Item(*number)),
-        }
+        copy_step(alloc, &self.step)
     }
 
     // The key of a field. No item has one.

@@ -1,8 +1,8 @@
 //! An answer without errors, as it is written within a limit, and the positions of it that wait.
 //!
 //! An answer without errors is written straight from the rows, with no response and no string for a cell. Where
-//! an error was met and nothing is missing, `faulted_text` writes the answer anew, since an error can make null
-//! what was written around it.
+//! an error was met and nothing is missing, `CompletedText` writes the answer anew: an error can make null what was
+//! written around it, and its path has keys, which nothing here keeps.
 
 ghost use Rattle.std.specs.Prelude.{◌≡◌, ◌≤◌, ◌↔◌, ◌∷◌, [], suc, length, IfOk, OnOk, IsTrue, Bool, false, true, option_map, string_bytes};
 ghost use Rattle.std.specs.Fmt.{signed_decimal};
