@@ -80,6 +80,7 @@ impl PreparedPlan {
         };
         let mut rooted = prepare_root(&walk)?;
         prepare_below(&walk, &mut rooted.groups, most_ahead_of(&plan))?;
+        rooted.groups.shrink_to_fit();
         Ok(PreparedPlan {
             plan,
             rooted: Some(rooted),

@@ -5,3 +5,4 @@ pub mod Stepping
 pub mod Touring
 pub mod Noting
 pub mod MadeAgain
+pub mod Leaves

@@ -5,7 +5,6 @@ use Rattle.std.specs.Option.{option_map_or}
 use Rattle.std.specs.Arc.{arc_value}
 use Rattle.std.specs.declared.sync.Arc.{Arc}
 use Rattle.std.specs.declared.alloc.Global.{Global}
-use Rattle.gq_parser.specs.Tree.{type_of}
 use Rattle.schema_syntax.specs.Tree.{Definition}
 use Rattle.gq_bindings.specs.Types.{is_object_type}
 use Rattle.gq_bindings.specs.Tree.{StepOf}
@@ -17,12 +16,13 @@ use Rattle.gq_variables.specs.Variables.{VariableOf}
 use Rattle.plan_program.specs.Groups.{GroupOf, nothing_collected, collect_subfields}
 use Rattle.plan_program.specs.FieldValues.{ChildrenOf, ValueFrom, PreparedOf, prepared, all_prepared}
 use Rattle.plan_program.specs.Prepared.{leaf_value_seen, key_from_seen, keys_seen, children_seen}
-use Rattle.plan_program.specs.PlanPrograms.{cell_value, places, fields_of, read_from, read_if, first_object, all_objects, first_of, joined_object, joined_objects, asked_program, object_program}
+use Rattle.plan_program.specs.PlanPrograms.{places, fields_of, read_from, read_if, first_object, all_objects, first_of, joined_object, joined_objects, asked_program, object_program}
 use Rattle.plan_program.specs.ObjectTypes.{name_in, is_found, IsOf}
 use Rattle.plan_program.specs.OtherVariables.{AgreesOnDirectives, with_variables}
 use Rattle.plan_program.specs.RowUses.{UseOf, First, Each, Joined, BelowOf, below_in, LoadOf, load_in}
 use Rattle.plan_program.specs.declared.object_type.ObjectType.{ObjectType}
 use Rattle.plan_program.specs.declared.prepared.Children.{Children}
+use Rattle.plan_walk.specs.LeafTypes.{cell_at}
 use Rattle.plan_walk.specs.Steps.{last_steps}
 use Rattle.plan_walk.specs.Puts.{OnwardOf, View}
 use Rattle.plan_walk.specs.Positions.{is_non_null, member_position}
@@ -108,7 +108,7 @@ pub record Covers (plan : PlanOf) (gs : List LoadingField) (v : View) : Type 0 w
 abbrev pub asks_seen : List Definition → View → ℕ → RowOf → FieldResolver → Program
 asks_seen defs v levels row (asks.Known leaf_value) = Is (leaf_value_seen leaf_value)
 asks_seen defs v levels row (asks.Cell column ty) =
-    Is (cell_value defs column (type_of ty) (cell_of row column))
+    Is (cell_at defs column ty (cell_of row column))
 asks_seen defs v levels row (asks.Load loader key group) = read_from loader (key_from_seen key) row
     (v.after (record { group = group; later = None; levels = levels }))
 asks_seen defs v levels row (asks.Each loader keys items group) =

@@ -58,7 +58,7 @@ fn asks_at(asked: ValueFrom, group: usize) -> FieldResolver
         ValueFrom::Known(leaf_value) => FieldResolver::Known(leaf_value),
         ValueFrom::Cell { column, ty } => FieldResolver::Cell {
             column,
-            ty: LeafType::new(ty),
+            ty: LeafType::of(ty),
         },
         ValueFrom::First {
             loader,

@@ -2,17 +2,17 @@
 
 ghost use Rattle.std.specs.Prelude.{◌≡◌, IfOk, option_map};
 ghost use Rattle.std.specs.Str.{all_ascii_digits};
-ghost use Rattle.gq_parser.specs.Tree.{type_of};
 ghost use Rattle.gq_schema.specs.Types.{tree_of, has_value};
 ghost use Rattle.gq_bindings.specs.Types.{is_object_type};
 ghost use Rattle.gq_schema.specs.Coercion.{int_of};
 ghost use Rattle.load_memory.specs.Rows.{cell_of};
 ghost use Rattle.plan_program.specs.Texts.{is_int_text, is_unsigned_text};
-ghost use Rattle.plan_program.specs.PlanPrograms.{boolean_of, int_leaf, text_if, leaf_of, cell_value, type_of_row};
+ghost use Rattle.plan_program.specs.PlanPrograms.{boolean_of, int_leaf, text_if, type_of_row};
 ghost use Rattle.plan_program.specs.Prepared.{leaf_value_seen};
 ghost use Rattle.plan_walk.specs.Cells.{value_seen, type_seen};
+ghost use Rattle.plan_walk.specs.LeafTypes.{leaf_at, cell_at};
 
-use crate::leaf_type::{LeafKind, LeafType};
+use crate::leaf_type::LeafType;
 use gq_schema::{Schema, TypeKind};
 use load_memory::{Cell, Row};
 use plan_program::{
@@ -106,14 +106,14 @@ fn enum_leaf<'t>(schema: &Schema, name: &str, text: &'t str) -> Option<CellValue
 /// Returns what a text is at a type, if it is right there (section 3.5, Result Coercion).
 pub fn leaf_of<'t>(schema: &Schema, ty: &LeafType, text: &'t str) -> Option<CellValue<'t>>
     ensures { option_map value_seen result
-        ≡ leaf_of (tree_of schema.now) (type_of ty.now) text.now }
+        ≡ leaf_at (tree_of schema.now) ty.now text.now }
 {
-    match ty.kind() {
-        LeafKind::Int => int_leaf(text),
-        LeafKind::Boolean => boolean_leaf(text),
-        LeafKind::Text => Some(CellValue::Text(text)),
-        LeafKind::Other => enum_leaf(schema, ty.name(), text),
-        LeafKind::List => None,
+    match ty {
+        LeafType::Int => int_leaf(text),
+        LeafType::Boolean => boolean_leaf(text),
+        LeafType::Text => Some(CellValue::Text(text)),
+        LeafType::Named(name) => enum_leaf(schema, name.as_str(), text),
+        LeafType::List => None,
     }
 }
 
@@ -125,8 +125,8 @@ pub fn cell_value(
     ty: &LeafType,
     row: &Row,
 ) -> Result<LeafValue, AllocError>
-    ensures { IfOk result (λ leaf_value. leaf_value_seen leaf_value ≡ cell_value
-        (tree_of schema.now) column.now (type_of ty.now) (cell_of row.now column.now)) }
+    ensures { IfOk result (λ leaf_value. leaf_value_seen leaf_value ≡ cell_at
+        (tree_of schema.now) column.now ty.now (cell_of row.now column.now)) }
 {
     match row.get(column) {
         Cell::NoColumn => Ok(LeafValue::Fault(no_column_message(alloc, column)?)),

@@ -254,7 +254,7 @@ pub(crate) fn asks_of(
         ValueFrom::Known(leaf_value) => Ok(FieldResolver::Known(leaf_value)),
         ValueFrom::Cell { column, ty } => Ok(FieldResolver::Cell {
             column,
-            ty: LeafType::new(ty),
+            ty: LeafType::of(ty),
         }),
         ValueFrom::First {
             loader,
