@@ -8,7 +8,6 @@ use Rattle.short_text.proofs.text.Text.TheSendSync as text
 use Rattle.load_memory.proofs.key.Key.TheSendSync as key
 use Rattle.load_memory.proofs.row.Row.TheSendSync as row
 use Rattle.gq_parser.proofs.tree.Selection.TheLaws.TheKnot as selection
-use Rattle.gq_parser.proofs.tree.TypeRef.TheLaws.TheKnot as type_ref
 use Rattle.gq_parser.proofs.tree.Value.TheLaws.TheKnot as value
 use Rattle.gq_parser.specs.contracts.tree.SelectionSet as set
 use Rattle.plan_program.proofs.prepared.KeyFrom.TheSendSync as key_from
@@ -16,7 +15,6 @@ use Rattle.plan_program.proofs.prepared.LeafValue.TheSendSync as leaf
 use Rattle.plan_program.specs.contracts.prepared.Children as children
 use Rattle.plan_walk.proofs.loading_fields.RowUse.TheSendSync as then
 use Rattle.plan_walk.proofs.waiting.Waiting.TheSendSync as waiting
-use Rattle.plan_walk.specs.contracts.leaf_type.LeafType as leaf_type
 use Rattle.plan_walk.specs.contracts.loading_fields.FieldResolver as asks
 use Rattle.plan_walk.specs.contracts.loading_fields.Member as member
 use Rattle.plan_walk.specs.contracts.loading_fields.TypePositions as shape
@@ -41,17 +39,11 @@ children_send = declared_send children.the_type (search (sendable, text.the_send
 children_sync : IsSync children.the_row
 children_sync = declared_sync children.the_type (search (sendable, text.the_sync) depth 20, (search sendable depth 20, (search sendable depth 20, (search (heap.crosses, sendable, set_send, set_sync) depth 40 fits 10000, tt))))
 
-leaf_type_send : IsSend leaf_type.the_row
-leaf_type_send = search (heap.crosses, sendable, type_ref.send-TypeRef) depth 20
-
-leaf_type_sync : IsSync leaf_type.the_row
-leaf_type_sync = search (heap.crosses, sendable, type_ref.sync-TypeRef) depth 20
-
 asks_send : IsSend asks.the_row
-asks_send = search (heap.crosses, sendable, leaf_type_send, text.the_send, leaf.the_field_send, key_from.the_field_send, key.the_send) depth 20
+asks_send = search (heap.crosses, sendable, text.the_send, leaf.the_field_send, key_from.the_field_send, key.the_send) depth 20
 
 asks_sync : IsSync asks.the_row
-asks_sync = search (heap.crosses, sendable, leaf_type_sync, text.the_sync, leaf.the_field_sync, key_from.the_field_sync, key.the_sync) depth 20
+asks_sync = search (heap.crosses, sendable, text.the_sync, leaf.the_field_sync, key_from.the_field_sync, key.the_sync) depth 20
 
 member_send : IsSend member.the_row
 member_send = declared_send member.the_type (search (sendable, text.the_send) depth 20, (asks_send, tt))

@@ -1,6 +1,6 @@
 -- What was prepared of a plan serves each plan that is this one with other variables and leaves out the same.
 use Rattle.std.specs.Arc.{arc_value}
-use Rattle.std.proofs.Common.{◌≡◌, List, [], Vec, Global, refl, sym, ap, subst, ◌∙◌, arith}
+use Rattle.std.proofs.Common.{◌≡◌, List, [], Vec, Global, refl, sym, subst, ◌∙◌, arith}
 use Rattle.gq_variables.specs.Variables.{VariableOf}
 use Rattle.gq_schema.specs.Types.{root_in}
 use Rattle.gq_check.specs.Plans.{PlanOf, PlanParts, IsSameBut, plan_of}

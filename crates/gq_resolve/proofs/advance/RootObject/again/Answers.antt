@@ -1,5 +1,5 @@
 use Rattle.std.specs.Arc.{arc_value}
-use Rattle.std.proofs.Common.{◌≡◌, ℕ, ◌∙◌, ap, sym, subst, refl, List, [], Vec, Global}
+use Rattle.std.proofs.Common.{◌≡◌, ℕ, ◌∙◌, ap, sym, subst, List, Vec, Global}
 use Rattle.gq_parser.specs.declared.tree.SelectionSet.{SelectionSet}
 use Rattle.gq_parser.specs.declared.tree.Operation.{Operation}
 use Rattle.gq_parser.specs.Tree.{Selections, set_of, map_selections}
