@@ -166,16 +166,14 @@ function refuseDoubt(loader, keys, elements) {
 /** The reply of an array of which each element is nothing or the row of the key in its place, so that it says the same however it is read. */
 function ofOwnRows({ columns }, keys, elements) {
   if (columns.length !== 1 || elements.length !== keys.length) return undefined;
-  const [column] = columns;
-  const [rows, counts] = [[], []];
-  for (const element of elements) {
-    if (element !== null && element !== undefined) {
-      if (!isRow(element) || textOf(element[column]) !== keys[counts.length]) return undefined;
-      rows.push(element);
-    }
-    counts.push(element ? 1 : 0);
+  const counts = new Array(keys.length);
+  for (let place = 0; place < keys.length; place++) {
+    const element = elements[place];
+    const isRowOrNone = element === null || element === undefined || (isRow(element) && textOf(element[columns[0]]) === keys[place]);
+    if (!isRowOrNone) return undefined;
+    counts[place] = element ? 1 : 0;
   }
-  return { rows, counts, faults: [] };
+  return { rows: counts.includes(0) ? elements.filter(Boolean) : elements, counts, faults: [] };
 }
 
 /** The reply of an array of which nobody says how it is to be read. */
