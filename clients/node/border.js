@@ -59,9 +59,15 @@ function code() {
   return border.words[0] | 0;
 }
 
+/** Leaves the first words of a call. */
+function leaveHead(head) {
+  const words = makeRoom(head.length);
+  for (let place = 0; place < head.length; place++) words[place] = head[place];
+}
+
 /** Makes a call of the addon, again where it needs more room, and returns what it returns. `head` is its first words. */
 function call(name, head, ...values) {
-  makeRoom(head.length).set(head);
+  leaveHead(head);
   const returned = addon[name](...values);
   if (code() === NEED_ROOM) {
     makeRoom(border.words[1]);
@@ -160,6 +166,6 @@ function readLog(client, loader) {
 }
 
 module.exports = {
-  addon, border, call, code, giveBackWords, makeRoom, readLoaders, readLog, readOutcomes, readRound, refusal, RudzkvanoError, DONE, FIRST_WORDS,
-  HEAD, KEPT_WORDS, NEED_ROOM, NO_KEY_COLUMN, NOT_ASKED, ROUND, WAITING,
+  addon, border, call, code, giveBackWords, leaveHead, makeRoom, readLoaders, readLog, readOutcomes, readRound, refusal, RudzkvanoError, DONE,
+  FIRST_WORDS, HEAD, KEPT_WORDS, NEED_ROOM, NO_KEY_COLUMN, NOT_ASKED, ROUND, WAITING,
 };

@@ -10,6 +10,8 @@ const { unpaired, wellFormed } = require('./text.js');
 
 /** In the place of a number of rows: the key has a fault. */
 const KEY_FAULT = 0xffffffff;
+/** The columns that are left out of most replies. */
+const NONE = Object.freeze([]);
 
 /** The text of a value, or undefined where it has none; null is the empty text. */
 function textOf(value) {
@@ -184,7 +186,7 @@ function ofBareArray(loader, keys, elements, faultOf) {
   if (elements.length !== keys.length) {
     throw new RangeError(`loader ${loader.name}: ${elements.length} items for ${keys.length} keys, which aren't all rows with its columns`);
   }
-  refuseDoubt(loader, keys, elements);
+  if (elements.some(isRow)) refuseDoubt(loader, keys, elements);
   return ofItems(loader, keys, elements, faultOf);
 }
 
@@ -204,24 +206,50 @@ function replyOf(loader, keys, returned, form, faultOf) {
 /** Words for a reply, or undefined while one is put together. */
 let spare = new Uint32Array(FIRST_WORDS);
 
-/**
- * Has `write` fill so many words, which are its own: a getter of a row may begin another request, which uses the words of the border. Returns what
- * it returned.
- */
-function withWords(count, write) {
+/** So many words, or more, for one reply alone: a getter of a row may begin another request, which uses the words of the border. */
+function takeWords(count) {
   const words = spare?.length >= count ? spare : new Uint32Array(Math.max(count, FIRST_WORDS));
   spare = undefined;
-  try {
-    return write(words);
-  } finally {
-    spare = words.length > KEPT_WORDS ? undefined : words;
-  }
+  return words;
+}
+
+/** Gives back words that were taken. Those are lost that a getter threw out of. */
+function giveBack(words) {
+  spare = words.length > KEPT_WORDS ? undefined : words;
 }
 
 function namesIn(row) {
   const names = [];
   for (const name in row) names.push(name);
   return names;
+}
+
+/** The names of columns as one text, and where each ends. */
+class Heading {
+  constructor(columns) {
+    const names = columns.map(unpaired);
+    let end = 0;
+    this.columns = columns;
+    this.text = names.join('');
+    this.ends = names.map(({ length }) => (end += length));
+  }
+
+  /** Whether these are the names of a row's members, in order. */
+  isOf(row) {
+    let column = 0;
+    for (const name in row) if (name !== this.columns[column++]) return false;
+    return column === this.columns.length;
+  }
+}
+
+/** For each number of a loader the heading of the rows that were written last. */
+const headings = [];
+
+/** The heading of a reply, which is that of its first row. */
+function headingOf(loader, { columns, rows }) {
+  if (columns || rows.length === 0) return new Heading(columns ?? []);
+  const last = headings[loader.number];
+  return last?.isOf(rows[0]) ? last : (headings[loader.number] = new Heading(namesIn(rows[0])));
 }
 
 /** Stands for the text of rows in which a value has none. */
@@ -350,37 +378,39 @@ function readable(loader, keys, reply) {
   return { ...wide, columns: kept(columns), rows: texts.map(kept), unread };
 }
 
-/**
- * Leaves the ends of a reply's texts among the words, from a place on. Returns its texts, how many columns and texts there are, and the columns that
- * are left out.
- */
-function write(loader, keys, reply, place) {
-  const { rows, faults, unread = [] } = reply;
-  const columns = reply.columns ?? namesIn(rows[0]);
+/** Writes a reply under a heading, as `write` does. Returns undefined or NO_TEXT as `writeRows` does. */
+function writeUnder({ columns, text, ends }, reply, place) {
+  const { rows, faults, unread = NONE } = reply;
   const end = columns.length * (1 + rows.length);
   const texts = end + faults.length;
-  const text = withWords(texts, (words) => {
-    const names = writeTexts(columns, '', words, 0);
-    const fields = (reply.columns ? writeArrays : writeRows)(columns, rows, names, words, columns.length);
-    if (typeof fields !== 'string') return fields;
-    const all = writeTexts(faults, fields, words, end);
-    const shared = makeRoom(place + texts);
-    for (let i = 0; i < texts; i++) shared[place + i] = words[i];
-    return all;
-  });
-  if (text === undefined) return write(loader, keys, widened(reply), place);
-  if (text === NO_TEXT) return write(loader, keys, readable(loader, keys, reply), place);
-  if (rows.length > 0 && columns.length === 0) throw new TypeError(`loader ${loader.name}: a row has no columns`);
-  return { text, columns, texts, unread };
+  const words = takeWords(texts);
+  for (let column = 0; column < columns.length; column++) words[column] = ends[column];
+  const fields = (reply.columns ? writeArrays : writeRows)(columns, rows, text, words, columns.length);
+  const all = typeof fields === 'string' ? writeTexts(faults, fields, words, end) : fields;
+  const shared = makeRoom(place + texts);
+  for (let i = 0; i < texts; i++) shared[place + i] = words[i];
+  giveBack(words);
+  return typeof all === 'string' ? { text: all, columns, texts, unread } : all;
 }
 
 /**
- * Leaves a reply among the words, but for the order's number. Returns its texts, whether it is keyed, and the columns that are left out of them, since
- * they have a value that has no text; and `withoutCasts`, which leaves a keyed reply that the library refused once more, without the rows that it
- * refused, or throws why it can't.
+ * Leaves the ends of a reply's texts among the words, from a place on. Returns its texts, the names of its columns, how many texts there are, and the
+ * columns that are left out.
  */
-function leave(loader, keys, reply, faultOf) {
-  const { counts, isKeyed = false } = reply;
+function write(loader, keys, reply, place) {
+  const written = writeUnder(headingOf(loader, reply), reply, place);
+  if (written === undefined) return write(loader, keys, widened(reply), place);
+  if (written === NO_TEXT) return write(loader, keys, readable(loader, keys, reply), place);
+  if (reply.rows.length > 0 && written.columns.length === 0) throw new TypeError(`loader ${loader.name}: a row has no columns`);
+  return written;
+}
+
+/**
+ * Leaves a reply among the words, but for the order's number. Returns the reply, its texts, the names of its columns, and those that are left out of
+ * them, since they have a value that has no text.
+ */
+function leave(loader, keys, reply) {
+  const { counts } = reply;
   const { text, columns, texts, unread } = write(loader, keys, reply, HEAD + counts.length);
   const { words } = border;
   words[1] = columns.length;
@@ -388,12 +418,17 @@ function leave(loader, keys, reply, faultOf) {
   words[3] = texts;
   words[4] = text.length;
   for (let key = 0; key < counts.length; key++) words[HEAD + key] = counts[key];
-  return { text, isKeyed, unread, withoutCasts: () => leave(loader, keys, withoutCasts(loader, keys, reply, columns, faultOf), faultOf) };
+  return { reply, text, columns, unread };
+}
+
+/** Leaves a keyed reply that the library refused once more, without the rows that it refused, or throws why it can't. */
+function leaveWithoutCasts(loader, keys, { reply, columns }, faultOf) {
+  return leave(loader, keys, withoutCasts(loader, keys, reply, columns, faultOf));
 }
 
 /** Leaves what a batch function returned among the words. `form` is how a bare array is read, if somebody says it. */
 function writeReply(loader, keys, returned, form, faultOf) {
-  return leave(loader, keys, replyOf(loader, keys, returned, form, faultOf), faultOf);
+  return leave(loader, keys, replyOf(loader, keys, returned, form, faultOf));
 }
 
 /** Leaves texts, and how many there are of each key, among the words, from a place on. Returns them as one. */
@@ -412,4 +447,4 @@ function writeItem(loader, key, item) {
   return [keyText, text];
 }
 
-module.exports = { writeItem, writeKeys, writeReply };
+module.exports = { leaveWithoutCasts, writeItem, writeKeys, writeReply };

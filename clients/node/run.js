@@ -2,12 +2,12 @@
 'use strict';
 
 const {
-  addon, border, code, giveBackWords, makeRoom, readOutcomes, readRound, refusal, DONE, HEAD, NEED_ROOM, NO_KEY_COLUMN, NOT_ASKED, ROUND,
+  addon, border, code, giveBackWords, leaveHead, makeRoom, readOutcomes, readRound, refusal, DONE, HEAD, NEED_ROOM, NO_KEY_COLUMN, NOT_ASKED, ROUND,
   WAITING,
 } = require('./border.js');
 const { editErrors, faultText, messageOf, plainText, shownBy, withExtensions } = require('./faults.js');
 const { formOf } = require('./forms.js');
-const { writeKeys, writeReply } = require('./rows.js');
+const { leaveWithoutCasts, writeKeys, writeReply } = require('./rows.js');
 const { jsonOf } = require('./text.js');
 
 /** The step that begins the answer to a request, and goes on. */
@@ -84,7 +84,7 @@ class Run {
       this.signal?.throwIfAborted();
       if (this.over) return;
       this.signal?.addEventListener('abort', this.abort);
-      if (this.server) makeRoom(this.limits.length).set(this.limits);
+      if (this.server) leaveHead(this.limits);
       this.go(this.left(step(this.handle, this.server)));
     } catch (error) {
       this.stop(error);
@@ -157,31 +157,32 @@ class Run {
   reply(order, returned) {
     if (this.over) return undefined;
     const { loader, keys } = order;
-    let reply;
+    const faultOf = (error, ofKeys) => this.faultOf(error, loader, ofKeys);
+    let left;
     try {
-      reply = writeReply(loader, keys, returned, formOf(loader, this.rows), (error, ofKeys) => this.faultOf(error, loader, ofKeys));
+      left = writeReply(loader, keys, returned, formOf(loader, this.rows), faultOf);
     } catch (why) {
       return this.fail(order, why);
     }
-    let text = this.handIn(order, reply);
+    let text = this.handIn(order, left);
     if (code() === NO_KEY_COLUMN || code() === NOT_ASKED) {
       try {
-        reply = reply.withoutCasts();
+        left = leaveWithoutCasts(loader, keys, left, faultOf);
       } catch (why) {
         return this.fail(order, why);
       }
-      text = this.handIn(order, reply);
+      text = this.handIn(order, left);
     }
     if (this.over) return undefined;
-    for (const it of reply.unread) (this.unread ??= new Map()).set(it.column, { ...it, loader });
+    for (const it of left.unread) (this.unread ??= new Map()).set(it.column, { ...it, loader });
     return this.told(order, this.left(text));
   }
 
   /** Has the library take a reply, unless a getter of a row, or a hook, has stopped the request. Returns what the step left. */
-  handIn(order, { text, isKeyed }) {
+  handIn(order, { reply, text }) {
     if (this.over) return undefined;
     border.words[0] = order.number;
-    return addon.reply(this.handle, text, isKeyed);
+    return addon.reply(this.handle, text, reply.isKeyed === true);
   }
 
   /** Tells the library that a batch failed. */
