@@ -2,7 +2,8 @@
 
    Numbers cross the border in one Uint32Array that both sides hold, the words; texts as one string that has all texts of a call, with the
    place where each ends among the words. JavaScript counts these places in UTF-16 units and the library in bytes: they are the same where all
-   texts are ASCII, and else they are converted here.
+   texts are ASCII, and else they are converted here. A reply has words of its own, the page, with bytes in which its texts are if they are few,
+   short and ASCII.
 
    The first HEAD words are the head. A call leaves its code in word 0. One call does what one step needs: a client that answers once is opened
    and the request begun, a reply is handed in and the next round is read, or the answer, and that client is closed. */
@@ -17,14 +18,13 @@
    text is longer than a string may be. Where an answer took more than KEPT_BYTES, the rest is given back. */
 enum { HEAD = 8, NEED_ROOM = 3, TEXT_TOO_LONG = -1000, MOST_ARGUMENTS = 5, KEPT_BYTES = 1 << 20, MOST_IDLE = 16 };
 
-/* What one environment (Node's main thread, or a worker) shares with its JavaScript. `bytes` is where texts are put together and taken apart.
-   `most_units` is how many UTF-16 units a string may have. */
+/* What one environment (Node's main thread, or a worker) shares with its JavaScript: the words, and the page that a reply is put together in, which
+   has words and bytes. `bytes` is where other texts are put together and taken apart. `most_units` is how many UTF-16 units a string may have. */
 typedef struct {
-    napi_ref array;
-    uint32_t *words;
-    size_t words_len;
-    uint8_t *bytes;
-    size_t room, most_units;
+    napi_ref array, page_array, page_bytes_array;
+    uint32_t *words, *page;
+    uint8_t *page_bytes, *bytes;
+    size_t words_len, page_len, page_bytes_len, room, most_units;
 } border;
 
 /* The queries of a server, by which its clients begin requests: freed with the last of these `users`, which are the server and the clients.
@@ -322,26 +322,31 @@ static napi_value begin_load(napi_env env, napi_callback_info info) {
     return go_begun(env, call.border, call.held, code, true);
 }
 
-/* reply(client, text, keyed): takes the rows for an order, and goes on. The head has the order, how many columns, keys and texts there are, and the
-   text's length in UTF-16 units. After it come the numbers of rows and the ends. Keyed rows are in any order, counted as those of one key, and after
-   their number come the places of the keys with a fault, counted as keys. */
+/* Takes the rows for an order from the page, whose texts are these. */
+static int32_t take_reply(rz_handle *client, uint32_t *page, const uint8_t *bytes, size_t len) {
+    size_t keys = page[2], texts = page[3];
+    uint32_t *rows = page + HEAD, *ends = rows + keys, row;
+    if (page[5]) return rz_take_keyed_rows(client, page[0], page[1], rows[0], rows + 1, keys - 1, ends, texts, bytes, len, &row);
+    return rz_take_rows(client, page[0], page[1], rows, keys, ends, texts, bytes, len);
+}
+
+/* reply(client, text): takes the rows for an order, and goes on. The head of the page has the order, how many columns, keys and texts there are, the
+   length of the texts, whether the rows are keyed, and whether the page's bytes have the texts: else these are `text`, whose length counts UTF-16
+   units. After the head come the numbers of rows and the ends. Keyed rows are in any order, counted as those of one key, and after their number come
+   the places of the keys with a fault, counted as keys. */
 static napi_value reply(napi_env env, napi_callback_info info) {
     call call;
-    size_t len;
-    bool keyed;
-    if (!arguments(env, info, &call, true) || !put_text(env, call.border, call.values[1], 0, &len)) return refused(env, "reply");
-    if (napi_get_value_bool(env, call.values[2], &keyed) != napi_ok) return refused(env, "reply");
-    uint32_t *words = call.border->words;
-    size_t keys = words[2], texts = words[3];
-    if (HEAD + keys + texts > call.border->words_len || (keyed && !keys)) return tell(call.border, RZ_BAD_SIZE);
-    uint32_t *rows = words + HEAD, *ends = rows + keys;
-    if (len != words[4]) to_bytes(call.border->bytes, len, ends, texts);
-    rz_handle *client = &call.held->handle;
-    const uint8_t *bytes = call.border->bytes;
-    uint32_t row;
-    int32_t code = keyed ? rz_take_keyed_rows(client, words[0], words[1], rows[0], rows + 1, keys - 1, ends, texts, bytes, len, &row)
-                         : rz_take_rows(client, words[0], words[1], rows, keys, ends, texts, bytes, len);
-    return go_on(env, call.border, call.held, code);
+    if (!arguments(env, info, &call, true)) return refused(env, "reply");
+    border *border = call.border;
+    uint32_t *page = border->page;
+    size_t keys = page[2], texts = page[3], len = page[4];
+    bool has_bytes = page[6];
+    if (HEAD + keys + texts > border->page_len || (page[5] && !keys)) return tell(border, RZ_BAD_SIZE);
+    if (has_bytes && len > border->page_bytes_len) return tell(border, RZ_BAD_SIZE);
+    if (!has_bytes && !put_text(env, border, call.values[1], 0, &len)) return refused(env, "reply");
+    if (len != page[4]) to_bytes(border->bytes, len, page + HEAD + keys, texts);
+    const uint8_t *bytes = has_bytes ? border->page_bytes : border->bytes;
+    return go_on(env, border, call.held, take_reply(&call.held->handle, page, bytes, len));
 }
 
 /* fail(client, text): takes it that the batch of an order failed, and goes on. The head has the order. */
@@ -564,20 +569,31 @@ static napi_value version(napi_env env, napi_callback_info info) {
     return number;
 }
 
+/* The elements of an array that JavaScript holds too, of at least so many, in place of the one that is held now. */
+static void *hold_array(napi_env env, napi_value value, napi_typedarray_type wanted, size_t least, napi_ref *array, size_t *len) {
+    napi_typedarray_type type;
+    void *elements;
+    if (napi_get_typedarray_info(env, value, &type, len, &elements, NULL, NULL) != napi_ok || type != wanted || *len < least) return NULL;
+    if (*array) napi_delete_reference(env, *array);
+    return napi_create_reference(env, value, 1, array) == napi_ok ? elements : NULL;
+}
+
 /* share(array): these are the words from now on. */
 static napi_value share(napi_env env, napi_callback_info info) {
     call call;
-    napi_typedarray_type type;
-    size_t len;
-    void *words;
     if (!arguments(env, info, &call, false)) return refused(env, "share");
-    if (napi_get_typedarray_info(env, call.values[0], &type, &len, &words, NULL, NULL) != napi_ok || type != napi_uint32_array || len < HEAD)
-        return refused(env, "share");
-    if (call.border->array) napi_delete_reference(env, call.border->array);
-    if (napi_create_reference(env, call.values[0], 1, &call.border->array) != napi_ok) return refused(env, "share");
-    call.border->words = words;
-    call.border->words_len = len;
-    return NULL;
+    call.border->words = hold_array(env, call.values[0], napi_uint32_array, HEAD, &call.border->array, &call.border->words_len);
+    return call.border->words ? NULL : refused(env, "share");
+}
+
+/* sharePage(words, bytes): these are the page from now on. */
+static napi_value share_page(napi_env env, napi_callback_info info) {
+    call call;
+    if (!arguments(env, info, &call, false)) return refused(env, "sharePage");
+    border *border = call.border;
+    border->page = hold_array(env, call.values[0], napi_uint32_array, HEAD, &border->page_array, &border->page_len);
+    border->page_bytes = hold_array(env, call.values[1], napi_uint8_array, 1, &border->page_bytes_array, &border->page_bytes_len);
+    return border->page && border->page_bytes ? NULL : refused(env, "sharePage");
 }
 
 /* limitTexts(units): no string has more UTF-16 units than this. */
@@ -609,11 +625,11 @@ NAPI_MODULE_INIT() {
     static const struct {
         const char *name;
         napi_callback call;
-    } calls[] = {{"share", share}, {"limitTexts", limit_texts}, {"room", room}, {"version", version}, {"codeName", code_name},
-                 {"codeText", code_text}, {"hold", hold}, {"open", open_server}, {"loaders", read_loaders}, {"client", client}, {"close", close_held},
-                 {"begin", begin}, {"beginRequest", begin_request}, {"beginLoad", begin_load}, {"look", look}, {"reply", reply}, {"fail", fail},
-                 {"cancel", cancel}, {"prime", prime}, {"clear", clear}, {"clearAll", clear_all}, {"restart", restart},
-                 {"log", read_log}};
+    } calls[] = {{"share", share}, {"sharePage", share_page}, {"limitTexts", limit_texts}, {"room", room}, {"version", version},
+                 {"codeName", code_name}, {"codeText", code_text}, {"hold", hold}, {"open", open_server}, {"loaders", read_loaders},
+                 {"client", client}, {"close", close_held}, {"begin", begin}, {"beginRequest", begin_request}, {"beginLoad", begin_load},
+                 {"look", look}, {"reply", reply}, {"fail", fail}, {"cancel", cancel}, {"prime", prime}, {"clear", clear},
+                 {"clearAll", clear_all}, {"restart", restart}, {"log", read_log}};
     if (rz_version() < RZ_VERSION || rz_version() >> 16 != RZ_VERSION >> 16) return refused(env, "the library is older or newer than rudzkvano.h");
     border *border = calloc(1, sizeof *border);
     if (!border || !make_room(border, 4096)) return refused(env, "out of memory");

@@ -1,5 +1,5 @@
-// Answers from their texts. JSON.parse looks for each key, and each short text, among all strings that V8 knows. Here the keys of an object are expected
-// to be those of the one that stood in its place before, and texts are cut from that of the answer.
+// Answers from their texts. JSON.parse looks for each key, and each short text, among all strings that V8 knows. Here the keys of an object are
+// expected to be those of the one that stood in its place before, and texts are cut from that of the answer.
 'use strict';
 
 const [QUOTE, COMMA, OPEN_LIST, END_OF_LIST, OPEN_OBJECT, END_OF_OBJECT] = Buffer.from('",[]{}');

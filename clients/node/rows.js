@@ -3,15 +3,18 @@
 
 const { inspect } = require('node:util');
 const { isDate, isNativeError } = require('node:util/types');
-const { border, makeRoom, FIRST_WORDS, HEAD, KEPT_WORDS } = require('./border.js');
+const { border, makeRoom, HEAD } = require('./border.js');
 const { plainText } = require('./faults.js');
 const { Aligned, InAnyOrder } = require('./forms.js');
+const { takePage, Page } = require('./page.js');
 const { unpaired, wellFormed } = require('./text.js');
 
 /** In the place of a number of rows: the key has a fault. */
 const KEY_FAULT = 0xffffffff;
 /** The columns that are left out of most replies. */
 const NONE = Object.freeze([]);
+/** A reply of more rows, or with a longer text, is written as one string, which is faster for these. */
+const [MOST_ROWS, MOST_UNITS] = [16, 64];
 
 /** The text of a value, or undefined where it has none; null is the empty text. */
 function textOf(value) {
@@ -203,34 +206,20 @@ function replyOf(loader, keys, returned, form, faultOf) {
 
 // ---- Its texts.
 
-/** Words for a reply, or undefined while one is put together. */
-let spare = new Uint32Array(FIRST_WORDS);
-
-/** So many words, or more, for one reply alone: a getter of a row may begin another request, which uses the words of the border. */
-function takeWords(count) {
-  const words = spare?.length >= count ? spare : new Uint32Array(Math.max(count, FIRST_WORDS));
-  spare = undefined;
-  return words;
-}
-
-/** Gives back words that were taken. Those are lost that a getter threw out of. */
-function giveBack(words) {
-  spare = words.length > KEPT_WORDS ? undefined : words;
-}
-
 function namesIn(row) {
   const names = [];
   for (const name in row) names.push(name);
   return names;
 }
 
-/** The names of columns as one text, and where each ends. */
+/** The names of columns as one text and its bytes, and where each ends. */
 class Heading {
   constructor(columns) {
     const names = columns.map(unpaired);
     let end = 0;
     this.columns = columns;
     this.text = names.join('');
+    this.bytes = Buffer.from(this.text);
     this.ends = names.map(({ length }) => (end += length));
   }
 
@@ -378,47 +367,95 @@ function readable(loader, keys, reply) {
   return { ...wide, columns: kept(columns), rows: texts.map(kept), unread };
 }
 
-/** Writes a reply under a heading, as `write` does. Returns undefined or NO_TEXT as `writeRows` does. */
-function writeUnder({ columns, text, ends }, reply, place) {
+/** Writes ASCII to bytes, from a place on, and returns where it ends; or -1, where there is no room or it is no ASCII. */
+function writeAscii(text, bytes, at) {
+  if (at + text.length > bytes.length) return -1;
+  for (let i = 0; i < text.length; i++) {
+    const unit = text.charCodeAt(i);
+    if (unit > 0x7f) return -1;
+    bytes[at + i] = unit;
+  }
+  return at + text.length;
+}
+
+/** Writes the members of a row to the bytes of a page, and their ends to its words. Returns where the last one ends, or -1 where it can't. */
+function writeRow(columns, row, { words, bytes }, place, at) {
+  let column = 0;
+  for (const name in row) {
+    if (name !== columns[column++]) return -1;
+    const value = row[name];
+    const own = typeof value === 'string' ? value : textOf(value);
+    if (own === undefined || own.length > MOST_UNITS) return -1;
+    at = writeAscii(own, bytes, at);
+    if (at < 0) return -1;
+    words[place++] = at;
+  }
+  return column === columns.length ? at : -1;
+}
+
+/** Whether a reply may have few texts, which are short. */
+function isShort({ text, bytes }, { columns, rows, faults }, page) {
+  return !columns && faults.length === 0 && rows.length <= MOST_ROWS && bytes.length === text.length && bytes.length <= page.bytes.length;
+}
+
+/** Writes a reply under a heading, as `write` does, with its texts as the bytes of the page. Returns undefined where it has others. */
+function writeShort({ columns, bytes, ends }, { rows }, page, place) {
+  const count = columns.length;
+  const texts = count * (1 + rows.length);
+  const words = page.makeRoom(place + texts);
+  let at = bytes.length;
+  for (let i = 0; i < at; i++) page.bytes[i] = bytes[i];
+  for (let column = 0; column < count; column++) words[place + column] = ends[column];
+  for (let row = 0; row < rows.length; row++) {
+    at = writeRow(columns, rows[row], page, place + count * (1 + row), at);
+    if (at < 0) return undefined;
+  }
+  return { text: undefined, length: at, columns, texts, unread: NONE };
+}
+
+/** Writes any reply under a heading in the same way, with its texts as one string. Returns undefined or NO_TEXT as `writeRows` does. */
+function writeLong({ columns, text: names, ends }, reply, page, place) {
   const { rows, faults, unread = NONE } = reply;
-  const end = columns.length * (1 + rows.length);
-  const texts = end + faults.length;
-  const words = takeWords(texts);
-  for (let column = 0; column < columns.length; column++) words[column] = ends[column];
-  const fields = (reply.columns ? writeArrays : writeRows)(columns, rows, text, words, columns.length);
-  const all = typeof fields === 'string' ? writeTexts(faults, fields, words, end) : fields;
-  const shared = makeRoom(place + texts);
-  for (let i = 0; i < texts; i++) shared[place + i] = words[i];
-  giveBack(words);
-  return typeof all === 'string' ? { text: all, columns, texts, unread } : all;
+  const end = place + columns.length * (1 + rows.length);
+  const words = page.makeRoom(end + faults.length);
+  for (let column = 0; column < columns.length; column++) words[place + column] = ends[column];
+  const fields = (reply.columns ? writeArrays : writeRows)(columns, rows, names, words, place + columns.length);
+  if (typeof fields !== 'string') return fields;
+  const text = writeTexts(faults, fields, words, end);
+  return { text, length: text.length, columns, texts: end + faults.length - place, unread };
 }
 
 /**
- * Leaves the ends of a reply's texts among the words, from a place on. Returns its texts, the names of its columns, how many texts there are, and the
- * columns that are left out.
+ * Leaves the ends of a reply's texts among the words of a page, from a place on. Returns its texts, unless they are the page's bytes, how long they
+ * are, the names of its columns, how many texts there are, and the columns that are left out.
  */
-function write(loader, keys, reply, place) {
-  const written = writeUnder(headingOf(loader, reply), reply, place);
-  if (written === undefined) return write(loader, keys, widened(reply), place);
-  if (written === NO_TEXT) return write(loader, keys, readable(loader, keys, reply), place);
+function write(loader, keys, reply, page, place) {
+  const heading = headingOf(loader, reply);
+  const short = isShort(heading, reply, page) ? writeShort(heading, reply, page, place) : undefined;
+  const written = short ?? writeLong(heading, reply, page, place);
+  if (written === undefined) return write(loader, keys, widened(reply), page, place);
+  if (written === NO_TEXT) return write(loader, keys, readable(loader, keys, reply), page, place);
   if (reply.rows.length > 0 && written.columns.length === 0) throw new TypeError(`loader ${loader.name}: a row has no columns`);
   return written;
 }
 
 /**
- * Leaves a reply among the words, but for the order's number. Returns the reply, its texts, the names of its columns, and those that are left out of
- * them, since they have a value that has no text.
+ * Leaves a reply on a page, but for the order's number. Returns it, the page, its texts, the names of its columns, and the columns that are left out
+ * of them, since they have a value that has no text.
  */
 function leave(loader, keys, reply) {
-  const { counts } = reply;
-  const { text, columns, texts, unread } = write(loader, keys, reply, HEAD + counts.length);
-  const { words } = border;
+  const { counts, isKeyed } = reply;
+  const page = takePage();
+  const { text, length, columns, texts, unread } = write(loader, keys, reply, page, HEAD + counts.length);
+  const { words } = page;
   words[1] = columns.length;
   words[2] = counts.length;
   words[3] = texts;
-  words[4] = text.length;
+  words[4] = length;
+  words[5] = isKeyed ? 1 : 0;
+  words[6] = text === undefined ? 1 : 0;
   for (let key = 0; key < counts.length; key++) words[HEAD + key] = counts[key];
-  return { reply, text, columns, unread };
+  return { reply, page, text, columns, unread };
 }
 
 /** Leaves a keyed reply that the library refused once more, without the rows that it refused, or throws why it can't. */
@@ -426,7 +463,7 @@ function leaveWithoutCasts(loader, keys, { reply, columns }, faultOf) {
   return leave(loader, keys, withoutCasts(loader, keys, reply, columns, faultOf));
 }
 
-/** Leaves what a batch function returned among the words. `form` is how a bare array is read, if somebody says it. */
+/** Leaves what a batch function returned on a page. `form` is how a bare array is read, if somebody says it. */
 function writeReply(loader, keys, returned, form, faultOf) {
   return leave(loader, keys, replyOf(loader, keys, returned, form, faultOf));
 }
@@ -440,10 +477,13 @@ function writeKeys(texts, place) {
 function writeItem(loader, key, item) {
   const keys = [key.length === 1 ? key[0] : key];
   const reply = isArrays(item) ? { ...item, counts: [item.rows.length], faults: [] } : ofItems(loader, keys, [item], plainText);
-  const { text, columns, texts, unread } = write(loader, keys, reply, HEAD + key.length);
+  const page = new Page(0, 0);
+  const { text = '', columns, texts, unread } = write(loader, keys, reply, page, 0);
   if (unread.length > 0) throw unread[0].error;
+  const words = makeRoom(HEAD + key.length + texts);
   const keyText = writeKeys(key, HEAD);
-  border.words.set([loader.number, key.length, columns.length, reply.counts[0], texts, keyText.length, text.length]);
+  for (let i = 0; i < texts; i++) words[HEAD + key.length + i] = page.words[i];
+  words.set([loader.number, key.length, columns.length, reply.counts[0], texts, keyText.length, text.length]);
   return [keyText, text];
 }
 

@@ -7,6 +7,7 @@ const {
 } = require('./border.js');
 const { editErrors, faultText, messageOf, plainText, shownBy, withExtensions } = require('./faults.js');
 const { formOf } = require('./forms.js');
+const { handInPage } = require('./page.js');
 const { leaveWithoutCasts, writeKeys, writeReply } = require('./rows.js');
 const { jsonOf } = require('./text.js');
 
@@ -179,10 +180,10 @@ class Run {
   }
 
   /** Has the library take a reply, unless a getter of a row, or a hook, has stopped the request. Returns what the step left. */
-  handIn(order, { reply, text }) {
+  handIn(order, { page, text }) {
     if (this.over) return undefined;
-    border.words[0] = order.number;
-    return addon.reply(this.handle, text, reply.isKeyed === true);
+    page.words[0] = order.number;
+    return handInPage(this.handle, page, text);
   }
 
   /** Tells the library that a batch failed. */

@@ -60,7 +60,8 @@ describe('an answer as an object', () => {
     'with values of each type': { data: { a: null, b: true, c: false, d: -1, e: 0, f: '', g: [], h: {}, i: [[1], [], [null]], j: 2147483647 } },
     'with keys in another order than before': { data: { b: 'b', a: { x: 1, y: 2 }, list: [{ x: 1 }, { y: 1, x: 2 }, { x: 3, y: 3, z: 3 }, {}] } },
     'with errors and numbers that are no Int': { errors: [{ message: 'no', path: ['a', 0], extensions: { 1: 1.5e-7, '': -1e300 } }], data: null },
-    'with escapes and other characters': { data: { a: '"\\\n\ud83d\ude00', é: 'é', '\ud83d\ude00': '\u2028' } },
+    'with other characters': { data: { é: 'é', '\ud83d\ude00': ['\u2028', { é: '\ud83d\ude00' }] } },
+    'with escapes': { data: { a: '"\\\n\ud83d\ude00', é: 'é', '\ud83d\ude00': '\u2028' } },
     'of several requests': [{ data: { a: 1 } }, { errors: [{ message: 'no' }] }, { data: { a: { a: [{ a: '1' }] } } }],
     'with more keys than are known': { data: { ...aliases(5000, 'a'), after: aliases(5000, 'b') } },
   };

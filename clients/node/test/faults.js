@@ -26,6 +26,21 @@ async function answer(query, loader, returned, options) {
   return server.answer({ query }, { [loader]: async () => returned }, options);
 }
 
+describe('texts', () => {
+  const names = ['', 'a', 'b'.repeat(63), 'c'.repeat(64), 'd'.repeat(65), 'e'.repeat(5000), 'é', 'é'.repeat(3000), '😀', 'a😀'.repeat(40)];
+  for (const count of [1, 2, 16, 17, 100]) {
+    it(`of each length in ${count} rows`, async () => {
+      for (const shift of names.keys()) {
+        const rows = Array.from({ length: count }, (_, i) => ({ id: i, name: names[(i + shift) % names.length], âge: 'x' }));
+        for (const few of [rows, rows.map(({ id, name }) => ({ id, name }))]) {
+          const { data } = await answer('{users{id name}}', 'allUsers', few);
+          assert.deepEqual(data.users, rows.map(({ id, name }) => ({ id: String(id), name: name || null })));
+        }
+      }
+    });
+  }
+});
+
 describe('values', () => {
   const values = [
     // the field, the value, and what the field has
