@@ -21,10 +21,16 @@ class Member {
 }
 
 /** The text that is read, the place in it, the member that stands for the whole answer, and how many are known. */
-let [text, at, root, count] = ['', 0, new Member(''), 0];
+let text = '';
+let at = 0;
+let root = new Member('');
+let count = 0;
 
 function learn(parent, key) {
-  if (++count > MOST_MEMBERS) [root, count] = [new Member(''), 0];
+  if (++count > MOST_MEMBERS) {
+    root = new Member('');
+    count = 0;
+  }
   // a name in an object, which doesn't keep the answer's text
   const [name] = Object.keys({ [key]: undefined });
   const member = new Member(name);
@@ -115,7 +121,8 @@ function readValue(member) {
 /** What JSON.parse returns of an answer's text, which is JSON without blanks. */
 function readAnswer(answer) {
   if (answer.includes('\\')) return JSON.parse(answer);
-  [text, at] = [answer, 0];
+  text = answer;
+  at = 0;
   try {
     return readValue(root);
   } catch {

@@ -43,8 +43,9 @@ function noText(loader, column, row, value) {
   return new TypeError(`loader ${loader.name}, column ${column}, ${row}: ${what} has no text`);
 }
 
+/** Whether an element is an error, which most rows are seen not to be at a glance. */
 function isFault(element) {
-  return element instanceof Error || isNativeError(element);
+  return element.constructor !== Object && (element instanceof Error || isNativeError(element));
 }
 
 function isRow(element) {
