@@ -232,14 +232,17 @@ class Heading {
   }
 }
 
-/** For each number of a loader the heading of the rows that were written last. */
-const headings = [];
+/** For each loader the heading of the rows that were written last. */
+const headings = new WeakMap();
 
 /** The heading of a reply, which is that of its first row. */
 function headingOf(loader, { columns, rows }) {
   if (columns || rows.length === 0) return new Heading(columns ?? []);
-  const last = headings[loader.number];
-  return last?.isOf(rows[0]) ? last : (headings[loader.number] = new Heading(namesIn(rows[0])));
+  const last = headings.get(loader);
+  if (last?.isOf(rows[0])) return last;
+  const heading = new Heading(namesIn(rows[0]));
+  headings.set(loader, heading);
+  return heading;
 }
 
 /** Stands for the text of rows in which a value has none. */
