@@ -6,6 +6,7 @@ import asyncio
 import json
 from array import array
 from collections.abc import Callable, Coroutine, Iterable, Mapping, Sequence
+from contextlib import suppress
 from ctypes import byref, c_uint32
 from enum import IntEnum
 from functools import wraps
@@ -14,10 +15,10 @@ from time import perf_counter
 from types import MappingProxyType
 from typing import Any, Concatenate, NamedTuple, ParamSpec, TypeAlias, TypeVar, Union
 
-from .desks import Opened
 from .errors import OnError, edit_errors, fault_text, has_extensions, message_of, parted
-from .library import BUSY, COUNTS, NO_COLUMN, NO_KEY_COLUMN, NOT_ASKED, SIZES, Argument, Held, Refused
-from .library import buffers, cut, flat, pointer_to, texts_of, words, words_of
+from .handles import Opened, keys_of
+from .library import BUSY, COUNTS, NO_COLUMN, NO_KEY_COLUMN, NOT_ASKED, SIZES, Argument, Refused, buffers, cut, flat, packed, pointer_to, texts_of
+from .library import words, words_of
 from .limits import checked_limit
 from .loaders import Batch, Form, Keys, Loaded, Loader, Loaders, OnRound, Order, Ran, Round
 from .rows import Keyed, Misfit, Reply, Unread, item_of, outcomes_of, reply_of, text_of, unread_of, without_casts
@@ -54,7 +55,7 @@ def _alone(call: Callable[Concatenate[Client, _P], _T]) -> Callable[Concatenate[
         try:
             return call(self, *arguments, **named)
         finally:
-            self._lock.release()
+            self._handle.release()
 
     return alone
 
@@ -69,7 +70,7 @@ class Asks(NamedTuple):
     forms: Mapping[str, Form] = MappingProxyType({})
 
 
-class Client(Held):
+class Client:
     """A memory of what the loaders returned; `Server.client` makes one. It does one thing at a time.
 
     `answer`, `load_many` and their async siblings run the rounds. A host that runs them itself calls `begin`, `begin_request` or `begin_load`, and
@@ -77,16 +78,26 @@ class Client(Held):
     the answer, and `outcomes` what was loaded.
     """
 
-    def __init__(self, opened: Opened, loaders: Sequence[Loader], asks: Asks, limits: Sequence[int], max_answer: int | None) -> None:
-        super().__init__(opened._library)
-        opened._call(self._calls.rz_client, self._handle, *words_of(limits))
+    # columns that were left out of a reply, with the loader and the reason
+    _unread: Mapping[str, tuple[Loader, Unread]] = MappingProxyType({})
+    _has_extensions = False
+    _max_answer: int | None = None
+
+    def __init__(self, opened: Opened, loaders: Sequence[Loader], asks: Asks, limits: bytes, max_answer: int | None) -> None:
         self._opened, self._loaders, self._asks = opened, loaders, asks
-        self._max_answer: int | None = None
-        # columns that were left out of a reply, with the loader and the reason
-        self._unread: dict[str, tuple[Loader, Unread]] = {}
-        self._has_extensions = False
+        self._handle = opened.handle.client(limits)
         if max_answer is not None:
             self.limit_answers(max_answer)
+
+    @property
+    def closed(self) -> bool:
+        return self._handle.closed
+
+    def __enter__(self) -> Client:
+        return self
+
+    def __exit__(self, *_: object) -> None:
+        self.close()
 
     # ---- Answers.
 
@@ -126,32 +137,32 @@ class Client(Held):
         """Runs the rounds of what was begun, and lets the client go."""
         try:
             number = 0
-            while self._next():
-                orders = self._orders()
+            while self._handle.advance():
+                orders = self._handle.orders(self._loaders)
                 number += 1
                 self._end_round(number, orders, list(map(self._run, orders)))
             return result()
         except BaseException:
-            self._calls.rz_cancel(self._handle)
+            self._give_up()
             raise
         finally:
-            self._lock.release()
+            self._handle.release()
 
     async def _finish_async(self, result: Callable[[], _T]) -> _T:
         """Runs the rounds of what was begun, whose batch functions may be coroutines, and lets the client go."""
         try:
             number = 0
-            while self._next():
-                orders = self._orders()
+            while self._handle.advance():
+                orders = self._handle.orders(self._loaders)
                 number += 1
                 outcomes = [await self._run_async(orders[0])] if len(orders) == 1 else await self._run_together(orders)
                 self._end_round(number, orders, outcomes)
             return result()
         except BaseException:
-            self._calls.rz_cancel(self._handle)
+            self._give_up()
             raise
         finally:
-            self._lock.release()
+            self._handle.release()
 
     def _introspected(self, query: Query, variables: Variables, operation_name: str | None) -> str | None:
         """The answer to a query that is answered without this client."""
@@ -168,7 +179,7 @@ class Client(Held):
         try:
             self._begin_load(loader, keys)
         except BaseException:
-            self._lock.release()
+            self._handle.release()
             raise
 
     def _start(self, query: Query, variables: Variables, operation_name: str | None) -> None:
@@ -184,12 +195,17 @@ class Client(Held):
             else:
                 self._begin(query if isinstance(query, bytes) else _json(query))
         except BaseException:
-            self._lock.release()
+            self._handle.release()
             raise
 
     def _take_alone(self) -> None:
-        if not self._lock.acquire(blocking=False):
-            raise self._library.refused(BUSY)
+        if not self._handle.acquire():
+            raise self._opened.library.refused(BUSY)
+
+    def _give_up(self) -> None:
+        """Gives up what was begun, unless it is done."""
+        with suppress(Refused):
+            self._handle.cancel()
 
     def _run(self, order: Order) -> _Outcome:
         start = perf_counter()
@@ -265,44 +281,28 @@ class Client(Held):
 
     def _begin(self, line: str | bytes) -> None:
         """Begins the answer to a request that is JSON text, or to an array of 1 to 16 of these."""
-        text = line.encode(errors="surrogatepass") if isinstance(line, str) else line
-        self._call(self._calls.rz_begin, self._opened.desk().queries, text, SIZES[len(text)])
+        self._handle.begin(self._opened.queries(), line)
 
     def _begin_request(self, query: str, operation_name: str | None = None, variables: Variables = None) -> None:
         """Begins the answer to a query."""
-        text = query.encode(errors="surrogatepass")
-        name = operation_name.encode(errors="surrogatepass") if operation_name else b""
-        given = b"" if variables is None else _json(variables).encode()
-        texts = text, SIZES[len(text)], name, SIZES[len(name)], given, SIZES[len(given)]
-        self._call(self._calls.rz_begin_request, self._opened.desk().queries, *texts)
+        given = None if variables is None else _json(variables)
+        self._handle.begin_request(self._opened.queries(), query, operation_name, given)
 
     def _begin_load(self, loader: str, keys: Iterable[Any]) -> None:
         """Begins to load keys of a loader."""
         asked = self._loader(loader)
         texts = [_key_texts(asked, key) for key in keys]
         shapes = words_of([len(asked.columns)] * len(texts))
-        self._call(self._calls.rz_begin_load, SIZES[asked.number], *shapes, *texts_of(*flat(list(chain.from_iterable(texts)))))
+        self._call("rz_begin_load", SIZES[asked.number], *shapes, *texts_of(*flat(list(chain.from_iterable(texts)))))
 
-    def _call(self, call: Callable[..., int], *arguments: Argument | bytes) -> int:
-        """Makes a call. Whoever makes one has taken the client."""
-        code = call(self._handle, *arguments)
-        if code < 0:
-            raise self._library.refused(code)
-        return code
-
-    def _next(self) -> int:
-        code: int = self._calls.rz_next(self._handle)
-        if code < 0:
-            raise self._library.refused(code)
-        return code
+    def _call(self, name: str, *arguments: Argument | bytes) -> int:
+        """Makes a call of this name. Whoever makes one has taken the client."""
+        library = self._opened.library
+        return library.call(getattr(library.calls, name), self._handle.address, *arguments)
 
     def _orders(self) -> list[Order]:
         """The orders of the round that is out."""
-        count, told, texts = self._opened.desk().orders(self)
-        loaders = [self._loaders[number] for number in told[:count]]
-        counts, keys = told[count : 2 * count], sum(told[count : 2 * count])
-        lists = _keys(loaders, counts, cut(told[2 * count + keys :], texts))
-        return list(map(Order, range(count), loaders, lists))
+        return self._handle.orders(self._loaders)
 
     def _reply(self, order: Order, returned: Any) -> None:
         """Takes the reply to an order: what a batch function returns."""
@@ -314,9 +314,9 @@ class Client(Held):
             unread = unread_of(order.loader, order.keys, reply)
         else:
             columns, rows, ends, data, _, unread = self._with_faults(order.loader, reply)
-            self._call(self._calls.rz_take_rows, SIZES[order.number], SIZES[columns], *words_of(rows), *texts_of(ends, data))
-        for column, why in unread.items():
-            self._unread[column] = order.loader, why
+            self._handle.take_rows(order.number, columns, packed(rows), ends, data)
+        if unread:
+            self._unread = {**self._unread, **{column: (order.loader, why) for column, why in unread.items()}}
 
     def _take_keyed(self, order: Order, reply: Keyed) -> None:
         """Has the library align rows with the keys of an order, of which some have a fault if the database cast them. Raises Misfit where they aren't
@@ -333,16 +333,16 @@ class Client(Held):
         texts = [self._fault_text(error, order.loader, [order.keys[place]]) for place, error in faults.items()]
         columns, rows, ends, data, _ = reply.with_faults(texts) if faults else reply
         size = SIZES[order.number], SIZES[len(columns)], COUNTS[rows]
-        self._call(self._calls.rz_take_keyed_rows, *size, *words_of(tuple(faults)), *texts_of(ends, data), _ANY_ROW)
+        self._call("rz_take_keyed_rows", *size, *words_of(tuple(faults)), *texts_of(ends, data), _ANY_ROW)
 
     def _fail(self, order: Order, text: str) -> None:
         """Takes it that the batch of an order failed as a whole."""
         data = text.encode()
-        self._call(self._calls.rz_take_failed, SIZES[order.number], data, SIZES[len(data)])
+        self._call("rz_take_failed", SIZES[order.number], data, SIZES[len(data)])
 
     def _text(self) -> str:
         """The text of the answer."""
-        text = self._opened.desk().answer(self)
+        text = self._handle.text()
         if not self._unread and not self._has_extensions:
             return text
         reasons: dict[str, str] = {}
@@ -363,11 +363,11 @@ class Client(Held):
     def _outcomes(self) -> list[Loaded]:
         """For each key that was loaded its rows, or a `LoadFault`."""
         sizes = array("Q", bytes(48))
-        self._call(self._calls.rz_load_sizes, pointer_to(sizes))
+        self._call("rz_load_sizes", pointer_to(sizes))
         keys, rows, texts, size, faults, fault_size = sizes
         counts, widths, ends, fault_ends = map(words, (keys, rows, texts, faults))
         data, fault_data = array("B", bytes(size)), array("B", bytes(fault_size))
-        self._call(self._calls.rz_loaded, *buffers(counts, widths, ends, data, fault_ends, fault_data))
+        self._call("rz_loaded", *buffers(counts, widths, ends, data, fault_ends, fault_data))
         reasons = cut(fault_ends.tolist(), fault_data.tobytes())
         return outcomes_of(counts.tolist(), widths.tolist(), cut(ends.tolist(), data.tobytes()), reasons)
 
@@ -383,30 +383,30 @@ class Client(Held):
     @_alone
     def next(self) -> Progress:
         """Goes on."""
-        return Progress(self._next())
+        return Progress(self._handle.advance())
 
     @_alone
     def cancel(self) -> None:
         """Gives up the request that is being answered, or the keys that are loaded."""
-        self._call(self._calls.rz_cancel)
+        self._handle.cancel()
 
     @_alone
     def rounds(self) -> int:
         """How many rounds the answer took."""
-        return self._opened.desk().sizes(self)[5]
+        return self._handle.sizes()[5]
 
     # ---- What is known.
 
     @_alone
     def restart(self) -> None:
         """Forgets all keys, logs and rounds."""
-        self._call(self._calls.rz_restart)
-        self._unread.clear()
+        self._call("rz_restart")
+        self._unread = {}
 
     @_alone
     def limit_answers(self, most: int | None) -> None:
         """From now on an answer has at most `most` bytes; None is no limit."""
-        self._call(self._calls.rz_limit_answers, SIZES[0 if most is None else checked_limit("max_answer", most)])
+        self._call("rz_limit_answers", SIZES[0 if most is None else checked_limit("max_answer", most)])
         self._max_answer = most
 
     @_alone
@@ -416,37 +416,37 @@ class Client(Held):
         texts = _key_texts(asked, key)
         columns, counts, ends, data, _, _ = self._with_faults(asked, item_of(asked, _key_of(texts), rows))
         item = SIZES[columns], COUNTS[counts[0]], *texts_of(ends, data)
-        self._call(self._calls.rz_prime, SIZES[asked.number], *texts_of(*flat(texts)), *item, pointer_to(primed))
+        self._call("rz_prime", SIZES[asked.number], *texts_of(*flat(texts)), *item, pointer_to(primed))
         return bool(primed[0])
 
     @_alone
     def clear(self, loader: str, key: Any) -> bool:
         """Forgets a key. Returns whether something was known of it."""
         asked, was_known = self._loader(loader), words(1)
-        self._call(self._calls.rz_clear, SIZES[asked.number], *texts_of(*flat(_key_texts(asked, key))), pointer_to(was_known))
+        self._call("rz_clear", SIZES[asked.number], *texts_of(*flat(_key_texts(asked, key))), pointer_to(was_known))
         return bool(was_known[0])
 
     @_alone
     def clear_all(self, loader: str) -> None:
         """Forgets all keys of a loader."""
-        self._call(self._calls.rz_clear_all, SIZES[self._loader(loader).number])
+        self._call("rz_clear_all", SIZES[self._loader(loader).number])
 
     @_alone
     def log(self, loader: str) -> list[Batch]:
         """The batches that a loader was asked for since the client was made or restarted."""
         asked, sizes = self._loader(loader), array("Q", bytes(32))
-        self._call(self._calls.rz_log_sizes, SIZES[asked.number], pointer_to(sizes))
+        self._call("rz_log_sizes", SIZES[asked.number], pointer_to(sizes))
         batches, keys, texts, size = sizes
         rounds, stored, counts, lengths, ends = map(words, (batches, batches, batches, keys, texts))
         data = array("B", bytes(size))
-        self._call(self._calls.rz_log, SIZES[asked.number], *buffers(rounds, stored, counts, lengths, ends, data))
-        lists = _keys([asked] * batches, counts.tolist(), cut(ends.tolist(), data.tobytes()))
+        self._call("rz_log", SIZES[asked.number], *buffers(rounds, stored, counts, lengths, ends, data))
+        lists = keys_of([asked] * batches, counts.tolist(), cut(ends.tolist(), data.tobytes()))
         return list(map(Batch, rounds, map(bool, stored), lists))
 
     @_alone
     def close(self) -> None:
         """Frees the client. It is refused by RZ_BUSY while the client answers; further calls are refused by RZ_BAD_HANDLE."""
-        self._free()
+        self._handle.close()
 
     def _loader(self, name: str) -> Loader:
         for loader in self._loaders:
@@ -462,23 +462,6 @@ _DECODER = json.JSONDecoder()
 def read_json(text: str) -> Any:
     """What JSON text that begins and ends without blanks says."""
     return _DECODER.raw_decode(text)[0]
-
-
-def _keys(loaders: list[Loader], counts: list[int], texts: list[str]) -> list[Keys]:
-    """The keys of batches of these loaders, each with its number of keys in `counts`."""
-    if len(loaders) == 1 and len(loaders[0].columns) == 1:
-        return [texts]
-    found: list[Keys] = []
-    start = 0
-    for loader, count in zip(loaders, counts):
-        end = start + len(loader.columns) * count
-        part = texts[start:end]
-        if len(loader.columns) < 2:
-            found.append(part)
-        else:
-            found.append(list(zip(part[::2], part[1::2])))
-        start = end
-    return found
 
 
 def _key_of(texts: list[str]) -> Any:

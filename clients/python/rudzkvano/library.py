@@ -5,13 +5,11 @@ from __future__ import annotations
 import ctypes
 import os
 from array import array
-from collections.abc import Callable, Mapping, Sequence
-from ctypes import byref, c_size_t, c_uint32, c_void_p
+from collections.abc import Callable, Iterable, Mapping, Sequence
+from ctypes import c_size_t, c_uint32, c_void_p
 from itertools import accumulate
 from pathlib import Path
-from struct import pack
-from threading import Lock
-from typing import Any, NewType, TypeVar
+from typing import Any, NewType
 
 # The version of clients/c/rudzkvano.h that this package calls: 65536 * major + 256 * minor + patch.
 HEADER_VERSION = 131072
@@ -98,6 +96,13 @@ class Library:
     def version(self) -> tuple[int, int, int]:
         return _parts(self.calls.rz_version())
 
+    def call(self, call: Callable[..., int], address: int, *arguments: Argument | bytes) -> int:
+        """Calls the library with the handle at this address."""
+        code = call(c_void_p.from_param(address), *arguments)
+        if code < 0:
+            raise self.refused(code)
+        return code
+
     def refused(self, code: int) -> Refused:
         """The error of a code."""
         return Refused(code, self._words_by("rz_code_name", code), self._words_by("rz_code_text", code))
@@ -137,52 +142,6 @@ def _default_path() -> str | Path:
     raise FileNotFoundError(f"no {name}: give its path as the argument library or in the environment as RUDZKVANO_LIBRARY")
 
 
-_Held = TypeVar("_Held", bound="Held")
-
-
-class Held:
-    """What a handle holds. The handle is in one call at a time, whatever the threads are, and is freed with this object at the latest."""
-
-    # until there is a handle
-    _closed = True
-
-    def __init__(self, library: Library) -> None:
-        self._library, self._calls, self._lock = library, library.calls, Lock()
-        # this argument keeps the handle
-        self._handle: Any = byref(c_void_p())
-        self._closed = False
-
-    def _call(self, call: Callable[..., int], *arguments: Argument | bytes) -> int:
-        with self._lock:
-            code = call(self._handle, *arguments)
-        if code < 0:
-            raise self._library.refused(code)
-        return code
-
-    @property
-    def closed(self) -> bool:
-        return self._closed
-
-    def close(self) -> None:
-        """Frees what is held. Further calls are refused by RZ_BAD_HANDLE."""
-        with self._lock:
-            self._free()
-
-    def _free(self) -> None:
-        if not self._closed:
-            self._closed = True
-            self._calls.rz_close(self._handle)
-
-    # what nobody has any more is in no call
-    __del__ = _free
-
-    def __enter__(self: _Held) -> _Held:
-        return self
-
-    def __exit__(self, *_: object) -> None:
-        self.close()
-
-
 def words(count: int) -> array[int]:
     return array("I", bytes(4 * count))
 
@@ -197,22 +156,32 @@ def buffers(*arrays: array[int]) -> list[Argument]:
     return [argument for elements in arrays for argument in (pointer_to(elements), SIZES[len(elements)])]
 
 
+def packed(numbers: Iterable[int]) -> bytes:
+    """Numbers as words."""
+    return array("I", numbers).tobytes()
+
+
 def words_of(numbers: Sequence[int]) -> tuple[bytes, Argument]:
     """The arguments for words that are read."""
-    return pack(f"{len(numbers)}I", *numbers), SIZES[len(numbers)]
+    return packed(numbers), SIZES[len(numbers)]
 
 
-def texts_of(ends: Sequence[int], data: bytes) -> tuple[bytes, Argument, bytes, Argument]:
+def texts_of(ends: bytes, data: bytes) -> tuple[bytes, Argument, bytes, Argument]:
     """The arguments for texts that are read."""
-    return *words_of(ends), data, SIZES[len(data)]
+    return ends, SIZES[len(ends) // 4], data, SIZES[len(data)]
 
 
-def flat(texts: list[str]) -> tuple[list[int], bytes]:
-    """Where each text ends, and their bytes."""
+def flat(texts: list[str]) -> tuple[bytes, bytes]:
+    """The words that say where each text ends, and their bytes."""
     whole = "".join(texts)
     data = whole.encode()
     lengths = map(len, texts) if len(data) == len(whole) else map(len, map(str.encode, texts))
-    return list(accumulate(lengths)), data
+    return packed(accumulate(lengths)), data
+
+
+def numbers_of(ends: bytes) -> list[int]:
+    """The numbers that words say."""
+    return array("I", ends).tolist()
 
 
 def cut(ends: list[int], data: bytes) -> list[str]:

@@ -15,7 +15,7 @@ from typing import Any, NamedTuple, TypeAlias
 from uuid import UUID
 
 from .errors import parted
-from .library import BATCH_FAULT, KEY_FAULT, SAME_COLUMNS, LoadFault, cut, flat
+from .library import BATCH_FAULT, KEY_FAULT, SAME_COLUMNS, LoadFault, cut, flat, numbers_of, packed
 from .loaders import Aligned, Form, InAnyOrder, Keys, Loaded, Loader
 
 
@@ -30,7 +30,7 @@ _NOTHING: Mapping[str, Any] = MappingProxyType({})
 
 
 class Reply(NamedTuple):
-    """The reply to a batch: how many columns, for each key the number of its rows, where each text ends, and their bytes.
+    """The reply to a batch: how many columns, for each key the number of its rows, where each text ends, as words, and their bytes.
 
     `faults` are the errors of keys, each with its key. Their texts are those that come last, and aren't there before `with_faults` adds them.
     `unread` are the columns that are left out.
@@ -38,7 +38,7 @@ class Reply(NamedTuple):
 
     columns: int
     rows: list[int]
-    ends: list[int]
+    ends: bytes
     data: bytes
     faults: Sequence[tuple[Any, Exception]] = ()
     unread: Mapping[str, Unread] = _NOTHING
@@ -49,12 +49,12 @@ class Reply(NamedTuple):
 
 
 class Keyed(NamedTuple):
-    """Rows in any order, which the library aligns with the keys: the names of their columns, how many rows there are, where each text ends, and their
-    bytes. `unread` are the columns that are left out, each with the number of a row whose value has no text, from 0, and the reason."""
+    """Rows in any order, which the library aligns with the keys: the names of their columns, how many rows there are, where each text ends, as words,
+    and their bytes. `unread` are the columns that are left out, each with the number of a row whose value has no text, from 0, and the reason."""
 
     columns: Sequence[str]
     rows: int
-    ends: list[int]
+    ends: bytes
     data: bytes
     unread: Mapping[str, tuple[int, Exception]]
 
@@ -63,10 +63,10 @@ class Keyed(NamedTuple):
         return self._replace(ends=ends, data=data)
 
 
-def _and_faults(ends: list[int], data: bytes, texts: list[str]) -> tuple[list[int], bytes]:
+def _and_faults(ends: bytes, data: bytes, texts: list[str]) -> tuple[bytes, bytes]:
     """The texts of a reply, and then those of the faults."""
     fault_ends, fault_data = flat(texts)
-    return ends + [len(data) + end for end in fault_ends], data + fault_data
+    return ends + packed(len(data) + end for end in numbers_of(fault_ends)), data + fault_data
 
 
 class Misfit(ValueError):
@@ -361,7 +361,7 @@ def without_casts(loader: Loader, keys: Keys, reply: Keyed) -> tuple[Keyed, dict
         if it not in wanted:
             casts[_as_cast(key)] = key
     faults = {place: _fault_of_cast(loader, key, keys[place]) for cast, key in casts.items() for place in alike[cast]}
-    width, texts = len(reply.columns), cut(reply.ends, reply.data)
+    width, texts = len(reply.columns), cut(numbers_of(reply.ends), reply.data)
     kept = [text for place, text in enumerate(texts) if place < width or compared[place // width - 1] in wanted]
     ends, data = flat(kept)
     return reply._replace(rows=len(kept) // width - 1, ends=ends, data=data), dict(sorted(faults.items()))
@@ -395,7 +395,7 @@ def unread_of(loader: Loader, keys: Keys, reply: Keyed) -> Mapping[str, Unread]:
 
 def _keys_of(loader: Loader, reply: Keyed) -> list[Any]:
     """The keys of rows, in the columns of the loader."""
-    width, texts = len(reply.columns), cut(reply.ends, reply.data)
+    width, texts = len(reply.columns), cut(numbers_of(reply.ends), reply.data)
     parts = [texts[width + reply.columns.index(column) :: width] for column in loader.columns]
     return parts[0] if len(parts) == 1 else list[Any](zip(*parts))
 
@@ -485,7 +485,7 @@ def _flat_reply(loader: Loader, keys: Sequence[Any], counts: list[int], read: _T
     return Reply(len(read.columns), counts, *_flat_texts(loader, read), faults, unread)
 
 
-def _flat_texts(loader: Loader, read: _Texts) -> tuple[list[int], bytes]:
+def _flat_texts(loader: Loader, read: _Texts) -> tuple[bytes, bytes]:
     try:
         return flat([*read.columns, *read.texts])
     except TypeError:

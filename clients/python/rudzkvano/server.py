@@ -8,10 +8,10 @@ from collections.abc import Mapping
 from typing import TYPE_CHECKING, Any, TypeAlias, TypedDict, Union
 
 from .client import Asks, Client, Introspect, Query, Variables, read_json
-from .desks import Opened
+from .handles import Opened
 from .errors import OnError
 from .introspection import GraphQL, Introspection
-from .library import BAD_SCHEMA, SIZES, Argument, Library, Refused, SchemaFault, buffers, cut, pointer_to, words
+from .library import BAD_SCHEMA, SIZES, Argument, Library, Refused, SchemaFault, buffers, cut, packed, pointer_to, words
 from .limits import checked_limit
 from .loaders import Forms, Loader, Loaders, OnRound, checked_forms
 
@@ -49,7 +49,7 @@ class Server:
         texts, fault = (schema.encode(), bindings.encode()), array("Q", bytes(24))
         arguments: list[Argument | bytes] = [texts[0], SIZES[len(texts[0])], texts[1], SIZES[len(texts[1])]]
         try:
-            self._opened._call(self._library.calls.rz_open, *arguments, pointer_to(fault))
+            self._call("rz_open", *arguments, pointer_to(fault))
         except Refused as refused:
             if refused.code != BAD_SCHEMA:
                 raise
@@ -61,11 +61,15 @@ class Server:
         self._schema = schema
         self._introspection: Introspection | None = None
 
+    def _call(self, name: str, *arguments: Argument | bytes) -> int:
+        """Makes a call of this name, while nobody else has the server."""
+        return self._library.call(getattr(self._library.calls, name), self._opened.handle.address, *arguments)
+
     def _read_loaders(self) -> tuple[Loader, ...]:
         sizes = array("Q", bytes(16))
-        self._opened._call(self._library.calls.rz_loaders_sizes, pointer_to(sizes))
+        self._call("rz_loaders_sizes", pointer_to(sizes))
         kinds, ends, data = words(sizes[0]), words(4 * sizes[0]), array("B", bytes(sizes[1]))
-        self._opened._call(self._library.calls.rz_loaders, *buffers(kinds, ends, data))
+        self._call("rz_loaders", *buffers(kinds, ends, data))
         texts = cut(ends.tolist(), data.tobytes())
         loaders = []
         for number, kind in enumerate(kinds):
@@ -160,12 +164,12 @@ class Server:
         if not self._names.issuperset(loaders):
             raise ValueError(f"the bindings have no loader {min(loaders.keys() - self._names)}")
 
-    def _limits(self, max_batch: MaxBatch) -> tuple[int, ...]:
-        """For each loader how many keys one batch may have, and 0 for no limit; or nothing, if there are no limits."""
+    def _limits(self, max_batch: MaxBatch) -> bytes:
+        """For each loader a word that says how many keys one batch may have, and 0 for no limit; or nothing, if there are no limits."""
         if max_batch is None:
-            return ()
+            return b""
         by_name = max_batch if isinstance(max_batch, Mapping) else dict.fromkeys(self._names, max_batch)
         self._check(by_name)
         for name, limit in by_name.items():
             checked_limit(f"max_batch of loader {name}", limit, 65535)
-        return tuple(by_name.get(loader.name, 0) for loader in self.loaders)
+        return packed(by_name.get(loader.name, 0) for loader in self.loaders)
