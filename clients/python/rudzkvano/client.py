@@ -13,7 +13,7 @@ from functools import wraps
 from itertools import chain
 from time import perf_counter
 from types import MappingProxyType
-from typing import Any, Concatenate, NamedTuple, ParamSpec, TypeAlias, TypeVar, Union
+from typing import TYPE_CHECKING, Any, Concatenate, NamedTuple, ParamSpec, TypeAlias, TypeVar, Union
 
 from .errors import OnError, edit_errors, fault_text, has_extensions, message_of, parted
 from .handles import Opened, keys_of
@@ -21,13 +21,16 @@ from .library import BUSY, COUNTS, NO_COLUMN, NO_KEY_COLUMN, NOT_ASKED, SIZES, A
 from .library import words, words_of
 from .limits import checked_limit
 from .loaders import Batch, Form, Keys, Loaded, Loader, Loaders, OnRound, Order, Ran, Round
-from .rows import Keyed, Misfit, Reply, Unread, item_of, outcomes_of, reply_of, text_of, unread_of, without_casts
+from .rows import AnyReply, Keyed, Misfit, Reply, Unread, item_of, outcomes_of, reply_of, text_of, unread_of, without_casts
+
+if TYPE_CHECKING:
+    from ._native import Rows
 
 # The text of a query; a request with `query`, `variables` and `operationName`; 1 to 16 of these, which share their rounds; or JSON text of those.
 Query: TypeAlias = Union[str, Mapping[str, Any], Sequence[Mapping[str, Any]], bytes]
 Variables: TypeAlias = Union[Mapping[str, Any], None]
 # what a batch function returned, or the error by which the batch failed; and after how many seconds
-_Outcome: TypeAlias = tuple[Union[Reply, Keyed, Exception], float]
+_Outcome: TypeAlias = tuple[Union[AnyReply, Exception], float]
 # tells the answer to a query that another library answers, or None
 Introspect: TypeAlias = Callable[[Query, Variables, Union[str, None]], Union[str, None]]
 
@@ -241,7 +244,7 @@ class Client:
                 task.cancel()
             raise
 
-    def _read(self, order: Order, returned: Any) -> Reply | Keyed:
+    def _read(self, order: Order, returned: Any) -> AnyReply:
         return reply_of(order.loader, order.keys, returned, self._asks.forms.get(order.loader.name))
 
     def _asked(self, order: Order) -> Any:
@@ -258,7 +261,7 @@ class Client:
             batches = [Ran(it.loader.name, it.keys, seconds * 1000, None if why is None else message_of(why)) for it, (_, seconds), why in told]
             self._asks.on_round(Round(number, batches))
 
-    def _end(self, order: Order, reply: Reply | Keyed | Exception) -> Exception | None:
+    def _end(self, order: Order, reply: AnyReply | Exception) -> Exception | None:
         """Takes what a batch returned. Returns the error by which it failed as a whole, if it did."""
         if not isinstance(reply, Exception):
             try:
@@ -308,25 +311,38 @@ class Client:
         """Takes the reply to an order: what a batch function returns."""
         self._take(order, self._read(order, returned))
 
-    def _take(self, order: Order, reply: Reply | Keyed) -> None:
+    def _take(self, order: Order, reply: AnyReply) -> None:
+        unread: Mapping[str, Unread] = {}
         if isinstance(reply, Keyed):
             self._take_keyed(order, reply)
             unread = unread_of(order.loader, order.keys, reply)
+        elif not isinstance(reply, Reply):
+            self._take_read(order, reply)
         else:
             columns, rows, ends, data, _, unread = self._with_faults(order.loader, reply)
             self._handle.take_rows(order.number, columns, packed(rows), ends, data)
         if unread:
             self._unread = {**self._unread, **{column: (order.loader, why) for column, why in unread.items()}}
 
+    def _take_read(self, order: Order, rows: Rows) -> None:
+        """The same of what the extension has read."""
+        try:
+            self._handle.take(order.number, rows)
+        except Refused as refused:
+            self._without_casts(order, Keyed(rows.columns, rows.rows, rows.ends, rows.data, {}), refused)
+
     def _take_keyed(self, order: Order, reply: Keyed) -> None:
-        """Has the library align rows with the keys of an order, of which some have a fault if the database cast them. Raises Misfit where they aren't
-        rows of these keys."""
+        """Has the library align rows with the keys of an order."""
         try:
             self._hand_in(order, reply, {})
-            return
         except Refused as refused:
-            if refused.code not in (NO_COLUMN, NO_KEY_COLUMN, NOT_ASKED):
-                raise
+            self._without_casts(order, reply, refused)
+
+    def _without_casts(self, order: Order, reply: Keyed, refused: Refused) -> None:
+        """Takes rows that the library refused to align, where they are of other keys only if the database cast these: then the keys have a fault.
+        Raises Misfit where they aren't rows of these keys."""
+        if refused.code not in (NO_COLUMN, NO_KEY_COLUMN, NOT_ASKED):
+            raise refused
         self._hand_in(order, *without_casts(order.loader, order.keys, reply))
 
     def _hand_in(self, order: Order, reply: Keyed, faults: Mapping[int, Exception]) -> None:

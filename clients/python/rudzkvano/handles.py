@@ -8,10 +8,13 @@ from collections.abc import Callable, Sequence
 from ctypes import addressof, byref, c_void_p
 from itertools import chain
 from threading import Lock, local
-from typing import Any
+from typing import TYPE_CHECKING, Any
 
 from .library import SIZES, Argument, Library, cut, pointer_to, words
 from .loaders import Keys, Loader, Order
+
+if TYPE_CHECKING:
+    from . import _native
 
 # how large an answer or a round may be whose room is kept: in bytes, and in orders, keys, texts and bytes together; and how many rounds
 _KEPT_ANSWER, _KEPT_ROUND, _KEPT_ROUNDS = 8192, 1024, 64
@@ -67,7 +70,8 @@ class Handle:
 
     def __init__(self, library: Library) -> None:
         self._library, self._calls, self._lock, self._held = library, library.calls, Lock(), c_void_p()
-        self._argument, self.closed = byref(self._held), False
+        self._argument: Any = byref(self._held)
+        self.closed = False
 
     def _call(self, call: Callable[..., int], *arguments: Argument | bytes) -> int:
         code = call(self._argument, *arguments)
@@ -122,9 +126,9 @@ class Handle:
 
     def begin_request(self, queries: Handle, query: str, operation: str | None, variables: str | None) -> None:
         """Begins the answer to a query."""
-        texts = _bytes_of(query), _bytes_of(operation), _bytes_of(variables)
-        arguments = chain.from_iterable([(text, SIZES[len(text)]) for text in texts])
-        self._call(self._calls.rz_begin_request, queries._argument, *arguments)
+        text, name, given = _bytes_of(query), _bytes_of(operation), _bytes_of(variables)
+        texts = text, SIZES[len(text)], name, SIZES[len(name)], given, SIZES[len(given)]
+        self._call(self._calls.rz_begin_request, queries._argument, *texts)
 
     def advance(self) -> int:
         """Goes on: 0 where all is done, 1 where a round is out, 2 where an order has no reply."""
@@ -187,12 +191,13 @@ class Opened:
     """A server that a handle holds, with the queries of each thread that asks it. A `Server` and its clients share it."""
 
     def __init__(self, library: Library) -> None:
-        self.library, self.handle, self._of_thread = library, Handle(library), local()
+        self.library, self._of_thread = library, local()
+        self.handle: _native.Handle = library.native.handle() if library.native else Handle(library)
 
-    def queries(self) -> Handle:
+    def queries(self) -> _native.Handle:
         """Those of the thread that calls, with which they go."""
         try:
-            queries: Handle = self._of_thread.queries
+            queries: _native.Handle = self._of_thread.queries
         except AttributeError:
             queries = self._of_thread.queries = self.handle.queries()
         return queries

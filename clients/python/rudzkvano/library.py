@@ -11,6 +11,9 @@ from itertools import accumulate
 from pathlib import Path
 from typing import Any, NewType
 
+from .loaders import Order
+from .native import NATIVE
+
 # The version of clients/c/rudzkvano.h that this package calls: 65536 * major + 256 * minor + patch.
 HEADER_VERSION = 131072
 BAD_SCHEMA = -4
@@ -92,9 +95,14 @@ class Library:
         self.calls.rz_close.restype = None
         for name in ("rz_code_name", "rz_code_text", "rz_fault_text"):
             getattr(self.calls, name).restype = c_size_t
+        # what makes handles by the extension
+        self.native: Any = NATIVE and NATIVE.Library(self._address_of, Refused, Order, NATIVE.Handle, NATIVE.Rows)
 
     def version(self) -> tuple[int, int, int]:
         return _parts(self.calls.rz_version())
+
+    def _address_of(self, name: str) -> int | None:
+        return ctypes.cast(getattr(self.calls, name), c_void_p).value
 
     def call(self, call: Callable[..., int], address: int, *arguments: Argument | bytes) -> int:
         """Calls the library with the handle at this address."""

@@ -11,12 +11,19 @@ from itertools import chain, islice
 from operator import itemgetter
 from string import ascii_lowercase, ascii_uppercase
 from types import MappingProxyType, NoneType
-from typing import Any, NamedTuple, TypeAlias
+from typing import TYPE_CHECKING, Any, NamedTuple, TypeAlias, Union
 from uuid import UUID
 
 from .errors import parted
 from .library import BATCH_FAULT, KEY_FAULT, SAME_COLUMNS, LoadFault, cut, flat, numbers_of, packed
 from .loaders import Aligned, Form, InAnyOrder, Keys, Loaded, Loader
+from .native import NATIVE
+
+if TYPE_CHECKING:
+    from ._native import Rows
+
+
+_read_rows: Callable[..., Rows | None] = NATIVE and NATIVE.Rows.read
 
 
 class Unread(NamedTuple):
@@ -85,9 +92,43 @@ class _Shape(NamedTuple):
 _Table: TypeAlias = tuple[_Shape, list[Any]]
 
 
-def reply_of(loader: Loader, keys: Keys, returned: Any, form: Form | None = None) -> Reply | Keyed:
+# what a batch function returned, as the extension reads it, or as it is read here
+AnyReply: TypeAlias = Union["Rows", Reply, Keyed]
+
+
+def reply_of(loader: Loader, keys: Keys, returned: Any, form: Form | None = None) -> AnyReply:
     """The reply that a batch function returned for these keys. `form` is how a bare list is read, if somebody says it. Raises TypeError or ValueError
     for what is none."""
+    read = None if NATIVE is None else _rows_of_dicts(loader, keys, returned, form)
+    return read or _texts_of_rows(loader, keys, returned, form)
+
+
+def _rows_of_dicts(loader: Loader, keys: Keys, returned: Any, form: Form | None) -> Rows | None:
+    """The reply as the extension reads it: dicts whose values all have a text, with nothing more to be said of them; or None."""
+    if type(returned) is not list:
+        if isinstance(returned, Aligned):
+            returned, form = returned.items, "aligned"
+        elif isinstance(returned, InAnyOrder):
+            returned, form = returned.rows, "in_any_order"
+        if type(returned) is not list:
+            return None
+    if not loader.columns:
+        # as the rows of one key
+        return None if form == "aligned" else _read_rows([returned], [], (), False, text_of)
+    rows = _read_rows(returned, keys, loader.columns, loader.folds, text_of)
+    if rows is None:
+        return None
+    are_many = len(returned) == len(keys)
+    if form == "aligned":
+        return rows if are_many else None
+    if rows.are_rows and rows.have_keys:
+        rows.keyed = not (rows.fit and are_many)
+        return rows
+    return rows if form is None and are_many and (rows.fit or not rows.have_keys) else None
+
+
+def _texts_of_rows(loader: Loader, keys: Keys, returned: Any, form: Form | None) -> Reply | Keyed:
+    """The reply as it is read here."""
     if isinstance(returned, Aligned):
         if not loader.columns:
             raise TypeError(f"loader {loader.name}: it has no keys that items are aligned with")

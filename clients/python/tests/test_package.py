@@ -29,20 +29,22 @@ class Package(unittest.TestCase):
         made = run(sys.executable, PACK, self.folder / folder)
         self.assertEqual((made.returncode, made.stderr), (0, ""))
         (wheel,) = (self.folder / folder).iterdir()
-        self.assertEqual(made.stdout, f"for Python: {wheel}\n")
+        self.assertEqual(made.stdout.splitlines()[-1], f"for Python: {wheel}")
+        self.assertEqual("without the extension: " in made.stdout, "-py3-none-" in wheel.name)
         return wheel
 
     @unittest.skipUnless(run(sys.executable, "-m", "pip", "--version").returncode == 0, "there is no pip, so the wheel isn't installed")
     def test_the_wheel_is_installed(self) -> None:
         wheel, target = self.packed(), self.folder / "installed"
-        self.assertRegex(wheel.name, r"^rudzkvano-[0-9.]+-py3-none-manylinux_2_\d+_x86_64\.whl$")
+        self.assertRegex(wheel.name, r"^rudzkvano-[0-9.]+-(cp310-abi3|py3-none)-manylinux_2_\d+_x86_64\.whl$")
         installed = run(sys.executable, "-m", "pip", "install", "--quiet", "--no-index", "--no-compile", "--target", target, wheel)
         self.assertEqual(installed.returncode, 0, installed.stderr)
         program, printed = test_page.first_program()
         path = "import sys; sys.path.insert(0, sys.argv[1])\n"
-        tells = "\nimport rudzkvano.library\nprint(rudzkvano.library._default_path())"
-        found = run(sys.executable, "-I", "-B", "-c", path + program + tells, target, RUDZKVANO_LIBRARY="")
-        self.assertEqual((found.stdout.strip(), found.stderr), (f"{printed}\n{target}/rudzkvano/librudzkvano_c.so", ""))
+        tells = "\nimport rudzkvano.library, rudzkvano.native\nprint(rudzkvano.library._default_path(), rudzkvano.native.NATIVE is not None)"
+        found = run(sys.executable, "-I", "-B", "-c", path + program + tells, target, RUDZKVANO_LIBRARY="", RUDZKVANO_PURE="")
+        has_extension = "-cp310-abi3-" in wheel.name
+        self.assertEqual((found.stdout.strip(), found.stderr), (f"{printed}\n{target}/rudzkvano/librudzkvano_c.so {has_extension}", ""))
         self.assertEqual((target / "rudzkvano/librudzkvano_c.so").read_bytes(), Path(_default_path()).read_bytes())
         shown = run(sys.executable, "-m", "pip", "list", "--path", target, "--format", "freeze", "--disable-pip-version-check")
         self.assertRegex(shown.stdout, "^rudzkvano==[0-9.]+\n$")

@@ -1,0 +1,727 @@
+/* The extension `rudzkvano._native` for CPython, by its stable ABI: the calls of the C library that each request makes, and rows as the texts that
+   the library takes. The package works without it: `handles.py` and `rows.py` do the same by `ctypes`.
+
+   The calls are those of the shared object that `ctypes` has opened. Calls that are short don't let other threads run: so those of a server are
+   never at the same time. Whoever makes one of a client has acquired it. */
+#define Py_LIMITED_API 0x030A0000
+#define PY_SSIZE_T_CLEAN
+#include <Python.h>
+#include <stdbool.h>
+#include <stdint.h>
+#include <string.h>
+#include <structmember.h>
+
+#include "../c/rudzkvano.h"
+
+typedef PyObject *const *Arguments;
+
+#define CALLS(CALL) \
+    CALL(client) CALL(queries) CALL(begin) CALL(begin_request) CALL(next) CALL(cancel) CALL(sizes) CALL(orders) CALL(take_rows) \
+    CALL(take_keyed_rows) CALL(answer) CALL(close) CALL(code_name) CALL(code_text)
+
+/* ---- Memory. */
+
+/* Room of so many bytes: that of the caller, which has `fixed_size`, if it suffices. */
+static void *room_of(size_t size, void *fixed, size_t fixed_size) {
+    if (size <= fixed_size) return fixed;
+    void *room = PyMem_Malloc(size);
+    if (room == NULL) PyErr_NoMemory();
+    return room;
+}
+
+static void let_room_go(void *room, void *fixed) {
+    if (room != fixed) PyMem_Free(room);
+}
+
+/* Bytes that grow. */
+typedef struct {
+    uint8_t *bytes;
+    size_t length, room;
+} Buffer;
+
+static bool has_room(Buffer *buffer, size_t more) {
+    if (more <= buffer->room - buffer->length) return true;
+    size_t wanted = buffer->length + more > 2 * buffer->room ? buffer->length + more : 2 * buffer->room;
+    if (wanted < 128) wanted = 128;
+    uint8_t *bytes = wanted > PY_SSIZE_T_MAX ? NULL : PyMem_Realloc(buffer->bytes, wanted);
+    if (bytes == NULL) {
+        PyErr_NoMemory();
+        return false;
+    }
+    buffer->bytes = bytes, buffer->room = wanted;
+    return true;
+}
+
+static bool append(Buffer *buffer, const void *bytes, size_t length) {
+    if (!has_room(buffer, length)) return false;
+    if (length > 0) memcpy(buffer->bytes + buffer->length, bytes, length);
+    buffer->length += length;
+    return true;
+}
+
+static bool append_word(Buffer *buffer, size_t number) {
+    uint32_t word = (uint32_t)number;
+    return append(buffer, &word, sizeof word);
+}
+
+/* ---- Arguments. */
+
+static bool are_many(Py_ssize_t count, Py_ssize_t wanted) {
+    if (count == wanted) return true;
+    PyErr_Format(PyExc_TypeError, "%zd arguments, and not %zd", count, wanted);
+    return false;
+}
+
+static bool read_number(PyObject *object, size_t *number) {
+    *number = PyLong_AsSize_t(object);
+    return *number != (size_t)-1 || PyErr_Occurred() == NULL;
+}
+
+/* The bytes of a text, of bytes or of None. `owner`, if there is one, keeps them. */
+typedef struct {
+    const uint8_t *bytes;
+    size_t length;
+    PyObject *owner;
+} Text;
+
+static bool read_bytes(PyObject *object, Text *text) {
+    char *bytes;
+    Py_ssize_t length;
+    if (PyBytes_AsStringAndSize(object, &bytes, &length) < 0) return false;
+    text->bytes = (const uint8_t *)bytes, text->length = (size_t)length;
+    return true;
+}
+
+/* Lone surrogates are written as if they were characters, which the library then refuses. */
+static bool read_text(PyObject *object, Text *text) {
+    *text = (Text){0};
+    if (object == Py_None) return true;
+    if (!PyUnicode_Check(object)) return read_bytes(object, text);
+    Py_ssize_t length;
+    const char *bytes = PyUnicode_AsUTF8AndSize(object, &length);
+    if (bytes != NULL) {
+        text->bytes = (const uint8_t *)bytes, text->length = (size_t)length;
+        return true;
+    }
+    if (!PyErr_ExceptionMatches(PyExc_UnicodeEncodeError)) return false;
+    PyErr_Clear();
+    text->owner = PyUnicode_AsEncodedString(object, "utf-8", "surrogatepass");
+    return text->owner != NULL && read_bytes(text->owner, text);
+}
+
+/* ---- The library. */
+
+#define MEMBER(name) __typeof__(rz_##name) *name;
+typedef struct {
+    PyObject_HEAD
+    PyObject *refused, *order; /* the classes of errors and of orders */
+    PyTypeObject *handle, *rows;
+    CALLS(MEMBER)
+} Library;
+
+static void free_object(PyObject *self) {
+    PyTypeObject *type = Py_TYPE(self);
+    freefunc release = (freefunc)PyType_GetSlot(type, Py_tp_free);
+    release(self);
+    Py_DECREF(type);
+}
+
+static void library_dealloc(Library *self) {
+    Py_CLEAR(self->refused);
+    Py_CLEAR(self->order);
+    Py_CLEAR(self->handle);
+    Py_CLEAR(self->rows);
+    free_object((PyObject *)self);
+}
+
+/* The address that `find` tells of a call. */
+static void *found(PyObject *find, const char *name) {
+    PyObject *number = PyObject_CallFunction(find, "s", name);
+    void *address = number == NULL ? NULL : PyLong_AsVoidPtr(number);
+    Py_XDECREF(number);
+    if (address == NULL && PyErr_Occurred() == NULL) PyErr_Format(PyExc_ImportError, "the library has no %s", name);
+    return address;
+}
+
+#define FIND(name) (*(void **)&self->name = found(find, "rz_" #name)) != NULL &&
+
+/* Library(find, refused, order, handle, rows): what tells the address of a call by its name, and the classes. */
+static int library_init(Library *self, PyObject *arguments, PyObject *named) {
+    PyObject *find, *refused, *order, *handle, *rows;
+    if (named != NULL || self->refused != NULL || !PyArg_ParseTuple(arguments, "OOOOO", &find, &refused, &order, &handle, &rows)) return -1;
+    self->refused = Py_NewRef(refused);
+    self->order = Py_NewRef(order);
+    self->handle = (PyTypeObject *)Py_NewRef(handle);
+    self->rows = (PyTypeObject *)Py_NewRef(rows);
+    return CALLS(FIND) true ? 0 : -1;
+}
+
+/* Raises the error of a code. */
+static PyObject *refuse(const Library *library, int32_t code) {
+    char name[64], text[256];
+    size_t name_length = library->code_name(code, (uint8_t *)name, sizeof name);
+    size_t text_length = library->code_text(code, (uint8_t *)text, sizeof text);
+    if (name_length > sizeof name) name_length = sizeof name;
+    if (text_length > sizeof text) text_length = sizeof text;
+    PyObject *error = PyObject_CallFunction(library->refused, "is#s#", code, name, (Py_ssize_t)name_length, text, (Py_ssize_t)text_length);
+    if (error != NULL) PyErr_SetObject(library->refused, error);
+    Py_XDECREF(error);
+    return NULL;
+}
+
+static PyObject *none_or_refuse(const Library *library, int32_t code) {
+    if (code < 0) return refuse(library, code);
+    Py_RETURN_NONE;
+}
+
+/* ---- Rows. */
+
+/* What a batch function returned, as the library takes it: rows in any order, or for each key how many rows it has; and all texts. */
+typedef struct {
+    PyObject_HEAD
+    PyObject *columns; /* a tuple of texts */
+    Py_ssize_t width, rows;
+    Buffer counts, ends, data;
+    char are_rows;  /* no item is None or a list */
+    char have_keys; /* they have the columns of the keys */
+    char fit;       /* the items that are rows stand at their keys */
+    char keyed;     /* the library is to align them */
+} Rows;
+
+static void rows_dealloc(Rows *self) {
+    Py_CLEAR(self->columns);
+    PyMem_Free(self->counts.bytes);
+    PyMem_Free(self->ends.bytes);
+    PyMem_Free(self->data.bytes);
+    free_object((PyObject *)self);
+}
+
+static PyObject *bytes_object(const Buffer *buffer) { return PyBytes_FromStringAndSize((const char *)buffer->bytes, (Py_ssize_t)buffer->length); }
+static PyObject *rows_ends(Rows *self, void *none) {
+    (void)none;
+    return bytes_object(&self->ends);
+}
+static PyObject *rows_data(Rows *self, void *none) {
+    (void)none;
+    return bytes_object(&self->data);
+}
+
+/* How rows are read. OTHERWISE: not here, and nothing is raised. */
+typedef enum { READ, OTHERWISE, RAISED } Outcome;
+
+typedef struct {
+    Rows *rows;
+    PyObject *keys, *wanted, *text_of; /* the keys, the columns that they are in */
+    Py_ssize_t place;                  /* the place of that column, if it is one whose texts are compared as they are; else -1 */
+    bool folds;
+} Reading;
+
+/* What was raised because of a value is raised once more by what reads the rows otherwise. */
+static Outcome outcome_of_error(void) {
+    if (PyErr_ExceptionMatches(PyExc_MemoryError) || !PyErr_ExceptionMatches(PyExc_Exception)) return RAISED;
+    PyErr_Clear();
+    return OTHERWISE;
+}
+
+static Outcome append_text(Buffer *data, PyObject *text) {
+    Py_ssize_t length;
+    const char *bytes = PyUnicode_AsUTF8AndSize(text, &length);
+    if (bytes == NULL) return outcome_of_error();
+    return append(data, bytes, (size_t)length) ? READ : RAISED;
+}
+
+static bool append_number(Buffer *data, long long number) {
+    char digits[20], *first = digits + sizeof digits;
+    unsigned long long rest = number < 0 ? 0 - (unsigned long long)number : (unsigned long long)number;
+    do *--first = (char)('0' + rest % 10);
+    while ((rest /= 10) > 0);
+    if (number < 0) *--first = '-';
+    return append(data, first, (size_t)(digits + sizeof digits - first));
+}
+
+/* The text of a value that is none of the frequent ones. */
+static Outcome append_other(const Reading *reading, PyObject *value) {
+    Py_INCREF(value);
+    PyObject *text = PyObject_CallFunctionObjArgs(reading->text_of, value, NULL);
+    Py_DECREF(value);
+    if (text == NULL) return outcome_of_error();
+    Outcome outcome = PyUnicode_Check(text) ? append_text(&reading->rows->data, text) : OTHERWISE;
+    Py_DECREF(text);
+    return outcome;
+}
+
+static Outcome append_value(const Reading *reading, PyObject *value) {
+    Buffer *data = &reading->rows->data;
+    if (value == Py_None) return READ;
+    if (PyUnicode_CheckExact(value)) return append_text(data, value);
+    if (!PyLong_CheckExact(value)) return append_other(reading, value);
+    int overflow;
+    long long number = PyLong_AsLongLongAndOverflow(value, &overflow);
+    if (overflow != 0) return append_other(reading, value);
+    return append_number(data, number) ? READ : RAISED;
+}
+
+static Outcome end_text(Rows *rows) {
+    if (rows->data.length > UINT32_MAX) return OTHERWISE;
+    return append_word(&rows->ends, rows->data.length) ? READ : RAISED;
+}
+
+/* Finds the columns of the keys among those of the rows. */
+static void find_keys(Reading *reading) {
+    PyObject *columns = reading->rows->columns;
+    Py_ssize_t count = PyTuple_Size(reading->wanted), found = 0, place = -1;
+    for (Py_ssize_t at = 0; at < count; at++) {
+        place = PySequence_Index(columns, PyTuple_GetItem(reading->wanted, at));
+        if (place < 0) PyErr_Clear();
+        found += place >= 0;
+    }
+    reading->rows->have_keys = found == count;
+    if (count == 1 && !reading->folds) reading->place = place;
+}
+
+/* The columns of all rows, which are those of the first one, and their names as the first texts. */
+static Outcome read_columns(Reading *reading, PyObject *row) {
+    Rows *rows = reading->rows;
+    PyObject *names = PyDict_Keys(row);
+    if (names == NULL) return RAISED;
+    rows->columns = PyList_AsTuple(names);
+    Py_DECREF(names);
+    if (rows->columns == NULL) return RAISED;
+    rows->width = PyTuple_Size(rows->columns);
+    for (Py_ssize_t at = 0; at < rows->width; at++) {
+        PyObject *name = PyTuple_GetItem(rows->columns, at);
+        if (!PyUnicode_CheckExact(name)) return OTHERWISE;
+        Outcome outcome = append_text(&rows->data, name);
+        if (outcome == READ) outcome = end_text(rows);
+        if (outcome != READ) return outcome;
+    }
+    if (rows->width == 0) return OTHERWISE;
+    find_keys(reading);
+    return READ;
+}
+
+/* Whether these bytes are the key of this place. */
+static bool is_key(const Reading *reading, Py_ssize_t place, const uint8_t *bytes, size_t length) {
+    PyObject *key = place < PyList_Size(reading->keys) ? PyList_GetItem(reading->keys, place) : NULL;
+    if (key == NULL || !PyUnicode_Check(key)) return false;
+    Py_ssize_t key_length;
+    const char *key_bytes = PyUnicode_AsUTF8AndSize(key, &key_length);
+    if (key_bytes == NULL) PyErr_Clear();
+    return key_bytes != NULL && (size_t)key_length == length && memcmp(key_bytes, bytes, length) == 0;
+}
+
+/* The fields of a row. It stands at the key of this place, or, where that is -1, at none. */
+static Outcome read_row(Reading *reading, PyObject *row, Py_ssize_t place) {
+    Rows *rows = reading->rows;
+    if (!PyDict_CheckExact(row)) return OTHERWISE;
+    Outcome outcome = rows->columns == NULL ? read_columns(reading, row) : READ;
+    PyObject *name, *value;
+    Py_ssize_t step = 0, at = 0;
+    for (; outcome == READ && PyDict_Next(row, &step, &name, &value); at++) {
+        PyObject *column = at < rows->width ? PyTuple_GetItem(rows->columns, at) : NULL;
+        if (column == NULL || (name != column && (!PyUnicode_CheckExact(name) || PyUnicode_Compare(name, column) != 0))) return OTHERWISE;
+        size_t start = rows->data.length;
+        outcome = append_value(reading, value);
+        if (outcome == READ) outcome = end_text(rows);
+        if (outcome == READ && place >= 0 && rows->fit && at == reading->place)
+            rows->fit = is_key(reading, place, rows->data.bytes + start, rows->data.length - start);
+    }
+    if (place >= 0 && reading->place < 0) rows->fit = false;
+    rows->rows++;
+    return outcome == READ && at != rows->width ? OTHERWISE : outcome;
+}
+
+/* The rows of a key, and how many there are. */
+static Outcome read_item(Reading *reading, PyObject *item, Py_ssize_t place) {
+    Rows *rows = reading->rows;
+    Outcome outcome = READ;
+    size_t count = 0;
+    if (PyList_CheckExact(item)) {
+        rows->are_rows = false;
+        for (; outcome == READ && count < (size_t)PyList_Size(item); count++) {
+            PyObject *row = PyList_GetItem(item, (Py_ssize_t)count);
+            Py_INCREF(row);
+            outcome = read_row(reading, row, -1);
+            Py_DECREF(row);
+        }
+    } else if (item == Py_None) {
+        rows->are_rows = false;
+    } else {
+        count = 1;
+        outcome = read_row(reading, item, place);
+    }
+    if (outcome != READ || count >= RZ_BATCH_FAULT) return outcome == READ ? OTHERWISE : outcome;
+    return append_word(&rows->counts, count) ? READ : RAISED;
+}
+
+static Outcome read_items(Reading *reading, PyObject *items) {
+    Outcome outcome = READ;
+    for (Py_ssize_t place = 0; outcome == READ && place < PyList_Size(items); place++) {
+        PyObject *item = PyList_GetItem(items, place);
+        Py_INCREF(item);
+        outcome = read_item(reading, item, place);
+        Py_DECREF(item);
+    }
+    return outcome == READ && reading->rows->columns == NULL ? OTHERWISE : outcome;
+}
+
+/* Rows.read(items, keys, columns, folds, text_of): the rows of a list, which are in any order or an item for each of these keys, in these columns; or
+   None, where the list is to be read otherwise: it isn't dicts of the same columns, lists of these and None, or a value has no text. */
+static PyObject *rows_read(PyTypeObject *type, Arguments arguments, Py_ssize_t count) {
+    if (!are_many(count, 5)) return NULL;
+    if (!PyList_CheckExact(arguments[0]) || !PyList_Check(arguments[1]) || !PyTuple_Check(arguments[2])) Py_RETURN_NONE;
+    Rows *rows = (Rows *)PyType_GenericAlloc(type, 0);
+    if (rows == NULL) return NULL;
+    rows->are_rows = rows->fit = true;
+    Reading reading = {rows, arguments[1], arguments[2], arguments[4], -1, arguments[3] == Py_True};
+    Outcome outcome = read_items(&reading, arguments[0]);
+    if (outcome == READ) return (PyObject *)rows;
+    Py_DECREF(rows);
+    if (outcome == RAISED) return NULL;
+    Py_RETURN_NONE;
+}
+
+static PyMemberDef rows_members[] = {
+    {"columns", T_OBJECT, offsetof(Rows, columns), READONLY, NULL},
+    {"rows", T_PYSSIZET, offsetof(Rows, rows), READONLY, NULL},
+    {"are_rows", T_BOOL, offsetof(Rows, are_rows), READONLY, NULL},
+    {"have_keys", T_BOOL, offsetof(Rows, have_keys), READONLY, NULL},
+    {"fit", T_BOOL, offsetof(Rows, fit), READONLY, NULL},
+    {"keyed", T_BOOL, offsetof(Rows, keyed), 0, NULL},
+    {NULL, 0, 0, 0, NULL},
+};
+static PyGetSetDef rows_properties[] = {
+    {"ends", (getter)rows_ends, NULL, NULL, NULL},
+    {"data", (getter)rows_data, NULL, NULL, NULL},
+    {NULL, NULL, NULL, NULL, NULL},
+};
+static PyMethodDef rows_methods[] = {
+    {"read", (PyCFunction)(void (*)(void))rows_read, METH_FASTCALL | METH_CLASS, NULL},
+    {NULL, NULL, 0, NULL},
+};
+static PyType_Slot rows_slots[] = {
+    {Py_tp_dealloc, rows_dealloc}, {Py_tp_members, rows_members}, {Py_tp_getset, rows_properties}, {Py_tp_methods, rows_methods}, {0, NULL},
+};
+static PyType_Spec rows_spec = {"rudzkvano._native.Rows", sizeof(Rows), 0, Py_TPFLAGS_DEFAULT | Py_TPFLAGS_DISALLOW_INSTANTIATION, rows_slots};
+
+/* ---- Handles. */
+
+typedef struct {
+    PyObject_HEAD
+    Library *library;
+    rz_handle held;
+    char closed, acquired;
+} Handle;
+
+static Handle *new_handle(Library *library) {
+    Handle *handle = (Handle *)PyType_GenericAlloc(library->handle, 0);
+    if (handle == NULL) return NULL;
+    Py_INCREF(library);
+    handle->library = library;
+    return handle;
+}
+
+static PyObject *library_empty(Library *self, PyObject *none) {
+    (void)none;
+    return (PyObject *)new_handle(self);
+}
+
+static PyObject *handle_close(Handle *self, PyObject *none) {
+    (void)none;
+    self->library->close(&self->held);
+    self->closed = true;
+    Py_RETURN_NONE;
+}
+
+static void handle_dealloc(Handle *self) {
+    if (self->library != NULL) self->library->close(&self->held);
+    Py_CLEAR(self->library);
+    free_object((PyObject *)self);
+}
+
+static PyObject *handle_address(Handle *self, void *none) {
+    (void)none;
+    return PyLong_FromVoidPtr(&self->held);
+}
+
+static bool is_handle(const Handle *self, PyObject *object) {
+    if (PyObject_TypeCheck(object, self->library->handle)) return true;
+    PyErr_SetString(PyExc_TypeError, "no handle");
+    return false;
+}
+
+/* ---- Of a server. */
+
+static PyObject *handle_client(Handle *self, PyObject *limits) {
+    Text words = {0};
+    Handle *made = read_bytes(limits, &words) ? new_handle(self->library) : NULL;
+    if (made == NULL) return NULL;
+    int32_t code = self->library->client(&self->held, &made->held, (const uint32_t *)words.bytes, words.length / 4);
+    if (code >= 0) return (PyObject *)made;
+    Py_DECREF(made);
+    return refuse(self->library, code);
+}
+
+static PyObject *handle_queries(Handle *self, PyObject *none) {
+    (void)none;
+    Handle *made = new_handle(self->library);
+    if (made == NULL) return NULL;
+    int32_t code = self->library->queries(&self->held, &made->held);
+    if (code >= 0) return (PyObject *)made;
+    Py_DECREF(made);
+    return refuse(self->library, code);
+}
+
+/* ---- Of a client. */
+
+static PyObject *handle_acquire(Handle *self, PyObject *none) {
+    (void)none;
+    bool was_free = !self->acquired;
+    self->acquired = true;
+    return PyBool_FromLong(was_free);
+}
+
+static PyObject *handle_release(Handle *self, PyObject *none) {
+    (void)none;
+    self->acquired = false;
+    Py_RETURN_NONE;
+}
+
+/* begin(queries, line) */
+static PyObject *handle_begin(Handle *self, Arguments arguments, Py_ssize_t count) {
+    Text line;
+    if (!are_many(count, 2) || !is_handle(self, arguments[0]) || !read_text(arguments[1], &line)) return NULL;
+    int32_t code;
+    Py_BEGIN_ALLOW_THREADS
+    code = self->library->begin(&self->held, &((Handle *)arguments[0])->held, line.bytes, line.length);
+    Py_END_ALLOW_THREADS
+    Py_XDECREF(line.owner);
+    return none_or_refuse(self->library, code);
+}
+
+/* begin_request(queries, query, operation, variables) */
+static PyObject *handle_begin_request(Handle *self, Arguments arguments, Py_ssize_t count) {
+    Text texts[3] = {{0}, {0}, {0}};
+    bool are_read = are_many(count, 4) && is_handle(self, arguments[0]);
+    for (int at = 0; are_read && at < 3; at++) are_read = read_text(arguments[at + 1], &texts[at]);
+    int32_t code = 0;
+    if (are_read) {
+        rz_handle *queries = &((Handle *)arguments[0])->held;
+        Py_BEGIN_ALLOW_THREADS
+        code = self->library->begin_request(&self->held, queries, texts[0].bytes, texts[0].length, texts[1].bytes, texts[1].length, texts[2].bytes,
+                                            texts[2].length);
+        Py_END_ALLOW_THREADS
+    }
+    for (int at = 0; at < 3; at++) Py_XDECREF(texts[at].owner);
+    return are_read ? none_or_refuse(self->library, code) : NULL;
+}
+
+static PyObject *handle_advance(Handle *self, PyObject *none) {
+    (void)none;
+    int32_t code;
+    Py_BEGIN_ALLOW_THREADS
+    code = self->library->next(&self->held);
+    Py_END_ALLOW_THREADS
+    return code < 0 ? refuse(self->library, code) : PyLong_FromLong(code);
+}
+
+static PyObject *handle_cancel(Handle *self, PyObject *none) {
+    (void)none;
+    return none_or_refuse(self->library, self->library->cancel(&self->held));
+}
+
+static bool read_sizes(Handle *self, rz_sizes_t *sizes) {
+    int32_t code = self->library->sizes(&self->held, sizes);
+    if (code < 0) refuse(self->library, code);
+    return code >= 0;
+}
+
+static PyObject *handle_sizes(Handle *self, PyObject *none) {
+    (void)none;
+    rz_sizes_t sizes;
+    if (!read_sizes(self, &sizes)) return NULL;
+    return Py_BuildValue("[KKKKKK]", (unsigned long long)sizes.orders, (unsigned long long)sizes.keys, (unsigned long long)sizes.texts,
+                         (unsigned long long)sizes.bytes, (unsigned long long)sizes.answer, (unsigned long long)sizes.rounds);
+}
+
+/* What rz_orders copies, and how far it is read. */
+typedef struct {
+    uint32_t *loaders, *keys, *texts, *ends;
+    char *bytes;
+    uint32_t start;
+} Round;
+
+static PyObject *next_text(Round *round) {
+    uint32_t start = round->start, end = *round->ends++;
+    round->start = end;
+    return PyUnicode_DecodeUTF8(round->bytes + start, end - start, NULL);
+}
+
+static PyObject *next_pair(Round *round) {
+    PyObject *first = next_text(round), *second = first == NULL ? NULL : next_text(round);
+    PyObject *pair = second == NULL ? NULL : PyTuple_Pack(2, first, second);
+    Py_XDECREF(first);
+    Py_XDECREF(second);
+    return pair;
+}
+
+/* The keys of the next order: texts, pairs of texts, or none, where all rows are asked for. */
+static PyObject *next_keys(Round *round) {
+    uint32_t count = *round->keys++;
+    if (count == 1 && *round->texts == 0) return round->texts++, PyList_New(0);
+    PyObject *keys = PyList_New(count);
+    for (uint32_t at = 0; keys != NULL && at < count; at++) {
+        PyObject *key = *round->texts++ == 2 ? next_pair(round) : next_text(round);
+        if (key == NULL) Py_CLEAR(keys);
+        else PyList_SetItem(keys, at, key);
+    }
+    return keys;
+}
+
+/* Order(number, loader, keys): the class is that of a named tuple, and is made as a tuple. */
+static PyObject *next_order(Library *library, Round *round, Py_ssize_t number, PyObject *loaders) {
+    PyObject *loader = PySequence_GetItem(loaders, *round->loaders++);
+    PyObject *keys = loader == NULL ? NULL : next_keys(round), *order = NULL;
+    PyObject *parts = keys == NULL ? NULL : Py_BuildValue("((nOO))", number, loader, keys);
+    if (parts != NULL) order = ((newfunc)PyType_GetSlot(&PyTuple_Type, Py_tp_new))((PyTypeObject *)library->order, parts, NULL);
+    Py_XDECREF(parts);
+    Py_XDECREF(keys);
+    Py_XDECREF(loader);
+    return order;
+}
+
+static PyObject *list_of_orders(Library *library, Round round, size_t count, PyObject *loaders) {
+    PyObject *orders = PyList_New((Py_ssize_t)count);
+    for (size_t at = 0; orders != NULL && at < count; at++) {
+        PyObject *order = next_order(library, &round, (Py_ssize_t)at, loaders);
+        if (order == NULL) Py_CLEAR(orders);
+        else PyList_SetItem(orders, (Py_ssize_t)at, order);
+    }
+    return orders;
+}
+
+/* orders(loaders) */
+static PyObject *handle_orders(Handle *self, PyObject *loaders) {
+    rz_sizes_t sizes;
+    if (!read_sizes(self, &sizes)) return NULL;
+    uint32_t fixed[512];
+    size_t words = 2 * sizes.orders + sizes.keys + sizes.texts;
+    uint32_t *room = room_of(4 * words + sizes.bytes, fixed, sizeof fixed);
+    if (room == NULL) return NULL;
+    Round round = {room, room + sizes.orders, room + 2 * sizes.orders, room + 2 * sizes.orders + sizes.keys, (char *)(room + words), 0};
+    int32_t code = self->library->orders(&self->held, round.loaders, sizes.orders, round.keys, sizes.orders, round.texts, sizes.keys, round.ends,
+                                         sizes.texts, (uint8_t *)round.bytes, sizes.bytes);
+    PyObject *orders = code < 0 ? refuse(self->library, code) : list_of_orders(self->library, round, sizes.orders, loaders);
+    let_room_go(room, fixed);
+    return orders;
+}
+
+/* take_rows(order, columns, rows, ends, data): the three last are bytes. */
+static PyObject *handle_take_rows(Handle *self, Arguments arguments, Py_ssize_t count) {
+    size_t order, columns;
+    Text rows, ends, data;
+    if (!are_many(count, 5) || !read_number(arguments[0], &order) || !read_number(arguments[1], &columns) || !read_bytes(arguments[2], &rows) ||
+        !read_bytes(arguments[3], &ends) || !read_bytes(arguments[4], &data))
+        return NULL;
+    int32_t code;
+    Py_BEGIN_ALLOW_THREADS
+    code = self->library->take_rows(&self->held, order, columns, (const uint32_t *)rows.bytes, rows.length / 4, (const uint32_t *)ends.bytes,
+                                    ends.length / 4, data.bytes, data.length);
+    Py_END_ALLOW_THREADS
+    return none_or_refuse(self->library, code);
+}
+
+static int32_t take(Handle *self, size_t order, const Rows *rows) {
+    const uint32_t *ends = (const uint32_t *)rows->ends.bytes;
+    size_t columns = (size_t)rows->width, texts = rows->ends.length / 4;
+    uint32_t row;
+    if (rows->keyed)
+        return self->library->take_keyed_rows(&self->held, order, columns, (uint32_t)rows->rows, NULL, 0, ends, texts, rows->data.bytes,
+                                              rows->data.length, &row);
+    return self->library->take_rows(&self->held, order, columns, (const uint32_t *)rows->counts.bytes, rows->counts.length / 4, ends, texts,
+                                    rows->data.bytes, rows->data.length);
+}
+
+/* take(order, rows) */
+static PyObject *handle_take(Handle *self, Arguments arguments, Py_ssize_t count) {
+    size_t order;
+    if (!are_many(count, 2) || !read_number(arguments[0], &order)) return NULL;
+    if (!PyObject_TypeCheck(arguments[1], self->library->rows)) return PyErr_SetString(PyExc_TypeError, "no rows"), NULL;
+    int32_t code;
+    Py_BEGIN_ALLOW_THREADS
+    code = take(self, order, (const Rows *)arguments[1]);
+    Py_END_ALLOW_THREADS
+    return none_or_refuse(self->library, code);
+}
+
+static PyObject *handle_text(Handle *self, PyObject *none) {
+    (void)none;
+    rz_sizes_t sizes;
+    if (!read_sizes(self, &sizes)) return NULL;
+    char fixed[4096];
+    char *room = room_of(sizes.answer, fixed, sizeof fixed);
+    if (room == NULL) return NULL;
+    int32_t code = self->library->answer(&self->held, (uint8_t *)room, sizes.answer);
+    PyObject *text = code < 0 ? refuse(self->library, code) : PyUnicode_DecodeUTF8(room, (Py_ssize_t)sizes.answer, NULL);
+    let_room_go(room, fixed);
+    return text;
+}
+
+static PyMemberDef handle_members[] = {
+    {"closed", T_BOOL, offsetof(Handle, closed), READONLY, NULL},
+    {NULL, 0, 0, 0, NULL},
+};
+static PyGetSetDef handle_properties[] = {
+    {"address", (getter)handle_address, NULL, NULL, NULL},
+    {NULL, NULL, NULL, NULL, NULL},
+};
+#define METHOD(call, flags) {#call, (PyCFunction)(void (*)(void))handle_##call, flags, NULL}
+static PyMethodDef handle_methods[] = {
+    METHOD(close, METH_NOARGS),
+    METHOD(client, METH_O),
+    METHOD(queries, METH_NOARGS),
+    METHOD(acquire, METH_NOARGS),
+    METHOD(release, METH_NOARGS),
+    METHOD(begin, METH_FASTCALL),
+    METHOD(begin_request, METH_FASTCALL),
+    METHOD(advance, METH_NOARGS),
+    METHOD(cancel, METH_NOARGS),
+    METHOD(sizes, METH_NOARGS),
+    METHOD(orders, METH_O),
+    METHOD(take_rows, METH_FASTCALL),
+    METHOD(take, METH_FASTCALL),
+    METHOD(text, METH_NOARGS),
+    {NULL, NULL, 0, NULL},
+};
+static PyType_Slot handle_slots[] = {
+    {Py_tp_dealloc, handle_dealloc}, {Py_tp_members, handle_members}, {Py_tp_getset, handle_properties}, {Py_tp_methods, handle_methods}, {0, NULL},
+};
+static PyType_Spec handle_spec = {"rudzkvano._native.Handle", sizeof(Handle), 0, Py_TPFLAGS_DEFAULT | Py_TPFLAGS_DISALLOW_INSTANTIATION, handle_slots};
+
+/* ---- The module. */
+
+static PyMethodDef library_methods[] = {
+    {"handle", (PyCFunction)(void (*)(void))library_empty, METH_NOARGS, NULL},
+    {NULL, NULL, 0, NULL},
+};
+static PyType_Slot library_slots[] = {
+    {Py_tp_dealloc, library_dealloc}, {Py_tp_init, library_init}, {Py_tp_methods, library_methods}, {0, NULL},
+};
+static PyType_Spec library_spec = {"rudzkvano._native.Library", sizeof(Library), 0, Py_TPFLAGS_DEFAULT, library_slots};
+
+static int add_types(PyObject *module) {
+    PyType_Spec *specs[] = {&library_spec, &handle_spec, &rows_spec};
+    for (size_t at = 0; at < sizeof specs / sizeof *specs; at++) {
+        PyObject *type = PyType_FromModuleAndSpec(module, specs[at], NULL);
+        if (type == NULL) return -1;
+        int added = PyModule_AddType(module, (PyTypeObject *)type);
+        Py_DECREF(type);
+        if (added < 0) return -1;
+    }
+    return 0;
+}
+
+static PyModuleDef_Slot module_slots[] = {{Py_mod_exec, add_types}, {0, NULL}};
+static PyModuleDef module = {PyModuleDef_HEAD_INIT, "rudzkvano._native", NULL, 0, NULL, module_slots, NULL, NULL, NULL};
+
+PyMODINIT_FUNC PyInit__native(void) { return PyModuleDef_Init(&module); }
