@@ -15,6 +15,11 @@
 
 typedef PyObject *const *Arguments;
 
+/* What a module keeps: its types. */
+typedef struct {
+    PyTypeObject *rows, *handle;
+} Types;
+
 #define CALLS(CALL) \
     CALL(client) CALL(queries) CALL(begin) CALL(begin_request) CALL(next) CALL(cancel) CALL(sizes) CALL(orders) CALL(take_rows) \
     CALL(take_keyed_rows) CALL(answer) CALL(close) CALL(code_name) CALL(code_text)
@@ -145,14 +150,15 @@ static void *found(PyObject *find, const char *name) {
 
 #define FIND(name) (*(void **)&self->name = found(find, "rz_" #name)) != NULL &&
 
-/* Library(find, refused, order, handle, rows): what tells the address of a call by its name, and the classes. */
+/* Library(find, refused, order): what tells the address of a call by its name, and the classes of errors and of orders. */
 static int library_init(Library *self, PyObject *arguments, PyObject *named) {
-    PyObject *find, *refused, *order, *handle, *rows;
-    if (named != NULL || self->refused != NULL || !PyArg_ParseTuple(arguments, "OOOOO", &find, &refused, &order, &handle, &rows)) return -1;
+    PyObject *find, *refused, *order;
+    Types *types = PyType_GetModuleState(Py_TYPE(self));
+    if (types == NULL || named != NULL || self->refused != NULL || !PyArg_ParseTuple(arguments, "OOO", &find, &refused, &order)) return -1;
     self->refused = Py_NewRef(refused);
     self->order = Py_NewRef(order);
-    self->handle = (PyTypeObject *)Py_NewRef(handle);
-    self->rows = (PyTypeObject *)Py_NewRef(rows);
+    self->handle = (PyTypeObject *)Py_NewRef(types->handle);
+    self->rows = (PyTypeObject *)Py_NewRef(types->rows);
     return CALLS(FIND) true ? 0 : -1;
 }
 
@@ -182,10 +188,10 @@ typedef struct {
     PyObject *columns; /* a tuple of texts */
     Py_ssize_t width, rows;
     Buffer counts, ends, data;
-    char are_rows;  /* no item is None or a list */
-    char have_keys; /* they have the columns of the keys */
-    char fit;       /* the items that are rows stand at their keys */
-    char keyed;     /* the library is to align them */
+    bool are_rows;  /* no item is None or a list */
+    bool have_keys; /* they have the columns of the keys */
+    bool fit;       /* the items that are rows stand at their keys */
+    bool keyed;     /* the library is to align them */
 } Rows;
 
 static void rows_dealloc(Rows *self) {
@@ -211,9 +217,9 @@ typedef enum { READ, OTHERWISE, RAISED } Outcome;
 
 typedef struct {
     Rows *rows;
-    PyObject *keys, *wanted, *text_of; /* the keys, the columns that they are in */
-    Py_ssize_t place;                  /* the place of that column, if it is one whose texts are compared as they are; else -1 */
+    PyObject *keys, *wanted, *text_of; /* the keys, and the columns that they are in */
     bool folds;
+    Py_ssize_t place; /* the place of the column of the keys, if it is one whose texts are compared as they are; else -1 */
 } Reading;
 
 /* What was raised because of a value is raised once more by what reads the rows otherwise. */
@@ -365,29 +371,63 @@ static Outcome read_items(Reading *reading, PyObject *items) {
     return outcome == READ && reading->rows->columns == NULL ? OTHERWISE : outcome;
 }
 
-/* Rows.read(items, keys, columns, folds, text_of): the rows of a list, which are in any order or an item for each of these keys, in these columns; or
-   None, where the list is to be read otherwise: it isn't dicts of the same columns, lists of these and None, or a value has no text. */
-static PyObject *rows_read(PyTypeObject *type, Arguments arguments, Py_ssize_t count) {
-    if (!are_many(count, 5)) return NULL;
-    if (!PyList_CheckExact(arguments[0]) || !PyList_Check(arguments[1]) || !PyTuple_Check(arguments[2])) Py_RETURN_NONE;
+/* How a list is to be read, if somebody says it. */
+typedef enum { BARE, ALIGNED, IN_ANY_ORDER } Form;
+
+static Form form_of(PyObject *form) {
+    if (form == Py_None) return BARE;
+    return PyUnicode_CompareWithASCIIString(form, "aligned") == 0 ? ALIGNED : IN_ANY_ORDER;
+}
+
+/* Decides what the rows of a list are: those of all keys, which the library aligns unless they stand at their keys; or an item for each key. What is
+   more to be said of the list is said by what reads it otherwise. */
+static Outcome decide(Rows *rows, Form form, bool are_many) {
+    if (form == ALIGNED) return are_many ? READ : OTHERWISE;
+    if (rows->are_rows && rows->have_keys) {
+        rows->keyed = !(rows->fit && are_many);
+        return READ;
+    }
+    return form == BARE && are_many && (rows->fit || !rows->have_keys) ? READ : OTHERWISE;
+}
+
+static Outcome read_list(Reading *reading, PyObject *items, Form form) {
+    Py_ssize_t keys = PyList_Size(reading->keys);
+    if (PyTuple_Size(reading->wanted) > 0) {
+        Outcome outcome = read_items(reading, items);
+        return outcome == READ ? decide(reading->rows, form, PyList_Size(items) == keys) : outcome;
+    }
+    /* a loader of all rows has no keys */
+    Outcome outcome = form == ALIGNED ? OTHERWISE : read_item(reading, items, -1);
+    return outcome == READ && reading->rows->columns == NULL ? OTHERWISE : outcome;
+}
+
+/* What a list says of these keys of a loader; or None, where it is to be read otherwise: it isn't dicts of the same columns, lists of these and None,
+   a value has no text, or they aren't rows of these keys. */
+static PyObject *rows_of(PyTypeObject *type, PyObject *items, PyObject *keys, PyObject *loader, PyObject *form, PyObject *text_of) {
+    if (!PyList_CheckExact(items) || !PyList_CheckExact(keys)) Py_RETURN_NONE;
+    PyObject *columns = PyTuple_GetItem(loader, 3), *folds = columns == NULL ? NULL : PyTuple_GetItem(loader, 4);
+    if (folds == NULL) return NULL;
     Rows *rows = (Rows *)PyType_GenericAlloc(type, 0);
     if (rows == NULL) return NULL;
     rows->are_rows = rows->fit = true;
-    Reading reading = {rows, arguments[1], arguments[2], arguments[4], -1, arguments[3] == Py_True};
-    Outcome outcome = read_items(&reading, arguments[0]);
+    Reading reading = {rows, keys, columns, text_of, folds == Py_True, -1};
+    Outcome outcome = read_list(&reading, items, form_of(form));
     if (outcome == READ) return (PyObject *)rows;
     Py_DECREF(rows);
     if (outcome == RAISED) return NULL;
     Py_RETURN_NONE;
 }
 
+/* read_rows(items, keys, loader, form, text_of) */
+static PyObject *read_rows(PyObject *module, Arguments arguments, Py_ssize_t count) {
+    Types *types = PyModule_GetState(module);
+    if (!are_many(count, 5)) return NULL;
+    return rows_of(types->rows, arguments[0], arguments[1], arguments[2], arguments[3], arguments[4]);
+}
+
 static PyMemberDef rows_members[] = {
     {"columns", T_OBJECT, offsetof(Rows, columns), READONLY, NULL},
     {"rows", T_PYSSIZET, offsetof(Rows, rows), READONLY, NULL},
-    {"are_rows", T_BOOL, offsetof(Rows, are_rows), READONLY, NULL},
-    {"have_keys", T_BOOL, offsetof(Rows, have_keys), READONLY, NULL},
-    {"fit", T_BOOL, offsetof(Rows, fit), READONLY, NULL},
-    {"keyed", T_BOOL, offsetof(Rows, keyed), 0, NULL},
     {NULL, 0, 0, 0, NULL},
 };
 static PyGetSetDef rows_properties[] = {
@@ -395,13 +435,7 @@ static PyGetSetDef rows_properties[] = {
     {"data", (getter)rows_data, NULL, NULL, NULL},
     {NULL, NULL, NULL, NULL, NULL},
 };
-static PyMethodDef rows_methods[] = {
-    {"read", (PyCFunction)(void (*)(void))rows_read, METH_FASTCALL | METH_CLASS, NULL},
-    {NULL, NULL, 0, NULL},
-};
-static PyType_Slot rows_slots[] = {
-    {Py_tp_dealloc, rows_dealloc}, {Py_tp_members, rows_members}, {Py_tp_getset, rows_properties}, {Py_tp_methods, rows_methods}, {0, NULL},
-};
+static PyType_Slot rows_slots[] = {{Py_tp_dealloc, rows_dealloc}, {Py_tp_members, rows_members}, {Py_tp_getset, rows_properties}, {0, NULL}};
 static PyType_Spec rows_spec = {"rudzkvano._native.Rows", sizeof(Rows), 0, Py_TPFLAGS_DEFAULT | Py_TPFLAGS_DISALLOW_INSTANTIATION, rows_slots};
 
 /* ---- Handles. */
@@ -631,7 +665,7 @@ static PyObject *handle_take_rows(Handle *self, Arguments arguments, Py_ssize_t 
     return none_or_refuse(self->library, code);
 }
 
-static int32_t take(Handle *self, size_t order, const Rows *rows) {
+static int32_t take_unlocked(Handle *self, size_t order, const Rows *rows) {
     const uint32_t *ends = (const uint32_t *)rows->ends.bytes;
     size_t columns = (size_t)rows->width, texts = rows->ends.length / 4;
     uint32_t row;
@@ -642,16 +676,40 @@ static int32_t take(Handle *self, size_t order, const Rows *rows) {
                                     rows->data.bytes, rows->data.length);
 }
 
+/* Lets other threads run only where it takes long. */
+static int32_t take(Handle *self, size_t order, const Rows *rows) {
+    if (rows->data.length < 16384) return take_unlocked(self, order, rows);
+    int32_t code;
+    Py_BEGIN_ALLOW_THREADS
+    code = take_unlocked(self, order, rows);
+    Py_END_ALLOW_THREADS
+    return code;
+}
+
 /* take(order, rows) */
 static PyObject *handle_take(Handle *self, Arguments arguments, Py_ssize_t count) {
     size_t order;
     if (!are_many(count, 2) || !read_number(arguments[0], &order)) return NULL;
     if (!PyObject_TypeCheck(arguments[1], self->library->rows)) return PyErr_SetString(PyExc_TypeError, "no rows"), NULL;
-    int32_t code;
-    Py_BEGIN_ALLOW_THREADS
-    code = take(self, order, (const Rows *)arguments[1]);
-    Py_END_ALLOW_THREADS
-    return none_or_refuse(self->library, code);
+    return none_or_refuse(self->library, take(self, order, (const Rows *)arguments[1]));
+}
+
+/* Whether a refusal may be one of rows in any order, of which more is to be said. */
+static bool is_misfit(int32_t code) { return code == RZ_NO_COLUMN || code == RZ_NO_KEY_COLUMN || code == RZ_NOT_ASKED; }
+
+/* take_returned(order, returned, form, text_of): takes what a batch function returned for an order. False, and nothing is taken, where it is to be read
+   otherwise. */
+static PyObject *handle_take_returned(Handle *self, Arguments arguments, Py_ssize_t count) {
+    size_t number;
+    if (!are_many(count, 4)) return NULL;
+    PyObject *place = PyTuple_GetItem(arguments[0], 0), *loader = place == NULL ? NULL : PyTuple_GetItem(arguments[0], 1);
+    PyObject *keys = loader == NULL ? NULL : PyTuple_GetItem(arguments[0], 2);
+    if (keys == NULL || !read_number(place, &number)) return NULL;
+    PyObject *rows = rows_of(self->library->rows, arguments[1], keys, loader, arguments[2], arguments[3]);
+    if (rows == NULL) return NULL;
+    int32_t code = rows == Py_None ? RZ_NO_COLUMN : take(self, number, (const Rows *)rows);
+    Py_DECREF(rows);
+    return code >= 0 || is_misfit(code) ? PyBool_FromLong(code >= 0) : refuse(self->library, code);
 }
 
 static PyObject *handle_text(Handle *self, PyObject *none) {
@@ -690,6 +748,7 @@ static PyMethodDef handle_methods[] = {
     METHOD(orders, METH_O),
     METHOD(take_rows, METH_FASTCALL),
     METHOD(take, METH_FASTCALL),
+    METHOD(take_returned, METH_FASTCALL),
     METHOD(text, METH_NOARGS),
     {NULL, NULL, 0, NULL},
 };
@@ -709,19 +768,42 @@ static PyType_Slot library_slots[] = {
 };
 static PyType_Spec library_spec = {"rudzkvano._native.Library", sizeof(Library), 0, Py_TPFLAGS_DEFAULT, library_slots};
 
+static PyTypeObject *added_type(PyObject *module, PyType_Spec *spec) {
+    PyTypeObject *type = (PyTypeObject *)PyType_FromModuleAndSpec(module, spec, NULL);
+    if (type != NULL && PyModule_AddType(module, type) < 0) Py_CLEAR(type);
+    return type;
+}
+
 static int add_types(PyObject *module) {
-    PyType_Spec *specs[] = {&library_spec, &handle_spec, &rows_spec};
-    for (size_t at = 0; at < sizeof specs / sizeof *specs; at++) {
-        PyObject *type = PyType_FromModuleAndSpec(module, specs[at], NULL);
-        if (type == NULL) return -1;
-        int added = PyModule_AddType(module, (PyTypeObject *)type);
-        Py_DECREF(type);
-        if (added < 0) return -1;
-    }
+    Types *types = PyModule_GetState(module);
+    types->rows = added_type(module, &rows_spec);
+    types->handle = types->rows == NULL ? NULL : added_type(module, &handle_spec);
+    PyTypeObject *library = types->handle == NULL ? NULL : added_type(module, &library_spec);
+    Py_XDECREF(library);
+    return library == NULL ? -1 : 0;
+}
+
+static int clear_module(PyObject *module) {
+    Types *types = PyModule_GetState(module);
+    Py_CLEAR(types->rows);
+    Py_CLEAR(types->handle);
     return 0;
 }
 
+static int traverse_module(PyObject *module, visitproc visit, void *arg) {
+    Types *types = PyModule_GetState(module);
+    Py_VISIT(types->rows);
+    Py_VISIT(types->handle);
+    return 0;
+}
+
+static PyMethodDef module_methods[] = {
+    {"read_rows", (PyCFunction)(void (*)(void))read_rows, METH_FASTCALL, NULL},
+    {NULL, NULL, 0, NULL},
+};
 static PyModuleDef_Slot module_slots[] = {{Py_mod_exec, add_types}, {0, NULL}};
-static PyModuleDef module = {PyModuleDef_HEAD_INIT, "rudzkvano._native", NULL, 0, NULL, module_slots, NULL, NULL, NULL};
+static PyModuleDef module = {
+    PyModuleDef_HEAD_INIT, "rudzkvano._native", NULL, sizeof(Types), module_methods, module_slots, traverse_module, clear_module, NULL,
+};
 
 PyMODINIT_FUNC PyInit__native(void) { return PyModuleDef_Init(&module); }

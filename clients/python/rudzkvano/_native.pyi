@@ -4,7 +4,7 @@ from collections.abc import Callable, Sequence
 from typing import Any
 
 from .library import Refused
-from .loaders import Loader, Order
+from .loaders import Form, Keys, Loader, Order
 
 class Rows:
     """What a batch function returned, as the library takes it."""
@@ -13,17 +13,8 @@ class Rows:
     rows: int
     ends: bytes
     data: bytes
-    # no item is None or a list
-    are_rows: bool
-    # they have the columns of the keys
-    have_keys: bool
-    # the items that are rows stand at their keys
-    fit: bool
-    # whether the library is to align them
-    keyed: bool
 
-    @classmethod
-    def read(cls, items: Any, keys: Sequence[Any], columns: tuple[str, ...], folds: bool, text_of: Callable[[Any], str], /) -> Rows | None: ...
+def read_rows(items: Any, keys: Keys, loader: Loader, form: Form | None, text_of: Callable[[Any], str], /) -> Rows | None: ...
 
 class Handle:
     """As `handles.Handle`."""
@@ -44,10 +35,9 @@ class Handle:
     def orders(self, loaders: Sequence[Loader], /) -> list[Order]: ...
     def take_rows(self, order: int, columns: int, rows: bytes, ends: bytes, data: bytes, /) -> None: ...
     def take(self, order: int, rows: Rows, /) -> None: ...
+    def take_returned(self, order: Order, returned: Any, form: Form | None, text_of: Callable[[Any], str], /) -> bool: ...
     def text(self) -> str: ...
 
 class Library:
-    def __init__(
-        self, find: Callable[[str], int | None], refused: type[Refused], order: type[Order], handle: type[Handle], rows: type[Rows], /
-    ) -> None: ...
+    def __init__(self, find: Callable[[str], int | None], refused: type[Refused], order: type[Order], /) -> None: ...
     def handle(self) -> Handle: ...

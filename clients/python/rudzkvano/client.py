@@ -12,8 +12,8 @@ from enum import IntEnum
 from functools import wraps
 from itertools import chain
 from time import perf_counter
-from types import MappingProxyType
-from typing import TYPE_CHECKING, Any, Concatenate, NamedTuple, ParamSpec, TypeAlias, TypeVar, Union
+from types import CoroutineType, MappingProxyType
+from typing import TYPE_CHECKING, Any, Concatenate, NamedTuple, NoReturn, ParamSpec, TypeAlias, TypeVar, Union
 
 from .errors import OnError, edit_errors, fault_text, has_extensions, message_of, parted
 from .handles import Opened, keys_of
@@ -64,13 +64,15 @@ def _alone(call: Callable[Concatenate[Client, _P], _T]) -> Callable[Concatenate[
 
 
 class Asks(NamedTuple):
-    """By what a client asks: the batch functions by the names of their loaders, how their lists are read, and what is told of rounds and errors."""
+    """How a client asks: how lists of batch functions are read, by the names of their loaders, and what is told of rounds and errors."""
 
-    functions: Loaders = MappingProxyType({})
     on_round: OnRound | None = None
     on_error: OnError | None = None
     introspect: Introspect | None = None
     forms: Mapping[str, Form] = MappingProxyType({})
+
+
+_PLAIN = Asks()
 
 
 class Client:
@@ -86,8 +88,16 @@ class Client:
     _has_extensions = False
     _max_answer: int | None = None
 
-    def __init__(self, opened: Opened, loaders: Sequence[Loader], asks: Asks, limits: bytes, max_answer: int | None) -> None:
-        self._opened, self._loaders, self._asks = opened, loaders, asks
+    def __init__(
+        self,
+        opened: Opened,
+        loaders: Sequence[Loader],
+        functions: Loaders,
+        asks: Asks = _PLAIN,
+        limits: bytes = b"",
+        max_answer: int | None = None,
+    ) -> None:
+        self._opened, self._loaders, self._functions, self._asks = opened, loaders, functions, asks
         self._handle = opened.handle.client(limits)
         if max_answer is not None:
             self.limit_answers(max_answer)
@@ -114,14 +124,14 @@ class Client:
 
     def answer_text(self, query: Query, variables: Variables = None, operation_name: str | None = None) -> str:
         """The text of the response."""
-        if (text := self._introspected(query, variables, operation_name)) is not None:
+        if self._asks.introspect and (text := self._introspected(self._asks.introspect, query, variables, operation_name)) is not None:
             return text
         self._start(query, variables, operation_name)
         return self._finish(self._text)
 
     async def answer_text_async(self, query: Query, variables: Variables = None, operation_name: str | None = None) -> str:
         """The text of the response, with batch functions that may be coroutines."""
-        if (text := self._introspected(query, variables, operation_name)) is not None:
+        if self._asks.introspect and (text := self._introspected(self._asks.introspect, query, variables, operation_name)) is not None:
             return text
         self._start(query, variables, operation_name)
         return await self._finish_async(self._text)
@@ -138,40 +148,57 @@ class Client:
 
     def _finish(self, result: Callable[[], _T]) -> _T:
         """Runs the rounds of what was begun, and lets the client go."""
+        handle, number = self._handle, 0
         try:
-            number = 0
-            while self._handle.advance():
-                orders = self._handle.orders(self._loaders)
+            while handle.advance():
+                orders = handle.orders(self._loaders)
                 number += 1
-                self._end_round(number, orders, list(map(self._run, orders)))
+                if len(orders) > 1 or self._asks.on_round is not None:
+                    self._end_round(number, orders, list(map(self._run, orders)))
+                    continue
+                try:
+                    returned = self._asked(orders[0])
+                    is_awaitable = hasattr(returned, "__await__")
+                except Exception as error:
+                    self._end(orders[0], error)
+                else:
+                    self._end_with(orders[0], _not_awaited(orders[0], returned) if is_awaitable else returned)
             return result()
         except BaseException:
             self._give_up()
             raise
         finally:
-            self._handle.release()
+            handle.release()
 
     async def _finish_async(self, result: Callable[[], _T]) -> _T:
         """Runs the rounds of what was begun, whose batch functions may be coroutines, and lets the client go."""
+        handle, number = self._handle, 0
         try:
-            number = 0
-            while self._handle.advance():
-                orders = self._handle.orders(self._loaders)
+            while handle.advance():
+                orders = handle.orders(self._loaders)
                 number += 1
-                outcomes = [await self._run_async(orders[0])] if len(orders) == 1 else await self._run_together(orders)
-                self._end_round(number, orders, outcomes)
+                if len(orders) > 1 or self._asks.on_round is not None:
+                    self._end_round(number, orders, await self._run_together(orders))
+                    continue
+                # a round of one batch, without a coroutine for it, which takes longer than many a batch does
+                try:
+                    returned = self._asked(orders[0])
+                    if type(returned) is CoroutineType or hasattr(returned, "__await__"):
+                        returned = await returned
+                except Exception as error:
+                    self._end(orders[0], error)
+                else:
+                    self._end_with(orders[0], returned)
             return result()
         except BaseException:
             self._give_up()
             raise
         finally:
-            self._handle.release()
+            handle.release()
 
-    def _introspected(self, query: Query, variables: Variables, operation_name: str | None) -> str | None:
+    def _introspected(self, introspect: Introspect, query: Query, variables: Variables, operation_name: str | None) -> str | None:
         """The answer to a query that is answered without this client."""
-        if self._asks.introspect is None:
-            return None
-        text = self._asks.introspect(query, variables, operation_name)
+        text = introspect(query, variables, operation_name)
         if text is not None and self._max_answer is not None and len(text.encode()) > self._max_answer:
             return '{"errors":[{"message":"answer too long"}]}'
         return text
@@ -187,10 +214,12 @@ class Client:
 
     def _start(self, query: Query, variables: Variables, operation_name: str | None) -> None:
         """Takes the client, and begins a request."""
-        self._take_alone()
+        if not self._handle.acquire():
+            raise self._opened.library.refused(BUSY)
         try:
             if isinstance(query, str) and operation_name != "":
-                self._begin_request(query, operation_name, variables)
+                given = None if variables is None else _json(variables)
+                self._handle.begin_request(self._opened.queries(), query, operation_name, given)
             elif isinstance(query, str):
                 self._begin(_json({"query": query, "operationName": "", "variables": variables}))
             elif variables is not None or operation_name is not None:
@@ -214,14 +243,10 @@ class Client:
         start = perf_counter()
         try:
             returned = self._asked(order)
-            reply = None if hasattr(returned, "__await__") else self._read(order, returned)
+            is_awaitable = hasattr(returned, "__await__")
         except Exception as error:
             return error, perf_counter() - start
-        if reply is not None:
-            return reply, perf_counter() - start
-        if isinstance(returned, Coroutine):
-            returned.close()
-        raise TypeError(f"the function of loader {order.loader.name} returned an awaitable, which only answer_async awaits")
+        return self._read(order, _not_awaited(order, returned) if is_awaitable else returned), perf_counter() - start
 
     async def _run_async(self, order: Order) -> _Outcome:
         """Leaves the client as it is: a batch function that goes on after it was cancelled does no harm."""
@@ -230,11 +255,13 @@ class Client:
             returned = self._asked(order)
             if hasattr(returned, "__await__"):
                 returned = await returned
-            return self._read(order, returned), perf_counter() - start
         except Exception as error:
             return error, perf_counter() - start
+        return self._read(order, returned), perf_counter() - start
 
     async def _run_together(self, orders: list[Order]) -> list[_Outcome]:
+        if len(orders) == 1:
+            return [await self._run_async(orders[0])]
         tasks = [asyncio.ensure_future(self._run_async(order)) for order in orders]
         try:
             outcomes: list[_Outcome] = await asyncio.gather(*tasks)
@@ -244,11 +271,20 @@ class Client:
                 task.cancel()
             raise
 
-    def _read(self, order: Order, returned: Any) -> AnyReply:
-        return reply_of(order.loader, order.keys, returned, self._asks.forms.get(order.loader.name))
+    def _form(self, order: Order) -> Form | None:
+        """How a list is read that a batch function returned, if somebody says it."""
+        forms = self._asks.forms
+        return forms.get(order.loader.name) if forms else None
+
+    def _read(self, order: Order, returned: Any) -> AnyReply | Exception:
+        """The reply that a batch function returned, or the error by which the batch fails."""
+        try:
+            return reply_of(order.loader, order.keys, returned, self._form(order))
+        except Exception as error:
+            return error
 
     def _asked(self, order: Order) -> Any:
-        function = self._asks.functions.get(order.loader.name)
+        function = self._functions.get(order.loader.name)
         if function is None:
             raise LookupError(f"no function for loader {order.loader.name}")
         return function(order.keys)
@@ -260,6 +296,11 @@ class Client:
             told = zip(orders, outcomes, failed)
             batches = [Ran(it.loader.name, it.keys, seconds * 1000, None if why is None else message_of(why)) for it, (_, seconds), why in told]
             self._asks.on_round(Round(number, batches))
+
+    def _end_with(self, order: Order, returned: Any) -> None:
+        """Takes what the batch function of an order returned."""
+        if not self._handle.take_returned(order, returned, self._form(order), text_of):
+            self._end(order, self._read(order, returned))
 
     def _end(self, order: Order, reply: AnyReply | Exception) -> Exception | None:
         """Takes what a batch returned. Returns the error by which it failed as a whole, if it did."""
@@ -309,15 +350,15 @@ class Client:
 
     def _reply(self, order: Order, returned: Any) -> None:
         """Takes the reply to an order: what a batch function returns."""
-        self._take(order, self._read(order, returned))
+        self._take(order, reply_of(order.loader, order.keys, returned, self._form(order)))
 
     def _take(self, order: Order, reply: AnyReply) -> None:
-        unread: Mapping[str, Unread] = {}
+        if not isinstance(reply, (Keyed, Reply)):
+            self._take_read(order, reply)
+            return
         if isinstance(reply, Keyed):
             self._take_keyed(order, reply)
             unread = unread_of(order.loader, order.keys, reply)
-        elif not isinstance(reply, Reply):
-            self._take_read(order, reply)
         else:
             columns, rows, ends, data, _, unread = self._with_faults(order.loader, reply)
             self._handle.take_rows(order.number, columns, packed(rows), ends, data)
@@ -472,12 +513,19 @@ class Client:
 
 
 _json = json.JSONEncoder(allow_nan=False).encode
-_DECODER = json.JSONDecoder()
+_scan_json = json.JSONDecoder().scan_once
 
 
 def read_json(text: str) -> Any:
     """What JSON text that begins and ends without blanks says."""
-    return _DECODER.raw_decode(text)[0]
+    return _scan_json(text, 0)[0]
+
+
+def _not_awaited(order: Order, returned: Any) -> NoReturn:
+    """Refuses an awaitable that a batch function returned, where nothing awaits it."""
+    if isinstance(returned, Coroutine):
+        returned.close()
+    raise TypeError(f"the function of loader {order.loader.name} returned an awaitable, which only answer_async awaits")
 
 
 def _key_of(texts: list[str]) -> Any:

@@ -11,7 +11,7 @@ from threading import Lock, local
 from typing import TYPE_CHECKING, Any
 
 from .library import SIZES, Argument, Library, cut, pointer_to, words
-from .loaders import Keys, Loader, Order
+from .loaders import Form, Keys, Loader, Order
 
 if TYPE_CHECKING:
     from . import _native
@@ -157,6 +157,10 @@ class Handle:
         """Takes the reply to an order: for each key how many rows it has, as words, and all texts with the words of their ends."""
         counted = rows, SIZES[len(rows) // 4]
         self._call(self._calls.rz_take_rows, SIZES[order], SIZES[columns], *counted, ends, SIZES[len(ends) // 4], data, SIZES[len(data)])
+
+    def take_returned(self, order: Order, returned: Any, form: Form | None, text_of: Callable[[Any], str]) -> bool:
+        """Takes what a batch function returned for an order, if that can be read here: not without the extension."""
+        return False
 
     def text(self) -> str:
         """The answer."""

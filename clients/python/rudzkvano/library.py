@@ -96,7 +96,7 @@ class Library:
         for name in ("rz_code_name", "rz_code_text", "rz_fault_text"):
             getattr(self.calls, name).restype = c_size_t
         # what makes handles by the extension
-        self.native: Any = NATIVE and NATIVE.Library(self._address_of, Refused, Order, NATIVE.Handle, NATIVE.Rows)
+        self.native: Any = NATIVE and NATIVE.Library(self._address_of, Refused, Order)
 
     def version(self) -> tuple[int, int, int]:
         return _parts(self.calls.rz_version())

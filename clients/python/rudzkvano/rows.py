@@ -23,7 +23,8 @@ if TYPE_CHECKING:
     from ._native import Rows
 
 
-_read_rows: Callable[..., Rows | None] = NATIVE and NATIVE.Rows.read
+# reads dicts by the extension, if it is there and no more is to be said of them
+_read_rows: Callable[[Any, Keys, Loader, Form | None, Callable[[Any], str]], Rows | None] = NATIVE.read_rows if NATIVE else lambda *_: None
 
 
 class Unread(NamedTuple):
@@ -99,32 +100,15 @@ AnyReply: TypeAlias = Union["Rows", Reply, Keyed]
 def reply_of(loader: Loader, keys: Keys, returned: Any, form: Form | None = None) -> AnyReply:
     """The reply that a batch function returned for these keys. `form` is how a bare list is read, if somebody says it. Raises TypeError or ValueError
     for what is none."""
-    read = None if NATIVE is None else _rows_of_dicts(loader, keys, returned, form)
+    if type(returned) is list:
+        read = _read_rows(returned, keys, loader, form, text_of)
+    elif isinstance(returned, Aligned):
+        read = _read_rows(returned.items, keys, loader, "aligned", text_of)
+    elif isinstance(returned, InAnyOrder):
+        read = _read_rows(returned.rows, keys, loader, "in_any_order", text_of)
+    else:
+        read = None
     return read or _texts_of_rows(loader, keys, returned, form)
-
-
-def _rows_of_dicts(loader: Loader, keys: Keys, returned: Any, form: Form | None) -> Rows | None:
-    """The reply as the extension reads it: dicts whose values all have a text, with nothing more to be said of them; or None."""
-    if type(returned) is not list:
-        if isinstance(returned, Aligned):
-            returned, form = returned.items, "aligned"
-        elif isinstance(returned, InAnyOrder):
-            returned, form = returned.rows, "in_any_order"
-        if type(returned) is not list:
-            return None
-    if not loader.columns:
-        # as the rows of one key
-        return None if form == "aligned" else _read_rows([returned], [], (), False, text_of)
-    rows = _read_rows(returned, keys, loader.columns, loader.folds, text_of)
-    if rows is None:
-        return None
-    are_many = len(returned) == len(keys)
-    if form == "aligned":
-        return rows if are_many else None
-    if rows.are_rows and rows.have_keys:
-        rows.keyed = not (rows.fit and are_many)
-        return rows
-    return rows if form is None and are_many and (rows.fit or not rows.have_keys) else None
 
 
 def _texts_of_rows(loader: Loader, keys: Keys, returned: Any, form: Form | None) -> Reply | Keyed:

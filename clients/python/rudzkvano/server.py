@@ -97,7 +97,11 @@ class Server:
         **options: Unpack[Options],
     ) -> Any:
         """The response, with batch functions that may be coroutines. The batches of a round run at the same time."""
-        return read_json(await self.answer_text_async(query, loaders, variables, operation_name, **options))
+        client = self._made(loaders, **options) if options else self._plain(loaders)
+        try:
+            return read_json(await client.answer_text_async(query, variables, operation_name))
+        finally:
+            client._handle.close()
 
     def answer_text(
         self,
@@ -108,8 +112,11 @@ class Server:
         **options: Unpack[Options],
     ) -> str:
         """The text of the response."""
-        with self.client(loaders, **options) as client:
+        client = self._made(loaders, **options) if options else self._plain(loaders)
+        try:
             return client.answer_text(query, variables, operation_name)
+        finally:
+            client._handle.close()
 
     async def answer_text_async(
         self,
@@ -120,8 +127,11 @@ class Server:
         **options: Unpack[Options],
     ) -> str:
         """The text of the response, with batch functions that may be coroutines."""
-        with self.client(loaders, **options) as client:
+        client = self._made(loaders, **options) if options else self._plain(loaders)
+        try:
             return await client.answer_text_async(query, variables, operation_name)
+        finally:
+            client._handle.close()
 
     def client(self, loaders: Loaders, **options: Unpack[Options]) -> Client:
         """A client with a memory of its own, which goes on from request to request. It knows nothing."""
@@ -138,21 +148,26 @@ class Server:
     def __exit__(self, *_: object) -> None:
         self.close()
 
+    def _plain(self, loaders: Loaders) -> Client:
+        """A client without options, as the most requests want it."""
+        if not self._names.issuperset(loaders):
+            self._check(loaders)
+        return Client(self._opened, self.loaders, loaders)
+
     def _made(self, loaders: Loaders, max_batch: MaxBatch = None, max_answer: int | None = None, **asks: Unpack[_AskOptions]) -> Client:
-        return Client(self._opened, self.loaders, self._asks(loaders, **asks), self._limits(max_batch), max_answer)
+        self._check(loaders)
+        return Client(self._opened, self.loaders, loaders, self._asks(**asks), self._limits(max_batch), max_answer)
 
     def _asks(
         self,
-        loaders: Loaders,
         on_round: OnRound | None = None,
         on_error: OnError | None = None,
         introspection: GraphQL | None = None,
         rows: Forms = None,
     ) -> Asks:
-        self._check(loaders)
         forms = checked_forms(rows, self._names)
         self._check(forms)
-        return Asks(loaders, on_round, on_error, self._introspect(introspection) if introspection else None, forms)
+        return Asks(on_round, on_error, self._introspect(introspection) if introspection else None, forms)
 
     def _introspect(self, graphql: GraphQL) -> Introspect:
         """What answers introspection by this module."""
