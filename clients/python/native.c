@@ -212,7 +212,7 @@ static PyObject *rows_data(Rows *self, void *none) {
     return bytes_object(&self->data);
 }
 
-/* How rows are read. OTHERWISE: not here, and nothing is raised. */
+/* How rows are read, or JSON is written. OTHERWISE: not here, and nothing is raised. */
 typedef enum { READ, OTHERWISE, RAISED } Outcome;
 
 typedef struct {
@@ -437,6 +437,83 @@ static PyGetSetDef rows_properties[] = {
 };
 static PyType_Slot rows_slots[] = {{Py_tp_dealloc, rows_dealloc}, {Py_tp_members, rows_members}, {Py_tp_getset, rows_properties}, {0, NULL}};
 static PyType_Spec rows_spec = {"rudzkvano._native.Rows", sizeof(Rows), 0, Py_TPFLAGS_DEFAULT | Py_TPFLAGS_DISALLOW_INSTANTIATION, rows_slots};
+
+/* ---- JSON of variables. */
+
+static Outcome put(Buffer *out, const char *text, size_t length) { return append(out, text, length) ? READ : RAISED; }
+
+static Outcome put_string(Buffer *out, PyObject *text) {
+    Py_ssize_t length;
+    const char *bytes = PyUnicode_AsUTF8AndSize(text, &length);
+    if (bytes == NULL) return outcome_of_error();
+    Outcome outcome = put(out, "\"", 1);
+    for (const char *end = bytes + length; outcome == READ && bytes < end;) {
+        const char *start = bytes;
+        while (bytes < end && (unsigned char)*bytes >= 0x20 && *bytes != '"' && *bytes != '\\') bytes++;
+        outcome = put(out, start, (size_t)(bytes - start));
+        if (bytes == end || outcome != READ) continue;
+        unsigned char escaped = (unsigned char)*bytes++;
+        char escape[] = {'\\', 'u', '0', '0', "0123456789abcdef"[escaped >> 4], "0123456789abcdef"[escaped & 15]};
+        outcome = put(out, escape, sizeof escape);
+    }
+    return outcome == READ ? put(out, "\"", 1) : outcome;
+}
+
+static Outcome put_value(Buffer *out, PyObject *value);
+
+static Outcome put_members(Buffer *out, PyObject *members) {
+    Outcome outcome = put(out, "{", 1);
+    PyObject *name, *value;
+    Py_ssize_t step = 0;
+    for (bool is_first = true; outcome == READ && PyDict_Next(members, &step, &name, &value); is_first = false) {
+        if (!is_first) outcome = put(out, ",", 1);
+        if (outcome == READ) outcome = PyUnicode_CheckExact(name) ? put_string(out, name) : OTHERWISE;
+        if (outcome == READ) outcome = put(out, ":", 1);
+        if (outcome == READ) outcome = put_value(out, value);
+    }
+    return outcome == READ ? put(out, "}", 1) : outcome;
+}
+
+static Outcome put_elements(Buffer *out, PyObject *elements) {
+    Outcome outcome = put(out, "[", 1);
+    for (Py_ssize_t at = 0; outcome == READ && at < PyList_Size(elements); at++) {
+        if (at > 0) outcome = put(out, ",", 1);
+        if (outcome == READ) outcome = put_value(out, PyList_GetItem(elements, at));
+    }
+    return outcome == READ ? put(out, "]", 1) : outcome;
+}
+
+static Outcome put_number(Buffer *out, PyObject *value) {
+    int overflow;
+    long long number = PyLong_AsLongLongAndOverflow(value, &overflow);
+    if (overflow != 0) return OTHERWISE;
+    return append_number(out, number) ? READ : RAISED;
+}
+
+/* No code of Python runs meanwhile, so nothing changes. */
+static Outcome put_value(Buffer *out, PyObject *value) {
+    if (PyUnicode_CheckExact(value)) return put_string(out, value);
+    if (PyLong_CheckExact(value)) return put_number(out, value);
+    if (value == Py_None) return put(out, "null", 4);
+    if (value == Py_True) return put(out, "true", 4);
+    if (value == Py_False) return put(out, "false", 5);
+    if (!PyDict_CheckExact(value) && !PyList_CheckExact(value)) return OTHERWISE;
+    if (Py_EnterRecursiveCall(" in variables")) return outcome_of_error();
+    Outcome outcome = PyDict_CheckExact(value) ? put_members(out, value) : put_elements(out, value);
+    Py_LeaveRecursiveCall();
+    return outcome;
+}
+
+/* json_of(value): JSON text of dicts, lists, texts, whole numbers, booleans and None; or None, where there is something else. */
+static PyObject *json_of(PyObject *module, PyObject *value) {
+    (void)module;
+    Buffer out = {0};
+    Outcome outcome = put_value(&out, value);
+    PyObject *text = outcome == READ ? bytes_object(&out) : NULL;
+    PyMem_Free(out.bytes);
+    if (outcome == OTHERWISE) Py_RETURN_NONE;
+    return text;
+}
 
 /* ---- Handles. */
 
@@ -799,6 +876,7 @@ static int traverse_module(PyObject *module, visitproc visit, void *arg) {
 
 static PyMethodDef module_methods[] = {
     {"read_rows", (PyCFunction)(void (*)(void))read_rows, METH_FASTCALL, NULL},
+    {"json_of", json_of, METH_O, NULL},
     {NULL, NULL, 0, NULL},
 };
 static PyModuleDef_Slot module_slots[] = {{Py_mod_exec, add_types}, {0, NULL}};

@@ -21,6 +21,7 @@ from .library import BUSY, COUNTS, NO_COLUMN, NO_KEY_COLUMN, NOT_ASKED, SIZES, A
 from .library import words, words_of
 from .limits import checked_limit
 from .loaders import Batch, Form, Keys, Loaded, Loader, Loaders, OnRound, Order, Ran, Round
+from .native import NATIVE
 from .rows import AnyReply, Keyed, Misfit, Reply, Unread, item_of, outcomes_of, reply_of, text_of, unread_of, without_casts
 
 if TYPE_CHECKING:
@@ -218,14 +219,14 @@ class Client:
             raise self._opened.library.refused(BUSY)
         try:
             if isinstance(query, str) and operation_name != "":
-                given = None if variables is None else _json(variables)
+                given = None if variables is None else _json_of(variables)
                 self._handle.begin_request(self._opened.queries(), query, operation_name, given)
             elif isinstance(query, str):
-                self._begin(_json({"query": query, "operationName": "", "variables": variables}))
+                self._begin(_json_of({"query": query, "operationName": "", "variables": variables}))
             elif variables is not None or operation_name is not None:
                 raise TypeError("a request has its variables and its operationName in itself")
             else:
-                self._begin(query if isinstance(query, bytes) else _json(query))
+                self._begin(query if isinstance(query, bytes) else _json_of(query))
         except BaseException:
             self._handle.release()
             raise
@@ -329,7 +330,7 @@ class Client:
 
     def _begin_request(self, query: str, operation_name: str | None = None, variables: Variables = None) -> None:
         """Begins the answer to a query."""
-        given = None if variables is None else _json(variables)
+        given = None if variables is None else _json_of(variables)
         self._handle.begin_request(self._opened.queries(), query, operation_name, given)
 
     def _begin_load(self, loader: str, keys: Iterable[Any]) -> None:
@@ -512,8 +513,15 @@ class Client:
         raise ValueError(f"the bindings have no loader {name}")
 
 
-_json = json.JSONEncoder(allow_nan=False).encode
-_scan_json = json.JSONDecoder().scan_once
+_encode_json = json.JSONEncoder(allow_nan=False).encode
+
+
+def _json_of(value: object) -> bytes:
+    """JSON text. Raises TypeError or ValueError for what has none."""
+    return (NATIVE and NATIVE.json_of(value)) or _encode_json(value).encode()
+
+
+_scan_json: Callable[[str, int], tuple[Any, int]] = json.JSONDecoder().scan_once  # type: ignore[attr-defined]
 
 
 def read_json(text: str) -> Any:

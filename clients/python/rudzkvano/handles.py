@@ -124,7 +124,7 @@ class Handle:
         text = _bytes_of(line)
         self._call(self._calls.rz_begin, queries._argument, text, SIZES[len(text)])
 
-    def begin_request(self, queries: Handle, query: str, operation: str | None, variables: str | None) -> None:
+    def begin_request(self, queries: Handle, query: str, operation: str | None, variables: bytes | None) -> None:
         """Begins the answer to a query."""
         text, name, given = _bytes_of(query), _bytes_of(operation), _bytes_of(variables)
         texts = text, SIZES[len(text)], name, SIZES[len(name)], given, SIZES[len(given)]
