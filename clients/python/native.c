@@ -119,8 +119,9 @@ static bool read_text(PyObject *object, Text *text) {
 #define MEMBER(name) __typeof__(rz_##name) *name;
 typedef struct {
     PyObject_HEAD
-    PyObject *refused, *order; /* the classes of errors and of orders */
-    PyTypeObject *handle, *rows;
+    PyObject *refused; /* the class of errors */
+    PyTypeObject *order, *handle, *rows;
+    newfunc make_tuple;
     CALLS(MEMBER)
 } Library;
 
@@ -154,11 +155,12 @@ static void *found(PyObject *find, const char *name) {
 static int library_init(Library *self, PyObject *arguments, PyObject *named) {
     PyObject *find, *refused, *order;
     Types *types = PyType_GetModuleState(Py_TYPE(self));
-    if (types == NULL || named != NULL || self->refused != NULL || !PyArg_ParseTuple(arguments, "OOO", &find, &refused, &order)) return -1;
+    if (types == NULL || named != NULL || self->refused != NULL || !PyArg_ParseTuple(arguments, "OOO!", &find, &refused, &PyType_Type, &order)) return -1;
     self->refused = Py_NewRef(refused);
-    self->order = Py_NewRef(order);
+    self->order = (PyTypeObject *)Py_NewRef(order);
     self->handle = (PyTypeObject *)Py_NewRef(types->handle);
     self->rows = (PyTypeObject *)Py_NewRef(types->rows);
+    self->make_tuple = (newfunc)PyType_GetSlot(&PyTuple_Type, Py_tp_new);
     return CALLS(FIND) true ? 0 : -1;
 }
 
@@ -272,38 +274,38 @@ static Outcome end_text(Rows *rows) {
     return append_word(&rows->ends, rows->data.length) ? READ : RAISED;
 }
 
+static bool is_same_name(PyObject *one, PyObject *other) {
+    return one == other || (PyUnicode_CheckExact(one) && PyUnicode_CheckExact(other) && PyUnicode_Compare(one, other) == 0);
+}
+
 /* Finds the columns of the keys among those of the rows. */
 static void find_keys(Reading *reading) {
-    PyObject *columns = reading->rows->columns;
-    Py_ssize_t count = PyTuple_Size(reading->wanted), found = 0, place = -1;
+    Rows *rows = reading->rows;
+    Py_ssize_t count = PyTuple_Size(reading->wanted), found = 0, place = 0;
     for (Py_ssize_t at = 0; at < count; at++) {
-        place = PySequence_Index(columns, PyTuple_GetItem(reading->wanted, at));
-        if (place < 0) PyErr_Clear();
-        found += place >= 0;
+        PyObject *wanted = PyTuple_GetItem(reading->wanted, at);
+        for (place = 0; place < rows->width && !is_same_name(PyTuple_GetItem(rows->columns, place), wanted);) place++;
+        found += place < rows->width;
     }
-    reading->rows->have_keys = found == count;
-    if (count == 1 && !reading->folds) reading->place = place;
+    rows->have_keys = found == count;
+    if (count == 1 && found == 1 && !reading->folds) reading->place = place;
 }
 
 /* The columns of all rows, which are those of the first one, and their names as the first texts. */
 static Outcome read_columns(Reading *reading, PyObject *row) {
     Rows *rows = reading->rows;
-    PyObject *names = PyDict_Keys(row);
-    if (names == NULL) return RAISED;
-    rows->columns = PyList_AsTuple(names);
-    Py_DECREF(names);
+    rows->width = PyDict_Size(row);
+    rows->columns = PyTuple_New(rows->width);
     if (rows->columns == NULL) return RAISED;
-    rows->width = PyTuple_Size(rows->columns);
-    for (Py_ssize_t at = 0; at < rows->width; at++) {
-        PyObject *name = PyTuple_GetItem(rows->columns, at);
-        if (!PyUnicode_CheckExact(name)) return OTHERWISE;
-        Outcome outcome = append_text(&rows->data, name);
+    PyObject *name, *value;
+    Outcome outcome = rows->width == 0 ? OTHERWISE : READ;
+    for (Py_ssize_t step = 0, at = 0; outcome == READ && PyDict_Next(row, &step, &name, &value); at++) {
+        PyTuple_SetItem(rows->columns, at, Py_NewRef(name));
+        outcome = PyUnicode_CheckExact(name) ? append_text(&rows->data, name) : OTHERWISE;
         if (outcome == READ) outcome = end_text(rows);
-        if (outcome != READ) return outcome;
     }
-    if (rows->width == 0) return OTHERWISE;
-    find_keys(reading);
-    return READ;
+    if (outcome == READ) find_keys(reading);
+    return outcome;
 }
 
 /* Whether these bytes are the key of this place. */
@@ -325,7 +327,7 @@ static Outcome read_row(Reading *reading, PyObject *row, Py_ssize_t place) {
     Py_ssize_t step = 0, at = 0;
     for (; outcome == READ && PyDict_Next(row, &step, &name, &value); at++) {
         PyObject *column = at < rows->width ? PyTuple_GetItem(rows->columns, at) : NULL;
-        if (column == NULL || (name != column && (!PyUnicode_CheckExact(name) || PyUnicode_Compare(name, column) != 0))) return OTHERWISE;
+        if (column == NULL || !is_same_name(name, column)) return OTHERWISE;
         size_t start = rows->data.length;
         outcome = append_value(reading, value);
         if (outcome == READ) outcome = end_text(rows);
@@ -689,15 +691,17 @@ static PyObject *next_keys(Round *round) {
     return keys;
 }
 
-/* Order(number, loader, keys): the class is that of a named tuple, and is made as a tuple. */
+/* Order(number, loader, keys): its class is that of a named tuple, and it is made as a tuple is. */
 static PyObject *next_order(Library *library, Round *round, Py_ssize_t number, PyObject *loaders) {
-    PyObject *loader = PySequence_GetItem(loaders, *round->loaders++);
-    PyObject *keys = loader == NULL ? NULL : next_keys(round), *order = NULL;
-    PyObject *parts = keys == NULL ? NULL : Py_BuildValue("((nOO))", number, loader, keys);
-    if (parts != NULL) order = ((newfunc)PyType_GetSlot(&PyTuple_Type, Py_tp_new))((PyTypeObject *)library->order, parts, NULL);
+    PyObject *place = PyLong_FromSsize_t(number), *loader = PySequence_GetItem(loaders, *round->loaders++), *keys = next_keys(round);
+    PyObject *parts = place != NULL && loader != NULL && keys != NULL ? PyTuple_Pack(3, place, loader, keys) : NULL;
+    PyObject *arguments = parts == NULL ? NULL : PyTuple_Pack(1, parts), *order = NULL;
+    if (arguments != NULL) order = library->make_tuple(library->order, arguments, NULL);
+    Py_XDECREF(arguments);
     Py_XDECREF(parts);
-    Py_XDECREF(keys);
+    Py_XDECREF(place);
     Py_XDECREF(loader);
+    Py_XDECREF(keys);
     return order;
 }
 

@@ -274,8 +274,7 @@ class Client:
 
     def _form(self, order: Order) -> Form | None:
         """How a list is read that a batch function returned, if somebody says it."""
-        forms = self._asks.forms
-        return forms.get(order.loader.name) if forms else None
+        return self._asks.forms.get(order.loader.name)
 
     def _read(self, order: Order, returned: Any) -> AnyReply | Exception:
         """The reply that a batch function returned, or the error by which the batch fails."""
@@ -300,7 +299,8 @@ class Client:
 
     def _end_with(self, order: Order, returned: Any) -> None:
         """Takes what the batch function of an order returned."""
-        if not self._handle.take_returned(order, returned, self._form(order), text_of):
+        form = self._form(order) if self._asks.forms else None
+        if not self._handle.take_returned(order, returned, form, text_of):
             self._end(order, self._read(order, returned))
 
     def _end(self, order: Order, reply: AnyReply | Exception) -> Exception | None:
