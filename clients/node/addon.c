@@ -16,7 +16,7 @@
 
 /* Codes beside those of the library. NEED_ROOM: a round is out that needs as many words as word 1 says; `look` reads it then. TEXT_TOO_LONG: a
    text is longer than a string may be. Where an answer took more than KEPT_BYTES, the rest is given back. */
-enum { HEAD = 8, NEED_ROOM = 3, TEXT_TOO_LONG = -1000, MOST_ARGUMENTS = 5, KEPT_BYTES = 1 << 20, MOST_IDLE = 16 };
+enum { HEAD = 8, NEED_ROOM = 3, TEXT_TOO_LONG = -1000, MOST_ARGUMENTS = 5, KEPT_BYTES = 1 << 20 };
 
 /* What one environment (Node's main thread, or a worker) shares with its JavaScript: the words, and the page that a reply is put together in, which
    has words and bytes. `bytes` is where other texts are put together and taken apart. `most_units` is how many UTF-16 units a string may have. */
@@ -27,19 +27,18 @@ typedef struct {
     size_t words_len, page_len, page_bytes_len, room, most_units;
 } border;
 
-/* The queries of a server, by which its clients begin requests: freed with the last of these `users`, which are the server and the clients.
-   `idle` are clients without limits that know nothing, for those that answer once: to start one again takes less than to make it. */
+/* The queries of a server, by which its clients begin requests: freed with the last of these `users`, which are the server and the clients. */
 typedef struct {
-    rz_handle handle, idle[MOST_IDLE];
-    size_t users, idle_count;
+    rz_handle handle;
+    size_t users;
 } queries;
 
-/* A server or a client, or nothing yet. `once`: the client is let go as soon as its answer is read, or the request is given up. `limited`: it has
-   limits. `loads`: it was begun to load keys last, and not to answer a request. */
+/* A server or a client, or nothing yet. `once`: the client is closed as soon as its answer is read, or the request is given up. `loads`: it was
+   begun to load keys last, and not to answer a request. */
 typedef struct {
     rz_handle handle;
     queries *queries;
-    bool once, limited, loads;
+    bool once, loads;
 } held;
 
 typedef struct {
@@ -145,49 +144,24 @@ static napi_value string_of(napi_env env, border *border, size_t len, uint32_t *
 
 /* Closes a server or a client. */
 static void let_go(held *held) {
-    queries *queries = held->queries;
     rz_close(&held->handle);
+    if (held->queries && !--held->queries->users) {
+        rz_close(&held->queries->handle);
+        free(held->queries);
+    }
     held->queries = NULL;
-    if (!queries || --queries->users) return;
-    while (queries->idle_count) rz_close(&queries->idle[--queries->idle_count]);
-    rz_close(&queries->handle);
-    free(queries);
 }
 
-/* Lets go a client that has answered. One without limits stands by, if it can, and knows nothing any more. */
-static void end(held *client) {
-    queries *queries = client->queries;
-    bool idles = !client->limited && queries->idle_count < MOST_IDLE && rz_restart(&client->handle) == RZ_DONE;
-    if (idles) {
-        queries->idle[queries->idle_count++] = client->handle;
-        client->handle = (rz_handle){0};
-    }
-    let_go(client);
-}
-
-/* Makes a client of a server, or takes one that stands by. The head has the number of limits, which come after it, and how many bytes an answer may
-   have, in two words. */
-static int32_t make_client(const uint32_t *words, held *client, held *server) {
-    queries *queries = server->queries;
-    size_t most = (size_t)words[2] << 32 | words[1];
-    client->limited = words[0] || most;
-    if (!client->limited && queries->idle_count) {
-        client->handle = queries->idle[--queries->idle_count];
-        return RZ_DONE;
-    }
-    int32_t code = rz_client(&server->handle, &client->handle, words + HEAD, words[0]);
-    return code < 0 || !most ? code : rz_limit_answers(&client->handle, most);
-}
-
-/* Opens a client of a server, which is open. */
+/* Opens a client of a server. The head has the number of limits, which come after it, and how many bytes an answer may have, in two words. */
 static int32_t open_client(border *border, held *client, held *server) {
-    if (HEAD + (size_t)border->words[0] > border->words_len) return RZ_BAD_SIZE;
-    if (!server->queries) return RZ_BAD_HANDLE;
-    int32_t code = make_client(border->words, client, server);
+    uint32_t *words = border->words;
+    if (HEAD + (size_t)words[0] > border->words_len) return RZ_BAD_SIZE;
+    int32_t code = rz_client(&server->handle, &client->handle, words + HEAD, words[0]);
     if (code < 0) return code;
     client->queries = server->queries;
     client->queries->users++;
-    return RZ_DONE;
+    size_t most = (size_t)words[2] << 32 | words[1];
+    return most ? rz_limit_answers(&client->handle, most) : RZ_DONE;
 }
 
 /* Opens the client of a call that names its server; else it is to be open. */
@@ -224,7 +198,7 @@ static napi_value read_answer(napi_env env, border *border, held *client, const 
     if (!make_room(border, sizes->answer)) return tell(border, RZ_NO_MEMORY);
     int32_t code = rz_answer(&client->handle, border->bytes, sizes->answer);
     if (code < 0) return tell(border, code);
-    if (client->once) end(client);
+    if (client->once) let_go(client);
     tell(border, RZ_DONE);
     napi_value answer = string_of(env, border, sizes->answer, NULL, 0);
     give_back(border);

@@ -46,18 +46,6 @@ describe('options', () => {
     }
   });
 
-  it('knows nothing of other answers, one after another or at the same time', async () => {
-    const { calls, loaders } = counted({ userById: async (keys) => (await wait(1), users.userById(keys)) });
-    const ask = () => server.answerText({ query: '{user(id:1){name}}' }, loaders);
-    for (let count = 1; count <= 20; count += 19) {
-      for (let turn = 0; turn < 2; turn++) await Promise.all(Array.from({ length: count }, ask));
-    }
-    assert.deepEqual(calls, Array(42).fill(['userById', ['1']]));
-    const client = server.client(loaders);
-    assert.deepEqual(client.log('userById'), []);
-    client.close();
-  });
-
   it('onRound is told of each round', async () => {
     const rounds = [];
     const loaders = { ...users, userById: async () => { await wait(20); throw new Error('down'); } };
