@@ -8,8 +8,8 @@ use books::{Books, fetch_books};
 use futures::executor::block_on;
 use server::{
     ByHand, ClientAdvance, ClientSession, CountedDevice, FetchFault, HandedIn, Item, Key,
-    LoadAdvance, LoadByHand, Outcome, Pending, PlannedLoad, Request, Row, Server, Sessions, Workers, serve,
-    serve_with, source_fn,
+    LoadAdvance, LoadByHand, Outcome, Pending, PlannedLoad, Request, Row, Server, Sessions,
+    Workers, serve, serve_with, source_fn,
 };
 use std::alloc::{AllocError, AllocGlobal, Global};
 use std::random::RandomSource;
