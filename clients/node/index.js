@@ -4,7 +4,6 @@
 //     const { data, errors } = await server.answer({ query, variables }, { userById: (ids) => selectUsers(ids) });
 'use strict';
 
-const { readAnswer } = require('./answer.js');
 const { addon, border, call, code, readLoaders, readLog, HEAD, RudzkvanoError } = require('./border.js');
 const { executor } = require('./execute.js');
 const { LoadFault, PublicError } = require('./faults.js');
@@ -72,7 +71,7 @@ class Server {
 
   /** Answers a request, and knows nothing of other requests. */
   answer(request, loaders, options) {
-    return this.#answer(request, loaders, options, readAnswer);
+    return this.#answer(request, loaders, options, JSON.parse);
   }
 
   /** The same, as the text of the response. */
@@ -158,7 +157,7 @@ class Client {
   }
 
   answer(request, options) {
-    return this.#answer(request, options, readAnswer);
+    return this.#answer(request, options, JSON.parse);
   }
 
   answerText(request, options) {
