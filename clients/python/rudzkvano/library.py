@@ -5,10 +5,11 @@ from __future__ import annotations
 import ctypes
 import os
 from array import array
-from collections.abc import Callable, Iterable, Mapping, Sequence
+from collections.abc import Callable, Mapping, Sequence
 from ctypes import c_size_t, c_uint32, c_void_p
 from itertools import accumulate
 from pathlib import Path
+from struct import pack
 from typing import Any, NewType
 
 from .loaders import Order
@@ -164,9 +165,9 @@ def buffers(*arrays: array[int]) -> list[Argument]:
     return [argument for elements in arrays for argument in (pointer_to(elements), SIZES[len(elements)])]
 
 
-def packed(numbers: Iterable[int]) -> bytes:
+def packed(numbers: Sequence[int]) -> bytes:
     """Numbers as words."""
-    return array("I", numbers).tobytes()
+    return pack(f"{len(numbers)}I", *numbers)
 
 
 def words_of(numbers: Sequence[int]) -> tuple[bytes, Argument]:
@@ -184,7 +185,7 @@ def flat(texts: list[str]) -> tuple[bytes, bytes]:
     whole = "".join(texts)
     data = whole.encode()
     lengths = map(len, texts) if len(data) == len(whole) else map(len, map(str.encode, texts))
-    return packed(accumulate(lengths)), data
+    return packed(list(accumulate(lengths))), data
 
 
 def numbers_of(ends: bytes) -> list[int]:

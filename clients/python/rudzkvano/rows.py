@@ -74,7 +74,7 @@ class Keyed(NamedTuple):
 def _and_faults(ends: bytes, data: bytes, texts: list[str]) -> tuple[bytes, bytes]:
     """The texts of a reply, and then those of the faults."""
     fault_ends, fault_data = flat(texts)
-    return ends + packed(len(data) + end for end in numbers_of(fault_ends)), data + fault_data
+    return ends + packed([len(data) + end for end in numbers_of(fault_ends)]), data + fault_data
 
 
 class Misfit(ValueError):

@@ -187,4 +187,4 @@ class Server:
         self._check(by_name)
         for name, limit in by_name.items():
             checked_limit(f"max_batch of loader {name}", limit, 65535)
-        return packed(by_name.get(loader.name, 0) for loader in self.loaders)
+        return packed([by_name.get(loader.name, 0) for loader in self.loaders])

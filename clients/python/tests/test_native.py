@@ -5,11 +5,16 @@ import random
 import unittest
 from datetime import date
 from decimal import Decimal
+from importlib import import_module
 from typing import Any
 
 import worlds
-from rudzkvano.native import NATIVE
 from rudzkvano.rows import _texts_of_rows, text_of
+
+try:
+    NATIVE: Any = import_module("rudzkvano._native")
+except ImportError:
+    NATIVE = None
 
 NUMBERS = [0, -1, 2**63 - 1, -(2**63), 2**63]
 TEXTS = ["", "1", "Ada", 'é"\\\n\x00', "\U0001f600", "\ud800"]
