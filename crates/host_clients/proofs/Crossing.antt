@@ -4,7 +4,6 @@ use denote.Param.Send.{IsSend, sendable}
 use denote.Param.SendFields.{declared_send, variants_send, VariantsHave}
 use Rattle.std.proofs.Crossing as over
 use Rattle.load_rounds.proofs.keys.KeysToLoad.TheSendSync as keys_cross
-use Rattle.load_rounds.specs.contracts.keys.KeysToLoad as keys
 use Rattle.rounds_by_hand.proofs.hand.Hand.TheSendSync as hand_crosses
 use Rattle.server.proofs.Crossing.{by_hand_send as request_by_hand_send, client_send, queries_send, server_send}
 use Rattle.server.specs.contracts.client.ClientSession as session

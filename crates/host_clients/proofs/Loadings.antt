@@ -2,7 +2,6 @@
 use Rattle.std.proofs.Common.{◌≡◌, ◌∙◌, ℕ, List, [], map, refl, sym, ap, subst}
 use Rattle.std.specs.Prelude.{◌⊎◌, Result, IfSome, slice_get}
 use Rattle.std.specs.Global.{Vec}
-use Rattle.load_memory.specs.Keys.{KeyOf}
 use Rattle.load_memory.specs.Outcomes.{outcome_of}
 use Rattle.load_memory.specs.declared.outcome.Item.{Item}
 use Rattle.load_memory.specs.declared.outcome.Outcome.{Outcome}

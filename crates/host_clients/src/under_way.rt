@@ -1,5 +1,5 @@
 //! Requests on their way to the answer.
-ghost use Rattle.std.specs.Prelude.{◌≡◌, ◌≤◌, ◌++◌, ◌∷◌, [], Some, IfOk, IfErr, IfSome, IfNone, OnOk, IsErrOf, length, map, slice_get, string_bytes};
+ghost use Rattle.std.specs.Prelude.{◌≡◌, ◌≤◌, ◌++◌, ◌∷◌, [], Some, IfOk, IfErr, IfSome, IfNone, OnOk, OnErr, IsErrOf, length, map, slice_get, string_bytes};
 ghost use Rattle.rounds_by_hand.specs.Hands.{IsOver, pending_in};
 ghost use Rattle.rounds_by_hand.specs.Pending.{order_in};
 ghost use Rattle.load_rounds.specs.Histories.{any_tell};

@@ -1,4 +1,4 @@
-use Rattle.std.proofs.Common.{◌∙◌, ap, inl, map, refl}
+use Rattle.std.proofs.Common.{◌∙◌, ap, inl, inr, map, refl}
 use Rattle.rounds_by_hand.specs.Pending.{order_in}
 use Rattle.rounds_by_hand.specs.declared.handed_in.HandedIn.{HandedIn}
 use Rattle.server.specs.LoadsByHand.{LoadByHandOf}
@@ -45,6 +45,11 @@ pub returns-in-Ok-Round : goal.returns-in-Ok-Round
 returns-in-Ok-Round c =
     let e = c.advance.ensures in let back = c.into_client-in-Err-write_orders in
     rw (← c.self.view_is) (stops-load c.self.inside.hand c.advance.new.self e.asked e.underway e.same back.result back.ensures.client back.ensures.stopped, inl refl)
+
+pub returns-in-Ok-Over : goal.returns-in-Ok-Over
+returns-in-Ok-Over c =
+    let e = c.advance.ensures in let back = c.into_client-in-Ok-Over in let did = rw c.in-Ok-Over.field-0-is at c.in-Ok-Over.ensures.advanced in
+    rw (← c.self.view_is) (stops-load c.self.inside.hand c.advance.new.self e.asked e.underway e.same back.result back.ensures.client back.ensures.stopped, inr (refl, did.0))
 
 pub returns : goal.returns
 returns c =
