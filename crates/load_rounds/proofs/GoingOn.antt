@@ -20,7 +20,7 @@ use Rattle.execution.specs.Executes.{GrowsTo}
 use Rattle.load_rounds.specs.Sessions.{StateOf, session_modes}
 use Rattle.execution.specs.Executes.{IsTextOf}
 use Rattle.load_rounds.specs.SharedRounds.{RequestOf, ReportOf, request_of, report_of, requests, needs_of_all, front_of_all, items_from, together}
-use Rattle.load_rounds.specs.Together.{PartOf, IsDone, TellsAt, FindsAll, fronts, plans_in, reports_in, given_to, some_unreported, FitsPart, FitParts, GoesOn, GoOn}
+use Rattle.load_rounds.specs.Executions.{PartOf, IsDone, TellsAt, FindsAll, fronts, plans_in, reports_in, given_to, some_unreported, FitsPart, FitParts, GoesOn, GoOn}
 use Rattle.load_rounds.specs.declared.answer.Answer.{Answer}
 use Rattle.load_rounds.proofs.Following.{nothing-modes, rules-size, wants-are}
 use Rattle.load_rounds.proofs.Lacking.{missing-append, wanting-append, length-wanting}
@@ -288,14 +288,17 @@ found-none p s None other found = found
 found-none p s (Some w) other found = absurd (other w refl)
 
 -- one more has begun, of which nothing is done
-pub fit-more : {P E : Type 0} (program : P → Program) (text_of : P → AnsweredOf → List ℕ) (loaders : P → ℕ) (fits : P → E → MemoryOf → Type 0) (m : MemoryOf) (xs : List (PartOf P E)) (plan : P) (progress : E) → FitParts program text_of loaders fits xs m → fits plan progress m
-    → FitParts program text_of loaders fits (xs ++ record { plan = plan; progress = progress; report = None } ∷ []) m
-fit-more program text_of loaders fits m [] plan progress fit own = (own, tt)
-fit-more program text_of loaders fits m (x ∷ xs) plan progress fit own = (fit.0, fit-more program text_of loaders fits m xs plan progress fit.1 own)
+module _ {P E : Type 0} (program : P → Program) (text_of : P → AnsweredOf → List ℕ) (loaders : P → ℕ) (fits : P → E → MemoryOf → Type 0) where
+  pub begun-fits : (m : MemoryOf) (plan : P) (x : PartOf P E) → x.plan ≡ plan → x.report ≡ None → fits plan x.progress m → FitsPart program text_of loaders fits x.plan x.progress x.report m
+  begun-fits m plan x same none fit = rw (none, same) fit
 
-pub unreported-begun : {P E : Type 0} (xs : List (PartOf P E)) (plan : P) (progress : E) → reports_in (xs ++ record { plan = plan; progress = progress; report = None } ∷ []) ≡ reports_in xs
-unreported-begun [] plan progress = refl
-unreported-begun (x ∷ xs) plan progress = ap (λ ts. given_to x.report ++ ts) (unreported-begun xs plan progress)
+  pub fit-more : (m : MemoryOf) (xs : List (PartOf P E)) (x : PartOf P E) → FitParts program text_of loaders fits xs m → FitsPart program text_of loaders fits x.plan x.progress x.report m → FitParts program text_of loaders fits (xs ++ x ∷ []) m
+  fit-more m [] x fit own = (own, tt)
+  fit-more m (y ∷ xs) x fit own = (fit.0, fit-more m xs x fit.1 own)
+
+pub unreported-begun : {P E : Type 0} (xs : List (PartOf P E)) (x : PartOf P E) → x.report ≡ None → reports_in (xs ++ x ∷ []) ≡ reports_in xs
+unreported-begun [] x none = rw none refl
+unreported-begun (y ∷ xs) x none = ap (λ ts. given_to y.report ++ ts) (unreported-begun xs x none)
 
 -- the test whether one of the first `next` has no answer, by that of the first `n` and of the next one
 pub unreported-more : {X : Type 0} (f : X → Bool) (n next : ℕ) (xs : List X) (y : X) (b : Bool) → next ≡ suc n → n < length xs → b ≡ list_any f (take n xs) → (b || f y) ≡ list_any f (take next (slice_set xs n y))

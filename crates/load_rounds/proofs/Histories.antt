@@ -17,9 +17,8 @@ use Rattle.load_rounds.specs.Sessions.{StateOf, rules_of, session_modes, after_s
 use Rattle.load_rounds.specs.Calls.{load_of, asked_for, AsksOnce, RoundLost, IsStopped}
 use Rattle.load_rounds.specs.Headline.{asked_steps, MakesRounds, StopsAnswering}
 use Rattle.load_rounds.specs.SharedRounds.{together}
-use Rattle.load_rounds.specs.Histories.{Call, Loading, StoppedLoading, Priming, Clearing, ClearingAll, Forgetting, Executing, StoppedExecuting, ExecutingTogether, Restarting, Running, AreAsking, IsMadeOf, AreMadeOf, Leads, IsCall, AreCalls}
+use Rattle.load_rounds.specs.Histories.{Call, Loading, StoppedLoading, Priming, Clearing, ClearingAll, Forgetting, Executing, StoppedExecuting, ExecutingTogether, Restarting, AreAsking, IsMadeOf, AreMadeOf, Leads, IsCall, AreCalls}
 use Rattle.load_rounds.proofs.Following.{replies-over}
-use Rattle.load_rounds.proofs.Runs.{run-stops}
 use Rattle.load_rounds.proofs.Stepping.{SameSources, steps-rules, steps-sources, asking-rounds}
 
 -- the memory after steps
@@ -206,7 +205,6 @@ module _ {S : Type 0} where
     call-leads (StoppedExecuting p) old new h = stops-leads old new p h
     call-leads (ExecutingTogether rs reports) old new h = made-leads old new (together rs) h.log h.made
     call-leads Restarting old new h = (Restarted ∷ [], record { after = h; may_be = (tt, (tt, tt)) }, refl)
-    call-leads (Running p rounds stage) old new h = stops-leads old new p (run-stops may p old new rounds stage h)
 
     pub calls-lead : (calls : List Call) (old new : StateOf S) → AreCalls may calls old new → (steps : List Step) × Leads may old steps new × AreMadeOf calls steps
     calls-lead [] old new h = ([], record { after = h; may_be = tt }, refl)

@@ -15,7 +15,7 @@ pub mod Requests
 pub mod Running
 pub mod Runs
 pub mod SharedKeyByKey
-pub mod SharedRunning
+pub mod Stages
 pub mod Sharing
 pub mod States
 pub mod Stepping

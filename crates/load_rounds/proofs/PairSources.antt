@@ -9,7 +9,7 @@ use Rattle.execution.specs.Rounds.{RuleOf, modes_of, unless_failed, pairs_of}
 use Rattle.execution.specs.Sessions.{Step, Forgot, AskedLoads, Lost, Primed, Cleared, ClearedAll, Restarted, is_cell, after, IsAnsweredIn}
 use Rattle.execution.proofs.Same.{one-either}
 use Rattle.execution.proofs.ReplyLaws.{make, look-member, pairs-from}
-use Rattle.load_rounds.specs.Histories.{Call, Loading, StoppedLoading, Priming, Clearing, ClearingAll, Forgetting, Executing, StoppedExecuting, ExecutingTogether, Restarting, Running, AreAsking, IsMadeOf, AreMadeOf, replies_of}
+use Rattle.load_rounds.specs.Histories.{Call, Loading, StoppedLoading, Priming, Clearing, ClearingAll, Forgetting, Executing, StoppedExecuting, ExecutingTogether, Restarting, AreAsking, IsMadeOf, AreMadeOf, replies_of}
 use Rattle.load_rounds.proofs.Histories.{memory_after}
 
 module _ (rules : List RuleOf) (loader : ℕ) (key : KeyOf) (o : OutcomeOf) where
@@ -123,7 +123,6 @@ call-primes pair Restarting own h i = go (rw h at i) where
   go : IsOneOf (Primed pair) (Restarted ∷ []) → Priming pair ≡ Restarting
   go (inl e) = absurd (cc e)
   go (inr j) = absurd j
-call-primes pair (Running p rounds stage) own h i = absurd (asking-primes pair own h i)
 
 pub calls-prime : (pair : PairOf) (calls : List Call) (steps : List Step) → AreMadeOf calls steps → IsOneOf (Primed pair) steps → IsOneOf (Priming pair) calls
 calls-prime pair [] steps h i = let none = rw h at i in absurd none

@@ -23,12 +23,9 @@ use Rattle.execution.proofs.ReplyLaws.{reply-order}
 use Rattle.load_rounds.specs.Sessions.{StateOf, rules_of, session_modes, logged_from, made, of_first, after_step, after_steps, AreNumbered, IsSession}
 use Rattle.load_rounds.specs.Rounds.{Enters}
 use Rattle.load_rounds.specs.Calls.{RoundRan, RoundLost}
-use Rattle.load_rounds.specs.Headline.{asked_steps, Headline, StopsAnswering}
-use Rattle.execution.specs.Executes.{IsTextOf}
-use Rattle.load_rounds.specs.declared.by_hand.Stage.{Stage}
-use Rattle.load_rounds.specs.declared.by_hand.Stage.TheVariants.{Ready, Out, Finished, Failed}
-use Rattle.load_rounds.specs.ByHand.{AreReceived, front_in, orders_in, received, IsRound, IsAsked, IsBetween, IsOut, IsRun}
-use Rattle.load_rounds.proofs.Following.{SameSources, InRounds, in-more, in-all}
+use Rattle.load_rounds.specs.Headline.{asked_steps, StopsAnswering}
+use Rattle.load_rounds.specs.ByHand.{AreReceived, front_in, orders_in, received, IsRound, IsAsked, IsBetween, IsOut}
+use Rattle.load_rounds.proofs.Following.{SameSources, InRounds}
 use Rattle.load_rounds.proofs.Stepping.{made-recorded, end-recorded}
 use Rattle.load_rounds.proofs.Cutting.{rules-logged, logged-same, orders-same, first-some}
 use Rattle.load_rounds.proofs.Numbering.{made-one, marked-round, source-at, replies-before, replies-below, orders-below, orders-loads, keys-first}
@@ -224,29 +221,6 @@ module _ {S : Type 0} where
       go (inl e) = inl e
       go (inr lost) = inr (rw (ap (λ ms. front ms p now.memory) same) at lost)
 
-    -- nothing is missing any more
-    pub between-answers : (begun now : StateOf S) (rounds loaders : ℕ) (text_of : AnsweredOf → List ℕ) (text : List ℕ) → IsBetween may p begun now rounds → AreLimited (rules_of now) → HasLoaders loaders p → loaders ≤ length now.loaders
-        → front_in now p ≡ [] → IsTextOf text_of p (read (session_modes now) now.memory) text → Headline may begun now p text_of text rounds
-    between-answers begun now rounds loaders text_of text is limited within enough none done =
-        let rounds_in = between-in begun now rounds is in
-        let before = length-map begun.loaders rule_of in
-        let after = length-map now.loaders rule_of in
-        in-all may begun now p rounds loaders text_of text rounds_in (rw rounds_in.rules at limited) within (omega (arith, enough, before, after, ap length rounds_in.rules)) none done
-
-    -- one round more is out
-    pub between-out : (begun now new : StateOf S) (rounds next loaders : ℕ) → IsBetween may p begun now rounds → next ≡ rounds + 1 → AreNumbered now.rounds now.loaders → HasLoaders loaders p → loaders ≤ length now.loaders
-        → front_in now p ≢ [] → new ≡ after_step now (Lost (front_in now p)) → IsOut may p begun new next
-    between-out begun now new rounds next loaders is e numbered within enough ne entered = record {
-      before = now;
-      made = rounds;
-      between = is;
-      one_more = e;
-      numbered = numbered;
-      lacks = ne;
-      entered = entered;
-      counted = round-counted now new p loaders within enough ne entered;
-    }
-
     -- the latest round is out
     module _ (s : StateOf S) (is : IsAsked p s) where
       pub asked-rules : rules_of s ≡ rules_of is.before
@@ -276,39 +250,12 @@ module _ {S : Type 0} where
             after = received-is b s loads shown h.replies is.entered is.counted is.numbered memory;
           }
 
-    module _ (begun s : StateOf S) (rounds : ℕ) (is : IsOut may p begun s rounds) where
-      pub out-asked : IsAsked p s
-      out-asked = record { before = is.before; lacks = is.lacks; entered = is.entered; counted = is.counted; numbered = is.numbered }
-
-      pub out-ran : (shown : List ReplyOf) → AreLimited (rules_of s) → AreReceived (may_at may s.loaders) (orders_in s p) shown → RoundRan may is.before (received s shown) (front_in is.before p)
-      unfolding out-asked
-      out-ran shown limited h = asked-ran s out-asked shown limited h
-
-      pub out-rules : rules_of s ≡ rules_of is.before
-      out-rules = ap rules_of is.entered ∙ lost-rules is.before (front_in is.before p)
-
-      pub out-loaders : length s.loaders ≡ length begun.loaders
-      out-loaders = sym (length-map s.loaders rule_of) ∙ ap length out-rules ∙ length-map is.before.loaders rule_of ∙ between-loaders begun is.before is.made is.between
-
-      pub out-taken : (shown : List ReplyOf) → AreLimited (rules_of s) → AreReceived (may_at may s.loaders) (orders_in s p) shown → IsBetween may p begun (received s shown) rounds
-      out-taken shown limited h =
-          in-between begun (received s shown) rounds (in-more may begun is.before (received s shown) p is.made rounds (between-in begun is.before is.made is.between) is.one_more is.lacks (out-ran shown limited h))
-
-      -- a round that is out is lost
-      pub out-stops : StopsAnswering may begun s p
-      out-stops =
-          let lost : RoundLost is.before s (front_in is.before p) = record { loaders = length is.before.loaders; after = is.entered ∙ lost-all is.before (front_in is.before p) } in
-          between-stops begun is.before s is.made is.between (inr lost)
-
-    between-alone : (begun now : StateOf S) (rounds : ℕ) → IsBetween may p begun now rounds → StopsAnswering may begun now p
-    between-alone begun now rounds is = record { log = is.log; mid = now; made = is.made; end = inl refl; recorded = made-recorded may begun now p is.log is.made }
-
-    -- whatever its stage, a run that is dropped has made rounds, and perhaps one more is lost
-    pub run-stops : (begun now : StateOf S) (rounds : ℕ) (stage : Stage) → IsRun may p begun now rounds stage → StopsAnswering may begun now p
-    run-stops begun now rounds Ready is = between-alone begun now rounds is
-    run-stops begun now rounds Out is = out-stops begun now rounds is
-    run-stops begun now rounds Finished is = between-alone begun now rounds is.0
-    run-stops begun now rounds Failed is = is
+    -- a round that is out is lost
+    pub out-stops : (begun s : StateOf S) (rounds : ℕ) → IsOut may p begun s rounds → StopsAnswering may begun s p
+    out-stops begun s rounds is =
+        let before = is.asked.before in
+        let lost : RoundLost before s (front_in before p) = record { loaders = length before.loaders; after = is.asked.entered ∙ lost-all before (front_in before p) } in
+        between-stops begun before s is.made is.between (inr lost)
 
 -- each reply is of one of the loaders
 pub received-below : (may : ℕ → List KeyOf → AnswerOf → Type 0) (most : ℕ) (rules : List RuleOf) (loads : List Load) (shown : List ReplyOf) → length rules ≤ most → AreReceived may (round_orders rules loads) shown → All (λ (r : ReplyOf). r.loader < most) shown

@@ -8,20 +8,18 @@ use Rattle.load_memory.specs.Pairs.{MemoryOf, look}
 use Rattle.load_memory.specs.Replies.{ReplyOf}
 use Rattle.load_queue.specs.Answers.{AnswerOf}
 use Rattle.execution.specs.Loads.{Load, Memory}
-use Rattle.execution.specs.Program.{ListOf, Program}
+use Rattle.execution.specs.Program.{ListOf, Program, Programs}
 use Rattle.execution.specs.Completion.{AnsweredOf}
 use Rattle.execution.specs.Front.{front}
 use Rattle.execution.specs.Rounds.{RuleOf, rule_of, modes_of, may_at, AreRounds, AreLimited, HasLoaders, IsBelow, after_round, one_unless_empty, own_rounds, without_failed}
-use Rattle.execution.specs.Sessions.{Forgot}
 use Rattle.execution.proofs.FewestLaws.{all-rounds}
 use Rattle.execution.proofs.OnceLaws.{asked-once, answered-in}
 use Rattle.execution.proofs.SharedLaws.{own-chain, own-sparing}
-use Rattle.load_rounds.specs.Sessions.{SessionOf, StateOf, state_of, rules_of, session_modes, memory_of, after_step}
-use Rattle.load_rounds.specs.Calls.{RoundRan}
+use Rattle.load_rounds.specs.Sessions.{SessionOf, StateOf, state_of, rules_of, session_modes, memory_of}
+use Rattle.load_rounds.specs.Headline.{MakesRounds}
 use Rattle.load_rounds.specs.SharedRounds.{ReportOf, requests, items_from, together, greatest, AreShared, SharedHeadline}
-use Rattle.load_rounds.specs.Together.{PartOf, TellsAt, CountsRounds, CountRounds, plans_in, reports_in, given_to, some_unreported, FitsPart, FitParts, GoOn}
+use Rattle.load_rounds.specs.Executions.{PartOf, TellsAt, CountsRounds, CountRounds, plans_in, program_in, reports_in, given_to, some_unreported, FitsPart, FitParts, GoOn}
 use Rattle.load_rounds.proofs.Stepping.{made-recorded}
-use Rattle.load_rounds.proofs.Following.{InRounds, in-none, in-more, in-more-log}
 use Rattle.load_rounds.proofs.GoingOn.{or-left, gone-lacks}
 
 -- a round more is one of a program's own if something was missing for it
@@ -121,97 +119,69 @@ module _ {P E : Type 0} (program : P → Program) where
         go true e = absurd (gone-lacks program text_of loaders fits rounds m xs ys h e none)
         go false e = e
 
-    module _ {S : Type 0} (may : S → List KeyOf → AnswerOf → Type 0) where
-      -- a state after `rounds` rounds, of which each of them has counted its own
-      pub record InShared (plans : List P) (old cur : StateOf S) (parts : List (PartOf P E)) (rounds : ℕ) : Type 0 where
-        pub is : InRounds may old cur (together (requests program text_of plans)) rounds
-        pub counts : CountRounds program (rules_of old) (without_failed old.memory) is.log parts
+    module _ {S : Type 0} (may : S → List KeyOf → AnswerOf → Type 0) (old : StateOf S) (s : SessionOf S) (ys : List (PartOf P E)) (log : List (List ReplyOf)) (made : MakesRounds may old (state_of s) (program_in program text_of ys) log)
+        (counts : CountRounds program (rules_of old) (without_failed old.memory) log ys) (kept : rules_of (state_of s) ≡ rules_of old) (limited : AreLimited (rules_of old)) (within : HasLoaders (length old.loaders) (program_in program text_of ys)) where
+      abbrev all : Programs
+      all = items_from 0 (requests program text_of (plans_in ys))
 
-      pub shared-none : (plans : List P) (old cur : StateOf S) (parts : List (PartOf P E)) → cur ≡ after_step old Forgot → reports_in parts ≡ [] → InShared plans old cur parts 0
-      shared-none plans old cur parts is none =
-          let begun = in-none may old cur (together (requests program text_of plans)) is in
-          record {
-            is = record { log = []; made = record { rounds = λ l k. ap (λ (s : StateOf S). s.memory l k) is; after = is }; counted = refl; rules = begun.rules; sources = begun.sources };
-            counts = begun-counted (rules_of old) (without_failed old.memory) parts none;
-          }
+      within-rules : HasLoaders (length (rules_of old)) (program_in program text_of ys)
+      within-rules R l one = let below = within R l one in omega (arith, below, length-map old.loaders rule_of)
 
-      pub shared-gone : (plans : List P) (old cur : StateOf S) (xs ys : List (PartOf P E)) (rounds : ℕ) (m : MemoryOf) → InShared plans old cur xs rounds → GoOn program text_of loaders fits rounds m xs ys → InShared plans old cur ys rounds
-      shared-gone plans old cur xs ys rounds m h gone = record {
-        is = h.is;
-        counts = all-counted (rules_of old) (without_failed old.memory) h.is.log rounds m xs ys (sym h.is.counted) gone h.counts;
-      }
-
-      -- one round more
-      pub shared-more : (plans : List P) (old new : StateOf S) (s : SessionOf S) (xs ys : List (PartOf P E)) (rounds next : ℕ) → InShared plans old (state_of s) ys rounds → next ≡ rounds + 1 → GoOn program text_of loaders fits rounds (memory_of s) xs ys
-          → front (session_modes (state_of s)) (together (requests program text_of plans)) (look s.pairs) ≢ [] → RoundRan may (state_of s) new (front (session_modes (state_of s)) (together (requests program text_of plans)) (look s.pairs)) → InShared plans old new ys next
-      shared-more plans old new s xs ys rounds next h one gone lacks ran =
-          let p : Program = together (requests program text_of plans) in
-          let counts = all-round-counted (may_at may old.loaders) (rules_of old) p (without_failed old.memory) (look s.pairs) h.is.log ran.replies rounds (memory_of s) xs ys h.is.made.rounds (ap modes_of h.is.rules) refl gone h.counts in
-          record {
-            is = in-more may old (state_of s) new p rounds next h.is one lacks ran;
-            counts = subst (λ log. CountRounds program (rules_of old) (without_failed old.memory) log ys) (sym (in-more-log may old (state_of s) new p rounds next h.is one lacks ran)) counts;
-          }
-
-      module _ (plans : List P) (old : StateOf S) (s : SessionOf S) (ys : List (PartOf P E)) (rounds : ℕ) (h : InShared plans old (state_of s) ys rounds) (limited : AreLimited (rules_of old)) (within : HasLoaders (length old.loaders) (together (requests program text_of plans))) where
-        abbrev log : List (List ReplyOf)
-        log = h.is.log
-
-        within-rules : HasLoaders (length (rules_of old)) (together (requests program text_of plans))
-        within-rules R l one = let below = within R l one in omega (arith, below, length-map old.loaders rule_of)
-
-        shared-one : (r : P) (progress : E) (report : ReportOf) → IsBelow (program r) (items_from 0 (requests program text_of plans)) → CountsRounds (rules_of old) (without_failed old.memory) log (program r) (Some report) → FitsPart program text_of loaders fits r progress (Some report) (memory_of s)
-            → AreShared old (state_of s) log (requests program text_of (r ∷ [])) (report ∷ [])
-        shared-one r progress report among counts done =
-            let rules : List RuleOf = rules_of old in
-            let M0 : Memory = without_failed old.memory in
-            let same : session_modes (state_of s) ≡ session_modes old = ap modes_of h.is.rules in
-            let own = own-chain (may_at may old.loaders) rules ListOf (items_from 0 (requests program text_of plans)) (program r) limited within-rules among M0 log (look s.pairs) h.is.made.rounds in (
-              record {
-                answered = rw same at done.answered;
-                counted = counts;
-                chained = omega (arith, own, counts);
-                fewest = λ Ns run. omega (arith, counts, own-sparing (may_at may old.loaders) rules ListOf (items_from 0 (requests program text_of plans)) (program r) limited within-rules among M0 log (look s.pairs) Ns h.is.made.rounds run);
-              },
-              tt,
-            )
-
-        shared-answers : (n : ℕ) (rest : List (PartOf P E)) → ((p : Program) → IsBelow p (items_from n (requests program text_of (plans_in rest))) → IsBelow p (items_from 0 (requests program text_of plans))) → some_unreported rest ≡ false
-            → CountRounds program (rules_of old) (without_failed old.memory) log rest → FitParts program text_of loaders fits rest (memory_of s) → AreShared old (state_of s) log (requests program text_of (plans_in rest)) (reports_in rest)
-        shared-answers n [] among all counts done = tt
-        shared-answers n (y ∷ ys) among all counts done = go y.report (or-left (is_none y.report) (some_unreported ys) all).0 counts.0 done.0 (shared-answers (suc n) ys (λ p b. among p (inr b)) (or-left (is_none y.report) (some_unreported ys) all).1 counts.1 done.1)
-          where
-            go : (t : Option ReportOf) → is_none t ≡ false → CountsRounds (rules_of old) (without_failed old.memory) log (program y.plan) t → FitsPart program text_of loaders fits y.plan y.progress t (memory_of s) → AreShared old (state_of s) log (requests program text_of (plans_in ys)) (reports_in ys)
-                → AreShared old (state_of s) log (requests program text_of (plans_in (y ∷ ys))) (given_to t ++ reports_in ys)
-            go None known own fit later = absurd (cc known)
-            go (Some t) known own fit later = ((shared-one y.plan y.progress t (among (program y.plan) (inl refl)) own fit).0, later)
-
-        -- nothing is missing any more
-        pub shared-all : plans_in ys ≡ plans → some_unreported ys ≡ false → FitParts program text_of loaders fits ys (memory_of s) → front (session_modes (state_of s)) (together (requests program text_of plans)) (look s.pairs) ≡ []
-            → SharedHeadline may old (state_of s) (requests program text_of plans) (reports_in ys)
-        shared-all are all done none =
-            let p : Program = together (requests program text_of plans) in
-            let rules : List RuleOf = rules_of old in
-            let M0 : Memory = without_failed old.memory in
-            let same : session_modes (state_of s) ≡ session_modes old = ap modes_of h.is.rules in
-            let own : (q : Program) → IsBelow q (items_from 0 (requests program text_of (plans_in ys))) → IsBelow q (items_from 0 (requests program text_of plans)) = λ q b. subst (λ ps. IsBelow q (items_from 0 (requests program text_of ps))) are b in
-            let answers = shared-answers 0 ys own all h.counts done in
+      shared-one : (r : P) (progress : E) (report : ReportOf) → IsBelow (program r) all → CountsRounds (rules_of old) (without_failed old.memory) log (program r) (Some report) → FitsPart program text_of loaders fits r progress (Some report) (memory_of s)
+          → AreShared old (state_of s) log (requests program text_of (r ∷ [])) (report ∷ [])
+      shared-one r progress report among counted done =
+          let rules : List RuleOf = rules_of old in
+          let M0 : Memory = without_failed old.memory in
+          let same : session_modes (state_of s) ≡ session_modes old = ap modes_of kept in
+          let own = own-chain (may_at may old.loaders) rules ListOf all (program r) limited within-rules among M0 log (look s.pairs) made.rounds in (
             record {
-              log = log;
-              made = h.is.made;
-              complete = rw same at none;
-              recorded = made-recorded may old (state_of s) p log h.is.made;
-              answers = subst (λ ps. AreShared old (state_of s) log (requests program text_of ps) (reports_in ys)) are answers;
-              pairs = λ pair there. answered-in (may_at may old.loaders) rules p M0 log (look s.pairs) pair.loader pair.key pair.outcome h.is.made.rounds there;
-              once = asked-once (may_at may old.loaders) rules p limited M0 log (look s.pairs) h.is.made.rounds;
-              longest = longest (length log) refl;
-            }
-          where
-            most : greatest (reports_in ys) ≤ length log
-            most = greatest-most (rules_of old) (without_failed old.memory) log ys h.counts
+              answered = rw same at done.answered;
+              counted = counted;
+              chained = omega (arith, own, counted);
+              fewest = λ Ns run. omega (arith, counted, own-sparing (may_at may old.loaders) rules ListOf all (program r) limited within-rules among M0 log (look s.pairs) Ns made.rounds run);
+            },
+            tt,
+          )
 
-            longest : (n : ℕ) → length log ≡ n → length log ≡ greatest (reports_in ys)
-            longest zero e = omega (arith, e, most)
-            longest (suc n) e =
-                let one = all-rounds (may_at may old.loaders) (rules_of old) ListOf (items_from 0 (requests program text_of plans)) (without_failed old.memory) log (look s.pairs) h.is.made.rounds (omega (arith, e)) in
-                let below : IsBelow one.0 (items_from 0 (requests program text_of (plans_in ys))) = subst (λ ps. IsBelow one.0 (items_from 0 (requests program text_of ps))) (sym are) one.1 in
-                omega (arith, most, one.2, greatest-has (rules_of old) (without_failed old.memory) log 0 one.0 ys all h.counts below)
+      shared-answers : (n : ℕ) (rest : List (PartOf P E)) → ((p : Program) → IsBelow p (items_from n (requests program text_of (plans_in rest))) → IsBelow p all) → some_unreported rest ≡ false
+          → CountRounds program (rules_of old) (without_failed old.memory) log rest → FitParts program text_of loaders fits rest (memory_of s) → AreShared old (state_of s) log (requests program text_of (plans_in rest)) (reports_in rest)
+      shared-answers n [] among done counted fit = tt
+      shared-answers n (y ∷ rest) among done counted fit =
+          go y.report (or-left (is_none y.report) (some_unreported rest) done).0 counted.0 fit.0 (shared-answers (suc n) rest (λ p b. among p (inr b)) (or-left (is_none y.report) (some_unreported rest) done).1 counted.1 fit.1)
+        where
+          go : (t : Option ReportOf) → is_none t ≡ false → CountsRounds (rules_of old) (without_failed old.memory) log (program y.plan) t → FitsPart program text_of loaders fits y.plan y.progress t (memory_of s) → AreShared old (state_of s) log (requests program text_of (plans_in rest)) (reports_in rest)
+              → AreShared old (state_of s) log (requests program text_of (plans_in (y ∷ rest))) (given_to t ++ reports_in rest)
+          go None known own fits later = absurd (cc known)
+          go (Some t) known own fits later = ((shared-one y.plan y.progress t (among (program y.plan) (inl refl)) own fits).0, later)
+
+      -- nothing is missing any more
+      shared-whole : some_unreported ys ≡ false → FitParts program text_of loaders fits ys (memory_of s) → front (session_modes (state_of s)) (program_in program text_of ys) (look s.pairs) ≡ []
+          → SharedHeadline may old (state_of s) (requests program text_of (plans_in ys)) (reports_in ys)
+      shared-whole done fit none =
+          let rules : List RuleOf = rules_of old in
+          let M0 : Memory = without_failed old.memory in
+          let same : session_modes (state_of s) ≡ session_modes old = ap modes_of kept in
+          record {
+            log = log;
+            made = made;
+            complete = rw same at none;
+            recorded = made-recorded may old (state_of s) (program_in program text_of ys) log made;
+            answers = shared-answers 0 ys (λ p b. b) done counts fit;
+            pairs = λ pair there. answered-in (may_at may old.loaders) rules (program_in program text_of ys) M0 log (look s.pairs) pair.loader pair.key pair.outcome made.rounds there;
+            once = asked-once (may_at may old.loaders) rules (program_in program text_of ys) limited M0 log (look s.pairs) made.rounds;
+            longest = longest (length log) refl;
+          }
+        where
+          most : greatest (reports_in ys) ≤ length log
+          most = greatest-most (rules_of old) (without_failed old.memory) log ys counts
+
+          longest : (n : ℕ) → length log ≡ n → length log ≡ greatest (reports_in ys)
+          longest zero e = omega (arith, e, most)
+          longest (suc n) e =
+              let one = all-rounds (may_at may old.loaders) (rules_of old) ListOf all (without_failed old.memory) log (look s.pairs) made.rounds (omega (arith, e)) in
+              omega (arith, most, one.2, greatest-has (rules_of old) (without_failed old.memory) log 0 one.0 ys done counts one.1)
+
+      pub shared-all : some_unreported ys ≡ false → FitParts program text_of loaders fits ys (memory_of s) → front (session_modes (state_of s)) (program_in program text_of ys) (look s.pairs) ≡ []
+          → (h : SharedHeadline may old (state_of s) (requests program text_of (plans_in ys)) (reports_in ys)) × (length h.log ≡ length log)
+      unfolding shared-whole
+      shared-all done fit none = (shared-whole done fit none, refl)

@@ -3,7 +3,7 @@ use Rattle.std.proofs.Common.{◌≡◌, ℕ, zero, suc, ◌<◌, List, [], ◌�
 use Rattle.std.proofs.lemmas.List.{length-map}
 use Rattle.std.specs.Prelude.{slice_set}
 use Rattle.load_rounds.specs.SharedRounds.{ReportOf}
-use Rattle.load_rounds.specs.Together.{PartOf, plans_in, reports_in, given_to}
+use Rattle.load_rounds.specs.Executions.{PartOf, plans_in, reports_in, given_to}
 
 both-none : (ts us : List ReportOf) → ts ++ us ≡ [] → (ts ≡ []) × (us ≡ [])
 both-none [] us e = (refl, e)

@@ -14,7 +14,7 @@ use Rattle.execution.proofs.Same.{one-either}
 use Rattle.execution.proofs.ReplyLaws.{append-apart}
 use Rattle.execution.proofs.TwiceLaws.{absent, asked-outcome}
 use Rattle.load_rounds.specs.Sessions.{StateOf, rules_of, session_modes, after_step}
-use Rattle.load_rounds.specs.Histories.{Call, Loading, StoppedLoading, Priming, Clearing, ClearingAll, Forgetting, Executing, StoppedExecuting, ExecutingTogether, Restarting, Running, clears_at, AreAsking, IsMadeOf, AreMadeOf, entered_cells, log_in, log_of, gained, stored_gained, gained_cells, IsEntered, IsFailedAt, Leads, IsCall, AreCalls}
+use Rattle.load_rounds.specs.Histories.{Call, Loading, StoppedLoading, Priming, Clearing, ClearingAll, Forgetting, Executing, StoppedExecuting, ExecutingTogether, Restarting, clears_at, AreAsking, IsMadeOf, AreMadeOf, entered_cells, log_in, log_of, gained, stored_gained, gained_cells, IsEntered, IsFailedAt, Leads, IsCall, AreCalls}
 use Rattle.load_rounds.proofs.Stepping.{steps-rules}
 use Rattle.load_rounds.proofs.Histories.{memory_after, memory-append, are-after, leads-rules, leads-memory, call-leads, calls-lead}
 use Rattle.load_rounds.proofs.Gaining.{step_cells, all_cells, AllGoOn, gained-cells, asked-apart, asked-orders, lost-cells, AskedIn, asked-in}
@@ -49,7 +49,6 @@ call-clears c (Executing p text_of text rounds) own h k = asking-clears c own h
 call-clears c (StoppedExecuting p) own h k = asking-clears c own h
 call-clears c (ExecutingTogether rs reports) own h k = asking-clears c own h
 call-clears c Restarting own h k = absurd (cc k)
-call-clears c (Running p rounds stage) own h k = asking-clears c own h
 
 calls-clear : (c : Cell) (calls : List Call) (steps : List Step) → AreMadeOf calls steps → list_any (clears_at c) calls ≡ false → list_any (clears c) steps ≡ false
 calls-clear c [] steps h k = rw h refl
@@ -117,7 +116,6 @@ asks-alone (Executing p text_of text rounds) own before rest loads replies h e =
 asks-alone (StoppedExecuting p) own before rest loads replies h e = h
 asks-alone (ExecutingTogether rs reports) own before rest loads replies h e = h
 asks-alone Restarting own before rest loads replies h e = absurd (not-one Restarted before rest loads replies (λ s. cc s) (sym h ∙ e))
-asks-alone (Running p rounds stage) own before rest loads replies h e = h
 
 -- rounds alone leave the entries of the logs
 asking-go-on : (steps : List Step) → AreAsking steps → AllGoOn steps
@@ -160,7 +158,6 @@ module _ {S : Type 0} (may : S → List KeyOf → AnswerOf → Type 0) where
   call-goes-on (StoppedExecuting p) old new c h own made one = asking-go-on own made
   call-goes-on (ExecutingTogether rs reports) old new c h own made one = asking-go-on own made
   call-goes-on Restarting old new c h own made one = let none = rw (restart-gains old new c.0 h) at one in absurd none
-  call-goes-on (Running p rounds stage) old new c h own made one = asking-go-on own made
 
 -- the round of a call that asks a cell: what came before it in the call, and after it
 record Found {S : Type 0} (may : S → List KeyOf → AnswerOf → Type 0) (old new : StateOf S) (c : Cell) : Type 0 where
@@ -314,7 +311,6 @@ module _ {S : Type 0} (may : S → List KeyOf → AnswerOf → Type 0) where
       go (Executing p text_of text rounds) own leads made h is = fresh own leads made h
       go (StoppedExecuting p) own leads made h is = fresh own leads made h
       go (ExecutingTogether rs reports) own leads made h is = fresh own leads made h
-      go (Running p rounds stage) own leads made h is = fresh own leads made h
       go Restarting own leads made h is = rw (restart-gains may old new n is) tt
       go (Priming pair) own leads made h is = rw (cells own leads (rw made (tt, tt)), made) tt
       go (Clearing cell) own leads made h is = rw (cells own leads (rw made (tt, tt)), made) tt

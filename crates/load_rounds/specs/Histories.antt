@@ -17,8 +17,6 @@ use Rattle.load_rounds.specs.Sessions.{SessionOf, StateOf, state_of, session_mod
 use Rattle.load_rounds.specs.Calls.{asked_for, IsLoaded, IsStopped}
 use Rattle.load_rounds.specs.Headline.{Headline, StopsAnswering}
 use Rattle.load_rounds.specs.SharedRounds.{RequestOf, ReportOf, SharedHeadline}
-use Rattle.load_rounds.specs.ByHand.{IsRun}
-use Rattle.load_rounds.specs.declared.by_hand.Stage.{Stage}
 
 -- A call that a session didn't refuse for its loader's number.
 pub data Call : Type 0 where
@@ -34,15 +32,12 @@ pub data Call : Type 0 where
   Forgetting : Call
   -- `answer` or an answering future of a program, with its text and its rounds
   Executing : Program → (AnsweredOf → List ℕ) → List ℕ → ℕ → Call
-  -- an `answer` or an answering future at which memory ran out
+  -- an `answer` or an answering future at which memory ran out, or a run that was dropped, at whatever stage
   StoppedExecuting : Program → Call
   -- `answer_all` of several requests, with its report of each; where memory was wanted, and in a run by hand, they are one program
   ExecutingTogether : List RequestOf → List ReportOf → Call
   -- `restart`
   Restarting : Call
-  -- a run of a program by hand from `begin` on, which after some rounds was finished, failed or was
-  -- dropped at this stage
-  Running : Program → ℕ → Stage → Call
 
 -- the call clears this cell
 abbrev pub clears_at : Cell → Call → Bool
@@ -56,7 +51,6 @@ clears_at cell (Executing p text_of text rounds) = false
 clears_at cell (StoppedExecuting p) = false
 clears_at cell (ExecutingTogether rs reports) = false
 clears_at cell Restarting = true
-clears_at cell (Running p rounds stage) = false
 
 -- rounds alone, stored or lost
 abbrev pub AreAsking : List Step → Type 0
@@ -81,7 +75,6 @@ IsMadeOf (Executing p text_of text rounds) steps = AreAsking steps
 IsMadeOf (StoppedExecuting p) steps = AreAsking steps
 IsMadeOf (ExecutingTogether rs reports) steps = AreAsking steps
 IsMadeOf Restarting steps = steps ≡ Restarted ∷ []
-IsMadeOf (Running p rounds stage) steps = AreAsking steps
 
 -- the steps of calls, one after another
 abbrev pub AreMadeOf : List Call → List Step → Type 0
@@ -156,7 +149,6 @@ module _ {S : Type 0} where
     IsCall (StoppedExecuting p) old new = StopsAnswering may old new p
     IsCall (ExecutingTogether rs reports) old new = SharedHeadline may old new rs reports
     IsCall Restarting old new = new ≡ after_steps old (Forgot ∷ Restarted ∷ [])
-    IsCall (Running p rounds stage) old new = IsRun may p old new rounds stage
 
     abbrev pub IsCallOf : Call → SessionOf S → SessionOf S → Type 0
     IsCallOf call old new = IsCall call (state_of old) (state_of new)

@@ -1,10 +1,8 @@
-//! Answers in turn: round after round until nothing is missing.
-ghost use Rattle.std.specs.Prelude.{◌≤◌, length, IfOk, OnOk, OnErr};
+//! Answers in turn: round after round until nothing is missing, of one plan or of several that share rounds.
+ghost use Rattle.std.specs.Prelude.{◌≤◌, All, length, IfOk, OnErr};
 
-use crate::executed::ExecutionFinding;
 use crate::session::Session;
 use execution::Execute;
-use futures::task::Poll;
 use load_queue::LocalSource;
 use std::alloc::AllocError;
 
@@ -18,10 +16,9 @@ pub struct Answer {
 }
 
 impl<S: LocalSource> Session<S> {
-    ghost use Rattle.load_rounds.specs.Sessions.{state_of, rules_of, memory_of};
-    ghost use Rattle.load_rounds.specs.ByHand.{IsUnasked};
-    ghost use Rattle.load_rounds.specs.Answerings.{Turned, MayRun};
+    ghost use Rattle.load_rounds.specs.Sessions.{state_of};
     ghost use Rattle.load_rounds.specs.Headline.{HasHeadline, StopsAnswering};
+    ghost use Rattle.load_rounds.specs.SharedRounds.{requests, joint, AreAnswers};
 
     /// Answers a plan on this thread. It forgets failed batches, and then makes rounds until nothing is
     /// missing. Each round asks for all keys that are needed and missing.
@@ -39,42 +36,35 @@ impl<S: LocalSource> Session<S> {
         ensures stopped { OnErr result (StopsAnswering S.may_tell (state_of self.old)
             (state_of self.new) (P.program plan.now)) }
     {
-        self.forget();
-        let mut progress = plan.start();
-        let mut rounds: u32 = 0;
-        loop {
-            match self.turn(plan, &mut progress)? {
-                Poll::Ready(text) => return Ok(Answer { text, rounds }),
-                Poll::Pending => rounds = rounds.checked_add(1).ok_or(AllocError)?,
-            }
+        let mut rounds = self.begin(plan);
+        rounds.run(self)?;
+        match rounds.into_answer() {
+            Some(answer) => Ok(answer),
+            None => unreachable!(),
         }
     }
 
-    /// Goes on with an execution: returns its text if nothing is missing, and otherwise makes one round that asks for what
-    /// is needed and missing. A contract also sees here that no loader's limit is 0.
-    pub(crate) fn turn<E, P: Execute<E>>(
+    /// Answers several plans on this thread, in rounds that they share: each round asks for all keys that any of them needs and
+    /// that are missing. It forgets failed batches first. There is an answer for each plan, in order.
+    ///
+    /// When out of memory, the finished rounds stay, and a round that was out is lost.
+    ///
+    /// # Headline
+    ///
+    /// `answers`: `SharedHeadline`, the headline of several plans; out of memory, `stopped`
+    pub fn answer_all<E: Drop, P: Execute<E> + Drop>(
         &mut self,
-        plan: &P,
-        progress: &mut E,
-    ) -> Result<Poll<String>, AllocError>
-        requires loaders { P.loaders plan.now
-            ≤ length self.old.loaders }
-        requires fits { P.fits plan.now progress.old
-            (memory_of self.old) }
-        ensures turned { IfOk result (λ polled. Turned S.may_tell (P.text_of plan.now)
-            (state_of self.old) (state_of self.new) (P.program plan.now) polled) }
-        ensures fits { OnOk result (P.fits plan.now progress.new (memory_of self.new)) }
-        ensures may { OnOk result (MayRun (P.loaders plan.now) (P.program plan.now)
-            (rules_of (state_of self.old))) }
-        ensures stopped { OnErr result
-            (IsUnasked (P.program plan.now) (state_of self.old) (state_of self.new)) }
+        plans: Vec<P>,
+    ) -> Result<Vec<Answer>, AllocError>
+        requires { All (λ plan. P.loaders plan
+            ≤ length self.old.loaders) plans.items }
+        ensures answers { IfOk result (AreAnswers S.may_tell (state_of self.old)
+            (state_of self.new) (requests P.program P.text_of plans.items)) }
+        ensures stopped { OnErr result (StopsAnswering S.may_tell (state_of self.old)
+            (state_of self.new) (joint P.program P.text_of plans.items)) }
     {
-        match self.execute(plan, progress)? {
-            ExecutionFinding::Ready(text) => Ok(Poll::Ready(text)),
-            ExecutionFinding::Missing(wants) => {
-                self.ask(wants)?;
-                Ok(Poll::Pending)
-            }
-        }
+        let mut rounds = self.begin_all(plans)?;
+        rounds.run(self)?;
+        rounds.into_answers(self.alloc())
     }
 }

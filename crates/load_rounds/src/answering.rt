@@ -9,11 +9,13 @@
 //! promise implies the old one. So a future that has made rounds promises its output for whichever state these
 //! began from (`Gives`). That the session has the plan's loaders is required where the future is polled, and
 //! not where it is made.
-ghost use Rattle.std.specs.Prelude.{◌≡◌, IsSome, Some};
+ghost use Rattle.std.specs.Prelude.{◌≡◌, ◌≢◌};
 ghost use Rattle.futures.specs.Poll.{IfReady, OnPending};
 ghost use Rattle.futures.specs.Task.{Keeps};
 
 use crate::answer::Answer;
+use crate::lent::Lent;
+use crate::rounds::Rounds;
 use crate::session::Session;
 use execution::Execute;
 use futures::Future;
@@ -23,21 +25,13 @@ use std::alloc::AllocError;
 use std::marker::Model;
 use std::mem;
 
-/// An answer that is under way: its session, its rounds so far, and the execution that goes on from there.
-#[derive(Drop)]
-struct AnswerUnderWay<S, E> {
-    session: Session<S>,
-    rounds: u32,
-    progress: E,
-}
-
 /// Says how far an answering future is.
 #[derive(Drop)]
-enum Far<S, E> {
+enum Far<'p, S, P, E> {
     /// It wasn't polled yet.
     Unpolled(Session<S>),
     /// It has made a round per poll.
-    Polled(AnswerUnderWay<S, E>),
+    Polled(Session<S>, Rounds<Lent<'p, P>, E>),
     /// It has answered, and has returned the session.
     Over,
 }
@@ -45,14 +39,14 @@ enum Far<S, E> {
 /// A future of an answer, made by [`Session::into_answering`]. Each poll makes one round in turn and asks to be polled
 /// again. The poll that finds nothing missing returns the session with the answer. It isn't polled after that.
 ///
-/// It keeps one execution of the plan, an `E`, from poll to poll. A contract sees what is executed, and how far it is.
+/// It keeps one run of the plan from poll to poll. A contract sees what is executed, and how far it is.
 ///
-/// The progress is a parameter of the type, since that it fits the session is part of what a poll requires and
+/// The progress `E` of the run is a parameter of the type, since that it fits the session is part of what a poll requires and
 /// ensures again (`CanPoll`).
 #[derive(Drop)]
 pub struct Answering<'p, S, P, E> {
     plan: &'p P,
-    far: Far<S, E>,
+    far: Far<'p, S, P, E>,
 }
 
 impl<'p, S, P, E> Model for Answering<'p, S, P, E> {
@@ -88,32 +82,24 @@ impl<S> Session<S> {
     }
 }
 
-impl<S, E> Far<S, E> {
-    ghost use Rattle.load_rounds.specs.Sessions.{state_of, memory_of};
-    ghost use Rattle.load_rounds.specs.Answerings.{far_of, begun, rounds_of, FitsFar};
+impl<'p, S: LocalSource, P, E> Far<'p, S, P, E> {
+    ghost use Rattle.load_rounds.specs.Answerings.{CanPoll, StartsPoll, far_of, over};
 
-    // Returns where the next poll begins. At first failed batches are forgotten.
-    fn begin<P: Execute<E>>(self, plan: &P) -> AnswerUnderWay<S, E>
-        requires can { IsSome (begun (far_of self)) }
-        requires fits { FitsFar (P.fits plan.now)
-            (far_of self) }
-        ensures state { begun (far_of self)
-            ≡ Some (state_of result.session) }
-        ensures rounds { result.rounds
-            ≡ rounds_of (far_of self) }
-        ensures fits { P.fits plan.now result.progress
-            (memory_of result.session) }
+    // The session and the run with which the next poll begins. At first failed batches are forgotten.
+    fn begin(self, plan: &'p P) -> (Session<S>, Rounds<Lent<'p, P>, E>)
+    where
+        P: Execute<E>,
+        requires { CanPoll P.program P.text_of P.loaders
+            P.fits S.may_tell plan.now (far_of self) }
+        ensures { StartsPoll P.program P.text_of P.loaders
+            P.fits S.may_tell plan.now (far_of self.entry) result.0 result.1 }
     {
         match self {
             Far::Unpolled(mut session) => {
-                session.forget();
-                AnswerUnderWay {
-                    session,
-                    rounds: 0,
-                    progress: plan.start(),
-                }
+                let rounds = session.begin(plan);
+                (session, rounds)
             }
-            Far::Polled(underway) => underway,
+            Far::Polled(session, rounds) => (session, rounds),
             Far::Over => unreachable!(),
         }
     }
@@ -124,43 +110,35 @@ impl<'p, S: LocalSource + Drop, E: Drop, P: Execute<E> + Drop> Future for Answer
 
     type Output = (Session<S>, Result<Answer, AllocError>);
 
-    ghost can_poll = { λ a. CanPoll S.may_tell (P.fits a.plan) (P.loaders a.plan) (P.program a.plan) a.far };
+    ghost can_poll = { λ a. CanPoll P.program P.text_of P.loaders P.fits S.may_tell a.plan a.far };
 
-    ghost gives = { λ a out. Gives S.may_tell (P.program a.plan) (P.text_of a.plan) a.far out };
+    ghost gives = { λ a out. Gives P.program P.text_of S.may_tell a.plan a.far out };
 
     ghost needs = { λ a s. ⊥ };
 
     // Leaves out the trait's clause `registered`, which follows from `polled`.
     fn poll(&mut self, cx: &mut Context<'_>) -> Poll<(Session<S>, Result<Answer, AllocError>)>
-        requires { CanPoll S.may_tell (P.fits self.old.plan)
-            (P.loaders self.old.plan) (P.program self.old.plan) self.old.far }
-        ensures value { IfReady result (λ out.
-            Gives S.may_tell (P.program self.old.plan) (P.text_of self.old.plan) self.old.far out) }
-        ensures again { OnPending result (CanPoll S.may_tell (P.fits self.new.plan)
-            (P.loaders self.new.plan) (P.program self.new.plan) self.new.far) }
+        requires { CanPoll P.program P.text_of P.loaders P.fits S.may_tell self.old.plan self.old.far }
+        ensures value { IfReady result
+            (Gives P.program P.text_of S.may_tell self.old.plan self.old.far) }
+        ensures again { OnPending result (CanPoll P.program P.text_of P.loaders P.fits
+            S.may_tell self.new.plan self.new.far) }
         ensures same { OnPending result
-            (GivesNoMore S.may_tell P.program P.text_of self.old self.new) }
+            (GivesNoMore P.program P.text_of S.may_tell self.old self.new) }
         ensures kept { Keeps cx.old cx.new }
         ensures polled { Polls S.may_tell (P.program self.old.plan)
             self.old self.new cx.new.is_woken result }
     {
-        let AnswerUnderWay {
-            mut session,
-            rounds,
-            mut progress,
-        } = mem::replace(&mut self.far, Far::Over).begin(self.plan);
-        match session.turn(self.plan, &mut progress) {
-            Ok(Poll::Ready(text)) => Poll::Ready((session, Ok(Answer { text, rounds }))),
-            Ok(Poll::Pending) => match rounds.checked_add(1) {
-                Some(rounds) => {
-                    self.far = Far::Polled(AnswerUnderWay {
-                        session,
-                        rounds,
-                        progress,
-                    });
-                    cx.yield_now()
-                }
-                None => Poll::Ready((session, Err(AllocError))),
+        let far = mem::replace(&mut self.far, Far::Over);
+        let (mut session, mut rounds) = far.begin(self.plan);
+        match rounds.turn(&mut session) {
+            Ok(true) => {
+                self.far = Far::Polled(session, rounds);
+                cx.yield_now()
+            }
+            Ok(false) => match rounds.into_answer() {
+                Some(answer) => Poll::Ready((session, Ok(answer))),
+                None => unreachable!(),
             },
             Err(fault) => Poll::Ready((session, Err(fault))),
         }

@@ -9,6 +9,7 @@ ghost use Rattle.execution.specs.Rounds.{AreLimited};
 ghost use Rattle.execution.specs.Sessions.{Forgot, AreApart};
 ghost use Rattle.execution.specs.Rounds.{direct};
 ghost use Rattle.load_rounds.specs.Sessions.{StateOf, rules_of};
+ghost use Rattle.load_rounds.specs.Runs.{RunOf, IsRun, program_of};
 ghost use Rattle.load_rounds.specs.SharedRounds.{RequestOf, front_of_all, together, SharedHeadline, IsAnsweredAlone, AreWithinChain};
 ghost use Rattle.load_memory.specs.Keys.{KeyOf};
 ghost use Rattle.load_memory.specs.Outcomes.{ItemOf};
@@ -19,8 +20,9 @@ ghost use Rattle.execution.specs.Front.{front_of_keys};
 ghost use Rattle.load_rounds.specs.Calls.{AreKnown};
 ghost use Rattle.load_rounds.specs.Headline.{StopsAnswering};
 ghost use Rattle.load_rounds.specs.Reading.{CanLoad, HasRead, reading};
-ghost use Rattle.load_rounds.specs.Histories.{Call, Loading, StoppedLoading, IsMadeOf, AreMadeOf, Leads, IsCall, AreCalls, clears_at, IsFrom, gained_cells, AskTwice, IsFailedAt};
+ghost use Rattle.load_rounds.specs.Histories.{Call, Loading, StoppedExecuting, StoppedLoading, IsMadeOf, AreMadeOf, Leads, IsCall, AreCalls, clears_at, IsFrom, gained_cells, AskTwice, IsFailedAt};
 
+use execution::Execute;
 use load_queue::LocalSource;
 
 /// Each call is a list of steps, and each step is lawful: a round asks only for what the memory lacks at that moment, of equal
@@ -45,8 +47,8 @@ pub fn calls_keep_loaders<S: LocalSource>()
 /// *No key twice*, over any list of calls. No call asks a loader twice for one cache key. If two calls each have a stored log
 /// entry that asks a loader for one cache key, a call between them cleared it, or the earlier batch failed as a whole: after
 /// the earlier call the memory has that batch's fault for it. Entries of a lost round aren't stored, and their keys may be
-/// asked for again. A run by hand counts as one call, at whatever stage it was dropped, unless another call changed its
-/// session before that. A session that starts again has cleared every key.
+/// asked for again. A run that the caller advances counts as one call, at whatever stage it was dropped ([`dropped_runs_are_calls`]),
+/// unless another call changed its session before that. A session that starts again has cleared every key.
 ///
 /// A call that is out of memory counts, with the rounds that it stored; such a `clear` has cleared nothing. A
 /// call that is refused because of its loader's number doesn't count.
@@ -55,6 +57,14 @@ pub fn no_key_twice<S: LocalSource>()
         → IsCall S.may_tell call old new → AreApart (gained_cells loader old new) }
     ensures again { (t : _) → AreLimited (rules_of t.old) → AskTwice S.may_tell t
         → (list_any (clears_at t.cell) t.between ≡ true) ⊎ IsFailedAt t.cell t.mid }
+{}
+
+/// Whatever its stage, a run is to its session what an answer at which memory ran out is: rounds were made since it was begun, and
+/// perhaps one more is lost.
+pub fn dropped_runs_are_calls<S: LocalSource, E, P: Execute<E>>()
+    ensures { (begun now : StateOf S) (run : RunOf P E)
+        → IsRun P.program P.text_of S.may_tell begun now run
+        → IsCall S.may_tell (StoppedExecuting (program_of P.program P.text_of run)) begun now }
 {}
 
 /// *Shared rounds*. Several requests are one program, whose front is the front of all of them: what any of them needs and the memory

@@ -6,10 +6,10 @@
 //! and nothing else changes. One call is no list of steps: [`Session::restart`] makes the session as a new one over its
 //! loaders.
 //!
-//! Every answer carries one definition, the headline (`specs::Headline`). Answers come in turn ([`Session::answer`]), by a
-//! future ([`Answering`]), or in rounds that the caller runs ([`Session::begin`]): a run gives the orders of each round and
-//! takes their replies in any order. Each call's contract says what has been done since the run was begun (`specs::ByHand`,
-//! `IsRun`), and in the end that is the headline.
+//! Every answer carries one definition, the headline (`specs::Headline`). All are answered by one type, [`Rounds`]: it is advanced until
+//! nothing is missing, in turn ([`Session::answer`]), by a future ([`Answering`]), or by the caller ([`Session::begin`]), who gets the
+//! orders of each round and gives their replies in any order. Each call's contract says what has been done since the run was
+//! begun (`specs::Runs`, `IsRun`), and in the end that is the headline.
 //!
 //! Keys of one loader are a program too ([`KeysToLoad`]): whatever answers plans loads them, and then the session tells their outcomes
 //! ([`Session::known_outcomes`]). What a run of it does is what [`Session::load_many`] does (`law::keys_are_a_program`).
@@ -17,29 +17,28 @@
 //! Answers are given to whatever can be executed ([`Execute`]): it loads keys, and gives a text. A
 //! plan of a GraphQL document is that; nothing here knows of one.
 //!
-//! Several plans are answered in rounds that they share, in turn ([`Session::answer_all`]) or by hand ([`Session::begin_all`]):
+//! Several plans are answered in rounds that they share, in turn ([`Session::answer_all`]) or by the caller ([`Session::begin_all`]):
 //! there is one log, and each answer has a headline of its own (`specs::SharedRounds`, `SharedHeadline`).
 #![tactic(auto)]
 
-pub mod all_by_hand;
 pub mod answer;
 pub mod answering;
-pub mod by_hand;
-mod executed;
+mod executions;
 pub mod fault;
 pub mod keys;
 pub mod law;
+pub mod lent;
+mod plan_execution;
 mod restart;
 mod round;
+pub mod rounds;
 pub mod session;
-pub mod shared;
-mod together;
 
-pub use all_by_hand::{AllRoundsByHand, NextAll};
 pub use answer::Answer;
 pub use answering::Answering;
-pub use by_hand::{Next, RoundsByHand, Stage};
 pub use execution::Execute;
 pub use fault::SessionFault;
 pub use keys::KeysToLoad;
+pub use lent::Lent;
+pub use rounds::{Rounds, Stage};
 pub use session::Session;

@@ -286,8 +286,9 @@ impl<S: Drop> Session<S> {
 }
 
 impl<S: LocalSource> Session<S> {
-    ghost use Rattle.load_rounds.specs.Sessions.{state_of};
-    ghost use Rattle.load_rounds.specs.Calls.{RoundRan, RoundLost};
+    ghost use Rattle.execution.specs.Rounds.{may_at};
+    ghost use Rattle.load_rounds.specs.Sessions.{state_of, rules_of};
+    ghost use Rattle.load_rounds.specs.ByHand.{ReceivesReplies};
     ghost use Rattle.load_rounds.specs.Histories.{IsCallOf, Loading, StoppedLoading};
 
     /// Loads one key of a loader, after it forgets failed batches. Returns a copy of the key's outcome: the known one,
@@ -350,21 +351,20 @@ impl<S: LocalSource> Session<S> {
         Ok(self.known_outcomes(loader, keys)?)
     }
 
-    /// Asks for the wanted keys in one round, batch after batch, and stores the replies. The room of the wants is kept.
-    pub(crate) fn ask(&mut self, wants: Wants) -> Result<(), AllocError>
-        requires { length wants ≡ length self.old.loaders }
-        ensures ran { (loads : List Load) → AreWanted wants loads
-            → OnOk result (RoundRan S.may_tell (state_of self.old) (state_of self.new) loads) }
-        ensures lost { (loads : List Load) → AreWanted wants loads
-            → OnErr result (RoundLost (state_of self.old) (state_of self.new) loads) }
+    /// Runs the orders of the latest round, one after another, stores what came of them, and marks its log entries as stored. A contract
+    /// also sees here that no loader's limit is 0.
+    pub(crate) fn run(&mut self, orders: Vec<Order>) -> Result<(), AllocError>
+        requires { AreCutBy self.old.loaders orders.items }
+        ensures ran { OnOk result (ReceivesReplies (may_at S.may_tell self.old.loaders)
+            (map asks orders.items) (state_of self.old) (state_of self.new)) }
+        ensures kept { OnErr result
+            (state_of self.new ≡ state_of self.old) }
+        ensures limited { AreLimited
+            (rules_of (state_of self.old)) }
     {
-        let round = self.rounds.checked_add(1).ok_or(AllocError)?;
-        let mut wants = wants;
-        let orders = cut_all(&mut self.loaders, &mut self.rounds, round, &mut wants)?;
-        self.spare = wants;
-        let alloc = *self.loaders.allocator();
+        let alloc = self.alloc();
         run_and_keep(alloc, &self.loaders, orders, &mut self.memory)?;
-        mark_all(&mut self.loaders, round);
+        mark_all(&mut self.loaders, self.rounds);
         Ok(())
     }
 }

@@ -1,108 +1,106 @@
-use Rattle.std.proofs.Common.{◌≡◌, ◌+◌, refl, Some}
-use Rattle.load_memory.proofs.LoaderMemoryLaws.{SomeIff-at}
+use Rattle.std.proofs.Common.{◌≡◌, ◌∙◌, Some, None, ap, sym, subst, refl}
 use Rattle.load_rounds.specs.Sessions.{state_of}
-use Rattle.load_rounds.specs.Answerings.{far_of, begun, rounds_of}
-use Rattle.load_rounds.proofs.Polls.{can-fits, can-begin, can-ask, gives-answer, gives-none, gives-none-more, can-again, gives-same, poll-ran}
+use Rattle.load_rounds.specs.Headline.{Headline}
+use Rattle.load_rounds.specs.SharedRounds.{ReportOf, report_of}
+use Rattle.load_rounds.specs.Answerings.{far_of}
+use Rattle.load_rounds.proofs.Polls.{poll-ran}
+use Rattle.load_rounds.proofs.Stages.{answered-one, stopped-one}
 use Rattle.load_rounds.proofs.answering.AnsweringFuture.poll.Goals as goal
 
-pub begin-session-requires : goal.begin-session-requires
-begin-session-requires g c =
-    let may = g.S.LocalSource.may_tell in
-    let plan = c.self.inside.plan.now in
-    let far = far_of c.self.inside.far in
-    let can = rw (← c.self.view_is) at c.requires in
-    rw c.replace.ensures.value (record {
-      can = can-begin may (g.P.Execute.fits plan) (g.P.Execute.loaders plan) (g.P.Execute.program plan) far can;
-      fits = can-fits may (g.P.Execute.fits plan) (g.P.Execute.loaders plan) (g.P.Execute.program plan) far can;
-    })
+some-is : {X : Type 0} (x y : X) → Some x ≡ Some y → x ≡ y
+some-is x y e = cc e
 
-pub turn-requires : goal.turn-requires
-turn-requires g c =
+pub unreachable-requires : goal.unreachable-requires
+unreachable-requires g c =
     let may = g.S.LocalSource.may_tell in
     let plan = c.self.inside.plan.now in
-    let far = far_of c.self.inside.far in
-    let can = rw (← c.self.view_is) at c.requires in
-    let cur = state_of c.begin-session.result.session in
-    let at : begun far ≡ Some cur = rw c.replace.ensures.value at c.begin-session.ensures.state in
-    record { loaders = can-ask may (g.P.Execute.fits plan) (g.P.Execute.loaders plan) (g.P.Execute.program plan) far cur at can; fits = c.begin-session.ensures.fits }
+    let run = c.begin-session.result.1 in
+    let later = c.turn.new.self in
+    let now = state_of c.turn.new.session in
+    let start = rw c.replace-far.ensures.value at c.begin-session.ensures in
+    let plans = c.turn.ensures.kept.plans ∙ start.can.plans in
+    let turned = rw c.in-Ok-false.field-0-test at c.in-Ok-false.ensures.turned in
+    let done = answered-one g.P.Execute.program g.P.Execute.text_of may start.can.old now plan later plans turned.3 (c.in-Ok-false.ensures.run start.can.old start.can.is) in
+    let none : None ≡ Some done.0 = rw c.in-None.is at c.into_answer.ensures ∙ done.1 in
+    cc none
 
-pub returns-in-Ok-Ready-clause-value : goal.returns-in-Ok-Ready-clause-value
-returns-in-Ok-Ready-clause-value g c =
+pub returns-in-Ok-true-clause-again : goal.returns-in-Ok-true-clause-again
+returns-in-Ok-true-clause-again g c =
     let may = g.S.LocalSource.may_tell in
     let plan = c.self.inside.plan.now in
-    let far = far_of c.self.inside.far in
-    let can = rw (← c.self.view_is) at c.requires in
-    let cur = state_of c.begin-session.result.session in
-    let at : begun far ≡ Some cur = rw c.replace.ensures.value at c.begin-session.ensures.state in
-    let is : c.begin-session.result.rounds ≡ rounds_of far = rw c.replace.ensures.value at c.begin-session.ensures.rounds in
-    let done = rw c.in-Ok-Ready.field-0-is at c.in-Ok-Ready.ensures.turned in
-    rw (← c.self.view_is) (gives-answer may (g.P.Execute.fits plan) (g.P.Execute.loaders plan) (g.P.Execute.program plan) far cur c.begin-session.result.rounds at is can
-    c.in-Ok-Ready.ensures.may.0 (g.P.Execute.text_of plan) c.turn.new.self (record { text = c.in-Ok-Ready.text; rounds = c.begin-session.result.rounds }) c.in-Ok-Ready.ensures.may.1 refl done.0 done.1 done.2)
+    let run = c.begin-session.result.1 in
+    let later = c.turn.new.self in
+    let now = state_of c.turn.new.session in
+    let start = rw c.replace-far.ensures.value at c.begin-session.ensures in
+    let plans = c.turn.ensures.kept.plans ∙ start.can.plans in
+    let turned = rw c.in-Ok-true.field-0-test at c.in-Ok-true.ensures.turned in
+    rw c.yield_now.ensures.pending (record { plans = plans; ready = turned.3; holds = c.turn.ensures.holds; old = start.can.old; is = c.in-Ok-true.ensures.run start.can.old start.can.is })
 
-pub returns-in-Some-clause-again : goal.returns-in-Some-clause-again
-returns-in-Some-clause-again g c =
-    let may = g.S.LocalSource.may_tell in
-    let plan = c.self.inside.plan.now in
-    let far = far_of c.self.inside.far in
-    let can = rw (← c.self.view_is) at c.requires in
-    let cur = state_of c.begin-session.result.session in
-    let at : begun far ≡ Some cur = rw c.replace.ensures.value at c.begin-session.ensures.state in
-    let is : c.begin-session.result.rounds ≡ rounds_of far = rw c.replace.ensures.value at c.begin-session.ensures.rounds in
-    let done = rw c.in-Ok-Pending.field-0-is at c.in-Ok-Pending.ensures.turned in
-    let next : c.in-Some.rounds ≡ c.begin-session.result.rounds + 1 = SomeIff-at c.checked_add.result _ _ _ c.in-Some.is c.checked_add.ensures in
-    rw c.yield_now.ensures.pending (can-again may (g.P.Execute.fits plan) (g.P.Execute.loaders plan) (g.P.Execute.program plan) far cur c.begin-session.result.rounds at is can c.turn.new.self c.in-Some.rounds c.turn.new.progress next done.0 done.1 c.in-Ok-Pending.ensures.fits)
+pub returns-in-Ok-true-clause-same : goal.returns-in-Ok-true-clause-same
+returns-in-Ok-true-clause-same g c =
+    let start = rw c.replace-far.ensures.value at c.begin-session.ensures in
+    rw (← c.self.view_is, c.yield_now.ensures.pending) (λ out gives old underway. gives old (c.in-Ok-true.ensures.run old (start.since old underway)))
 
-pub returns-in-Some-clause-same : goal.returns-in-Some-clause-same
-returns-in-Some-clause-same g c =
+pub returns-in-Ok-true-clause-polled : goal.returns-in-Ok-true-clause-polled
+returns-in-Ok-true-clause-polled g c =
     let may = g.S.LocalSource.may_tell in
     let plan = c.self.inside.plan.now in
-    let far = far_of c.self.inside.far in
-    let can = rw (← c.self.view_is) at c.requires in
-    let cur = state_of c.begin-session.result.session in
-    let at : begun far ≡ Some cur = rw c.replace.ensures.value at c.begin-session.ensures.state in
-    let is : c.begin-session.result.rounds ≡ rounds_of far = rw c.replace.ensures.value at c.begin-session.ensures.rounds in
-    let done = rw c.in-Ok-Pending.field-0-is at c.in-Ok-Pending.ensures.turned in
-    let next : c.in-Some.rounds ≡ c.begin-session.result.rounds + 1 = SomeIff-at c.checked_add.result _ _ _ c.in-Some.is c.checked_add.ensures in
-    rw (← c.self.view_is, c.yield_now.ensures.pending) (gives-same may (g.P.Execute.fits plan) (g.P.Execute.loaders plan) (g.P.Execute.program plan) far cur c.begin-session.result.rounds at is can c.turn.new.self c.in-Some.rounds c.turn.new.progress next done.0 done.1 (g.P.Execute.text_of plan))
-
-pub returns-in-Some-clause-polled : goal.returns-in-Some-clause-polled
-returns-in-Some-clause-polled g c =
-    let may = g.S.LocalSource.may_tell in
-    let plan = c.self.inside.plan.now in
-    let far = far_of c.self.inside.far in
-    let can = rw (← c.self.view_is) at c.requires in
-    let cur = state_of c.begin-session.result.session in
-    let at : begun far ≡ Some cur = rw c.replace.ensures.value at c.begin-session.ensures.state in
-    let is : c.begin-session.result.rounds ≡ rounds_of far = rw c.replace.ensures.value at c.begin-session.ensures.rounds in
-    let done = rw c.in-Ok-Pending.field-0-is at c.in-Ok-Pending.ensures.turned in
-    let next : c.in-Some.rounds ≡ c.begin-session.result.rounds + 1 = SomeIff-at c.checked_add.result _ _ _ c.in-Some.is c.checked_add.ensures in
+    let run = c.begin-session.result.1 in
+    let later = c.turn.new.self in
+    let now = state_of c.turn.new.session in
+    let start = rw c.replace-far.ensures.value at c.begin-session.ensures in
+    let plans = c.turn.ensures.kept.plans ∙ start.can.plans in
+    let turned = rw c.in-Ok-true.field-0-test at c.in-Ok-true.ensures.turned in
     rw (← c.self.view_is, c.yield_now.ensures.pending) (record {
       plan = refl;
-      round = poll-ran may (g.P.Execute.fits plan) (g.P.Execute.loaders plan) (g.P.Execute.program plan) far cur c.begin-session.result.rounds at is can c.turn.new.self c.in-Some.rounds c.turn.new.progress next done.0 done.1 c.in-Ok-Pending.ensures.may.0 c.in-Ok-Pending.ensures.may.1;
+      round = poll-ran g.P.Execute.program g.P.Execute.text_of g.P.Execute.loaders g.P.Execute.fits may plan (far_of c.self.inside.far) c.begin-session.result.0 c.turn.new.session run later start c.turn.ensures.kept.plans turned (λ old is. c.in-Ok-true.ensures.run old is) c.in-Ok-true.ensures.may;
       yielded = c.yield_now.ensures.woken;
       counted = tt;
       asks_nothing = tt;
     })
 
-pub returns-in-None-clause-value : goal.returns-in-None-clause-value
-returns-in-None-clause-value g c =
+pub returns-in-Some-clause-value : goal.returns-in-Some-clause-value
+returns-in-Some-clause-value g c =
     let may = g.S.LocalSource.may_tell in
     let plan = c.self.inside.plan.now in
-    let far = far_of c.self.inside.far in
-    let can = rw (← c.self.view_is) at c.requires in
-    let cur = state_of c.begin-session.result.session in
-    let at : begun far ≡ Some cur = rw c.replace.ensures.value at c.begin-session.ensures.state in
-    let is : c.begin-session.result.rounds ≡ rounds_of far = rw c.replace.ensures.value at c.begin-session.ensures.rounds in
-    let done = rw c.in-Ok-Pending.field-0-is at c.in-Ok-Pending.ensures.turned in
-    rw (← c.self.view_is) (gives-none-more may (g.P.Execute.fits plan) (g.P.Execute.loaders plan) (g.P.Execute.program plan) far cur c.begin-session.result.rounds at is can c.turn.new.self (c.begin-session.result.rounds + 1) c.turn.new.progress refl done.0 done.1 (g.P.Execute.text_of plan) (record {}))
+    let run = c.begin-session.result.1 in
+    let later = c.turn.new.self in
+    let now = state_of c.turn.new.session in
+    let start = rw c.replace-far.ensures.value at c.begin-session.ensures in
+    let plans = c.turn.ensures.kept.plans ∙ start.can.plans in
+    let turned = rw c.in-Ok-false.field-0-test at c.in-Ok-false.ensures.turned in
+    rw (← c.self.view_is) (λ old underway.
+        let done = answered-one g.P.Execute.program g.P.Execute.text_of may old now plan later plans turned.3 (c.in-Ok-false.ensures.run old (start.since old underway)) in
+        let same : report_of c.in-Some.answer ≡ done.0 = some-is (report_of c.in-Some.answer) done.0 (rw c.in-Some.is at c.into_answer.ensures ∙ done.1) in
+        (subst (λ (t : ReportOf). Headline may old now (g.P.Execute.program plan) (g.P.Execute.text_of plan) t.text t.rounds) (sym same) done.2, tt))
+
+pub returns-in-Some-clause-polled : goal.returns-in-Some-clause-polled
+returns-in-Some-clause-polled g c =
+    let may = g.S.LocalSource.may_tell in
+    let plan = c.self.inside.plan.now in
+    let run = c.begin-session.result.1 in
+    let later = c.turn.new.self in
+    let now = state_of c.turn.new.session in
+    let start = rw c.replace-far.ensures.value at c.begin-session.ensures in
+    let plans = c.turn.ensures.kept.plans ∙ start.can.plans in
+    let turned = rw c.in-Ok-false.field-0-test at c.in-Ok-false.ensures.turned in
+    let done = answered-one g.P.Execute.program g.P.Execute.text_of may start.can.old now plan later plans turned.3 (c.in-Ok-false.ensures.run start.can.old start.can.is) in
+    let same : report_of c.in-Some.answer ≡ done.0 = some-is (report_of c.in-Some.answer) done.0 (rw c.in-Some.is at c.into_answer.ensures ∙ done.1) in
+    rw (← c.self.view_is) (record {
+      plan = refl;
+      round = tt;
+      yielded = tt;
+      counted = ap (λ (t : ReportOf). t.rounds) same ∙ done.3 ∙ turned.2 ∙ start.rounds;
+      asks_nothing = start.begins ∙ ap Some (sym turned.1);
+    })
 
 pub returns-in-Err-clause-value : goal.returns-in-Err-clause-value
 returns-in-Err-clause-value g c =
     let may = g.S.LocalSource.may_tell in
     let plan = c.self.inside.plan.now in
-    let far = far_of c.self.inside.far in
-    let can = rw (← c.self.view_is) at c.requires in
-    let cur = state_of c.begin-session.result.session in
-    let at : begun far ≡ Some cur = rw c.replace.ensures.value at c.begin-session.ensures.state in
-    let is : c.begin-session.result.rounds ≡ rounds_of far = rw c.replace.ensures.value at c.begin-session.ensures.rounds in
-    rw (← c.self.view_is) (gives-none may (g.P.Execute.fits plan) (g.P.Execute.loaders plan) (g.P.Execute.program plan) far cur c.begin-session.result.rounds at is can (g.P.Execute.text_of plan) c.turn.new.self c.in-Err.fault c.in-Err.ensures.stopped)
+    let run = c.begin-session.result.1 in
+    let later = c.turn.new.self in
+    let now = state_of c.turn.new.session in
+    let start = rw c.replace-far.ensures.value at c.begin-session.ensures in
+    let plans = c.turn.ensures.kept.plans ∙ start.can.plans in
+    rw (← c.self.view_is) (λ old underway. (tt, stopped-one g.P.Execute.program g.P.Execute.text_of may old now plan later plans c.in-Err.ensures.failed (c.in-Err.ensures.run old (start.since old underway))))

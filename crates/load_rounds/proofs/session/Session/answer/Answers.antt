@@ -1,56 +1,34 @@
-use Rattle.std.proofs.Common.{◌≡◌, ◌+◌, arith, inl, refl}
-use Rattle.std.specs.Prelude.{string_bytes}
-use Rattle.load_memory.proofs.LoaderMemoryLaws.{SomeIff-at}
-use Rattle.execution.specs.Program.{Program}
-use Rattle.load_rounds.specs.Sessions.{state_of, memory_of}
-use Rattle.load_rounds.proofs.Following.{in-none, in-more, in-all, in-stops, in-loaders}
+use Rattle.std.proofs.Common.{◌≡◌, ◌∙◌, Some, None, refl, sym, subst, ap}
+use Rattle.load_rounds.specs.Sessions.{state_of}
+use Rattle.load_rounds.specs.Headline.{Headline}
+use Rattle.load_rounds.specs.SharedRounds.{ReportOf, report_of}
+use Rattle.load_rounds.proofs.Stages.{answered-one, stopped-one}
 use Rattle.load_rounds.proofs.States.{on-err}
 use Rattle.load_rounds.proofs.session.Session.answer.Goals as goal
 
-pub loop-progress-init : goal.loop-progress-init
-loop-progress-init g c = record {
-  rounds = in-none g.S.LocalSource.may_tell (state_of c.args.self.now) (state_of c.forget.new.self) (g.P.Execute.program c.args.plan.now) c.forget.ensures.after;
-  fits = c.start-progress.ensures (memory_of c.forget.new.self);
-}
+some-is : {X : Type 0} (x y : X) → Some x ≡ Some y → x ≡ y
+some-is x y e = cc e
 
-pub turn-requires : goal.turn-requires
-turn-requires g c =
-    let size = in-loaders g.S.LocalSource.may_tell (state_of c.args.self.now) (state_of c.loop-progress.self) (g.P.Execute.program c.args.plan.now) c.loop-progress.rounds c.loop-progress.invariant.rounds in
-    record { loaders = omega (arith, c.requires, size); fits = c.loop-progress.invariant.fits }
-
-pub returns-in_err-text-clause-stopped : goal.returns-in_err-text-clause-stopped
-returns-in_err-text-clause-stopped g c =
+pub returns-in_err-run-clause-stopped : goal.returns-in_err-run-clause-stopped
+returns-in_err-run-clause-stopped g c =
     let old = state_of c.args.self.now in
-    let cur = state_of c.loop-progress.self in
-    let p : Program = g.P.Execute.program c.args.plan.now in
-    on-err c.from_residual.result (in-stops g.S.LocalSource.may_tell old cur (state_of c.turn.new.self) p c.loop-progress.rounds c.loop-progress.invariant.rounds c.in_err-text.ensures.stopped)
+    let begun = c.begin-rounds.ensures.begun in
+    on-err c.from_residual.result (stopped-one g.P.Execute.program g.P.Execute.text_of g.S.LocalSource.may_tell old (state_of c.run.new.session) c.args.plan.now c.run.new.self (c.run.ensures.kept.plans ∙ begun.same) c.in_err-run.ensures.failed (c.run.ensures.run old begun.is))
 
-pub returns-in-Ready-clause-answer : goal.returns-in-Ready-clause-answer
-returns-in-Ready-clause-answer g c =
+pub unreachable-requires : goal.unreachable-requires
+unreachable-requires g c =
     let old = state_of c.args.self.now in
-    let cur = state_of c.loop-progress.self in
+    let begun = c.begin-rounds.ensures.begun in
+    let done = answered-one g.P.Execute.program g.P.Execute.text_of g.S.LocalSource.may_tell old (state_of c.run.new.session) c.args.plan.now c.run.new.self (c.run.ensures.kept.plans ∙ begun.same) c.in_ok-run.ensures.finished (c.run.ensures.run old begun.is) in
+    let none : None ≡ Some done.0 = rw c.in-None.is at c.into_answer.ensures ∙ done.1 in
+    cc none
+
+pub returns-clause-answer : goal.returns-clause-answer
+returns-clause-answer g c =
+    let old = state_of c.args.self.now in
+    let now = state_of c.run.new.session in
     let plan = c.args.plan.now in
-    let done = rw c.in-Ready.is at c.in_ok-text.ensures.turned in
-    rw done.0 (in-all g.S.LocalSource.may_tell old cur (g.P.Execute.program plan) c.loop-progress.rounds (g.P.Execute.loaders plan) (g.P.Execute.text_of plan) (string_bytes c.in-Ready.text) c.loop-progress.invariant.rounds c.forget.ensures.limited c.in_ok-text.ensures.may.0 c.requires
-    done.1 done.2)
-
-pub loop-progress-preserved : goal.loop-progress-preserved
-loop-progress-preserved g c =
-    let old = state_of c.args.self.now in
-    let cur = state_of c.loop-progress.self in
-    let p : Program = g.P.Execute.program c.args.plan.now in
-    let ran = rw c.in-Pending.is at c.in_ok-text.ensures.turned in
-    let next : c.in_ok-rounds-in-Pending.rounds ≡ c.loop-progress.rounds + 1 = SomeIff-at c.checked_add.result _ _ _ c.in_ok-rounds-in-Pending.ensures.ok_part c.checked_add.ensures in
-    record {
-      rounds = in-more g.S.LocalSource.may_tell old cur (state_of c.turn.new.self) p c.loop-progress.rounds c.in_ok-rounds-in-Pending.rounds c.loop-progress.invariant.rounds next ran.0 ran.1;
-      fits = c.in_ok-text.ensures.fits;
-    }
-
-pub returns-in_err-rounds-in-Pending-clause-stopped : goal.returns-in_err-rounds-in-Pending-clause-stopped
-returns-in_err-rounds-in-Pending-clause-stopped g c =
-    let old = state_of c.args.self.now in
-    let cur = state_of c.loop-progress.self in
-    let p : Program = g.P.Execute.program c.args.plan.now in
-    let ran = rw c.in-Pending.is at c.in_ok-text.ensures.turned in
-    let one = in-more g.S.LocalSource.may_tell old cur (state_of c.turn.new.self) p c.loop-progress.rounds (c.loop-progress.rounds + 1) c.loop-progress.invariant.rounds refl ran.0 ran.1 in
-    on-err c.from_residual-in_err-rounds-in-Pending.result (in-stops g.S.LocalSource.may_tell old (state_of c.turn.new.self) (state_of c.turn.new.self) p (c.loop-progress.rounds + 1) one (inl refl))
+    let begun = c.begin-rounds.ensures.begun in
+    let done = answered-one g.P.Execute.program g.P.Execute.text_of g.S.LocalSource.may_tell old now plan c.run.new.self (c.run.ensures.kept.plans ∙ begun.same) c.in_ok-run.ensures.finished (c.run.ensures.run old begun.is) in
+    let same : report_of c.in-Some.answer ≡ done.0 = some-is (report_of c.in-Some.answer) done.0 (rw c.in-Some.is at c.into_answer.ensures ∙ done.1) in
+    subst (λ (t : ReportOf). Headline g.S.LocalSource.may_tell old now (g.P.Execute.program plan) (g.P.Execute.text_of plan) t.text t.rounds) (sym same) done.2

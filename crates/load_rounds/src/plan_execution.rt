@@ -1,0 +1,140 @@
+//! Executions of plans: each with its answer once nothing that it needs is missing.
+ghost use Rattle.std.specs.Prelude.{◌≡◌, ◌≤◌, All, length, map, is_none, None, option_map, IfOk, OnOk};
+ghost use Rattle.execution.specs.Front.{front, wanting, modes_wanted};
+ghost use Rattle.load_memory.specs.Pairs.{look};
+ghost use Rattle.execution.specs.Executes.{CanExecute};
+ghost use Rattle.load_rounds.specs.SharedRounds.{report_of};
+ghost use Rattle.load_rounds.specs.Executions.{FitParts, GoOn, plans_in, reports_in, fronts, some_unreported};
+
+use crate::answer::Answer;
+use execution::Execute;
+use futures::task::Poll;
+use load_memory::Memory;
+use load_queue::Wants;
+use std::alloc::{AllocError, Global};
+use std::marker::Model;
+
+/// A plan with its execution, and its answer once nothing that it needs is missing.
+#[derive(Drop)]
+pub(crate) struct PlanExecution<P, E> {
+    plan: P,
+    progress: E,
+    answer: Option<Answer>,
+}
+
+impl<P, E> Model for PlanExecution<P, E> {
+    ghost use Rattle.std.specs.Prelude.{option_map};
+    ghost use Rattle.load_rounds.specs.SharedRounds.{report_of};
+    ghost use Rattle.load_rounds.specs.Executions.{PartOf};
+
+    ghost Value = { PartOf P E };
+
+    ghost view = { λ p. record { plan = p.plan; progress = p.progress; report = option_map report_of p.answer } };
+}
+
+impl<E, P: Execute<E>> PlanExecution<P, E> {
+    ghost use Rattle.load_rounds.specs.Executions.{FitsPart, GoesOn};
+
+    /// The execution of a plan of which nothing is done.
+    pub(crate) fn start(plan: P) -> PlanExecution<P, E>
+        ensures plan { result.plan ≡ plan }
+        ensures none { result.report ≡ None }
+        ensures fits { (m : _) → P.fits plan result.progress m }
+    {
+        let progress = plan.start();
+        PlanExecution {
+            plan,
+            progress,
+            answer: None,
+        }
+    }
+
+    /// Goes on with the execution over the memory, unless there is an answer already. If loads are missing, adds them to the wants
+    /// and returns true.
+    pub(crate) fn go_on(
+        &mut self,
+        alloc: Global,
+        memory: &Memory,
+        rounds: u32,
+        wants: &mut Wants,
+    ) -> Result<bool, AllocError>
+        requires can { CanExecute
+            (P.loaders self.old.plan) memory.now wants.old }
+        requires fits { FitsPart P.program P.text_of P.loaders P.fits
+            self.old.plan self.old.progress self.old.report memory.now }
+        ensures went { OnOk result
+            (GoesOn P.program P.text_of P.loaders P.fits rounds memory.now self.old self.new) }
+        ensures wanted { OnOk result (wants.new ≡ wanting wants.old
+            (front memory.now.modes (P.program self.old.plan) (look memory.now.pairs))) }
+        ensures missing { IfOk result
+            (λ missing. missing ≡ is_none self.new.report) }
+        ensures kept { self.new.plan ≡ self.old.plan }
+    {
+        if self.answer.is_some() {
+            return Ok(false);
+        }
+        match self.plan.execute(&mut self.progress, alloc, memory, wants)? {
+            Poll::Ready(text) => {
+                self.answer = Some(Answer { text, rounds });
+                Ok(false)
+            }
+            Poll::Pending => Ok(true),
+        }
+    }
+}
+
+/// Goes on with each of them, in order. Returns true if loads are missing.
+pub(crate) fn go_on_all<E, P: Execute<E>>(
+    executions: &mut Vec<PlanExecution<P, E>>,
+    alloc: Global,
+    memory: &Memory,
+    rounds: u32,
+    wants: &mut Wants,
+) -> Result<bool, AllocError>
+    requires enough { All (λ plan. P.loaders plan ≤ length memory.now.modes)
+        (plans_in executions.old.items) }
+    requires lined_up { modes_wanted wants.old
+        ≡ memory.now.modes }
+    requires fits { FitParts P.program P.text_of
+        P.loaders P.fits executions.old.items memory.now }
+    ensures went { OnOk result (GoOn P.program P.text_of P.loaders
+        P.fits rounds memory.now executions.old.items executions.new.items) }
+    ensures wanted { OnOk result (wants.new
+        ≡ wanting wants.old (fronts P.program memory.now (plans_in executions.old.items))) }
+    ensures missing { IfOk result (λ missing.
+        missing ≡ some_unreported executions.new.items) }
+    ensures kept { plans_in executions.new.items ≡ plans_in executions.old.items }
+{
+    let mut is_missing = false;
+    for at in 0..executions.len() {
+        let is_next_missing = executions[at].go_on(alloc, memory, rounds, wants)?;
+        is_missing = is_missing | is_next_missing;
+    }
+    Ok(is_missing)
+}
+
+impl<P: Drop, E: Drop> PlanExecution<P, E> {
+    /// The answer, if nothing is missing any more.
+    pub(crate) fn into_answer(self) -> Option<Answer>
+        ensures { option_map report_of result ≡ self.report }
+    {
+        self.answer
+    }
+}
+
+/// The answers, in order.
+pub(crate) fn answers_in<P: Drop, E: Drop>(
+    alloc: Global,
+    executions: Vec<PlanExecution<P, E>>,
+) -> Result<Vec<Answer>, AllocError>
+    ensures { IfOk result (λ answers.
+        map report_of answers.items ≡ reports_in executions.items) }
+{
+    let mut answers = Vec::with_capacity(alloc, executions.len())?;
+    for execution in executions {
+        if let Some(answer) = execution.into_answer() {
+            answers.push(answer)?;
+        }
+    }
+    Ok(answers)
+}
