@@ -1,6 +1,5 @@
 -- Lemmas on what the receipts of workers are to the run whose round is out.
-use Rattle.std.proofs.Common.{◌≡◌, List, [], ◌∷◌, map, Result, Ok, Err, subst}
-use Rattle.std.specs.Prelude.{OnErr}
+use Rattle.std.proofs.Common.{◌≡◌, List, [], ◌∷◌, map}
 use Rattle.std.proofs.lemmas.List.Sorted.{IsPermutation-map, IsPermutation-sym}
 use Rattle.load_memory.specs.Keys.{KeyOf}
 use Rattle.load_memory.specs.Shelves.{shown}
@@ -31,8 +30,3 @@ module _ {S : Type 0} (may : S → List KeyOf → AnswerOf → Type 0) (loaders 
         fit = replies-shown orders rs.0 rs.2;
         moved = IsPermutation-map shown rs.0 receipts (IsPermutation-sym receipts rs.0 rs.1);
       }
-
--- a property of the run that a failed call leaves
-pub err-run : {X T E : Type 0} (F : X → Type 0) (r : Result T E) (new run : X) → F new → OnErr r (new ≡ run) → OnErr r (F run)
-err-run F (Ok x) new run h is = tt
-err-run F (Err e) new run h is = subst F is h

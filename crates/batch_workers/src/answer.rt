@@ -1,19 +1,21 @@
 //! Answers with workers: round after round until nothing is missing, each by workers over a shelf of its own.
 //!
-//! An answer is a run by hand of `load_rounds`, which starts no threads, and takes the session's allocator. A
+//! An answer is a run of `load_rounds`, which starts no threads, and takes the session's allocator. A
 //! shelf goes with its round, so that no receipt of an earlier round is on it; the memory copies outcomes from
 //! it.
-ghost use Rattle.std.specs.Prelude.{◌≡◌, ◌<◌, ◌≤◌, ◌↔◌, length, IfOk, OnOk, OnErr, IsErrOf};
+ghost use Rattle.std.specs.Prelude.{◌≡◌, ◌<◌, ◌≤◌, ◌↔◌, All, length, IfOk, OnOk, OnErr, IsErrOf};
 ghost use Rattle.load_rounds.specs.Sessions.{state_of};
 ghost use Rattle.load_rounds.specs.Headline.{HasHeadline};
+ghost use Rattle.load_rounds.specs.SharedRounds.{requests, joint, AreAnswers};
 ghost use Rattle.load_rounds.specs.ByHand.{AwaitsReplies};
-ghost use Rattle.batch_workers.specs.Workers.{IsBadCount, Stops, AreOrdersIn, MakesRound, LosesRound};
+ghost use Rattle.load_rounds.specs.Runs.{GoesOnFrom, Holds, KeepsPlans, program_of};
+ghost use Rattle.batch_workers.specs.Workers.{IsBadCount, Stops, AreOrdersIn};
 
 use crate::fault::WorkFault;
 use crate::round::{MOST_WORKERS, run_round};
 use load_memory::Shelf;
 use load_queue::{Order, Source};
-use load_rounds::{Answer, Execute, Next, RoundsByHand, Session};
+use load_rounds::{Answer, Execute, Rounds, Session, Stage};
 use std::alloc::AllocError;
 use std::sync::Wait;
 use std::thread::Threads;
@@ -58,7 +60,44 @@ pub fn answer_with<S: Source, E: Drop, P: Execute<E>, R: Threads + Wait + Sync>(
     }
 }
 
-// Makes round after round until nothing is missing, over one execution of the plan.
+/// Answers several plans as [`Session::answer_all`] does, where the session has the plans' loaders; the batches of each round are run
+/// by this many workers at the same time, 1 to 16. The calling thread is one of them, and a round of one batch starts no thread. All
+/// workers have ended when it returns.
+///
+/// # Errors
+///
+/// Those of [`answer_with`].
+///
+/// # Headline
+///
+/// `answers`, `stopped`, `bad_count` and `refused`, as `answer_with`
+pub fn answer_all_with<S: Source, E: Drop, P: Execute<E> + Drop, R: Threads + Wait + Sync>(
+    rt: &R,
+    session: &mut Session<S>,
+    plans: Vec<P>,
+    workers: usize,
+) -> Result<Vec<Answer>, WorkFault>
+    requires loaders { All (λ plan. P.loaders plan
+        ≤ length session.old.loaders) plans.items }
+    ensures bad_count { IsErrOf result WorkFault.BadCount
+        ↔ IsBadCount workers }
+    ensures refused { IsErrOf result WorkFault.BadCount
+        → session.new ≡ session.old }
+    ensures answers { IfOk result (AreAnswers S.may_answer (state_of session.old)
+        (state_of session.new) (requests P.program P.text_of plans.items)) }
+    ensures stopped { IsErrOf result WorkFault.NoMemory
+        → Stops S.may_answer session.old session.new (joint P.program P.text_of plans.items) }
+{
+    if workers == 0 || workers > MOST_WORKERS {
+        return Err(WorkFault::BadCount);
+    }
+    match answer_all_in_rounds(rt, session, plans, workers) {
+        Ok(answers) => Ok(answers),
+        Err(_) => Err(WorkFault::NoMemory),
+    }
+}
+
+// Answers a plan, where the number of workers is no bad one.
 fn answer_in_rounds<S: Source, E: Drop, P: Execute<E>, R: Threads + Wait + Sync>(
     rt: &R,
     session: &mut Session<S>,
@@ -73,13 +112,55 @@ fn answer_in_rounds<S: Source, E: Drop, P: Execute<E>, R: Threads + Wait + Sync>
     ensures stopped { OnErr result (Stops S.may_answer session.old session.new
         (P.program plan.now)) }
 {
-    let mut run = session.begin(plan)?;
-    let mut progress = plan.start();
+    let mut rounds = session.begin(plan);
+    run(rt, session, &mut rounds, workers)?;
+    match rounds.into_answer() {
+        Some(answer) => Ok(answer),
+        None => unreachable!(),
+    }
+}
+
+// Answers several plans, where the number of workers is no bad one.
+fn answer_all_in_rounds<S: Source, E: Drop, P: Execute<E> + Drop, R: Threads + Wait + Sync>(
+    rt: &R,
+    session: &mut Session<S>,
+    plans: Vec<P>,
+    workers: usize,
+) -> Result<Vec<Answer>, AllocError>
+    requires count { (0 < workers) × (workers ≤ 16) }
+    requires loaders { All (λ plan. P.loaders plan
+        ≤ length session.old.loaders) plans.items }
+    ensures answers { IfOk result (AreAnswers S.may_answer (state_of session.old)
+        (state_of session.new) (requests P.program P.text_of plans.items)) }
+    ensures stopped { OnErr result
+        (Stops S.may_answer session.old session.new (joint P.program P.text_of plans.items)) }
+{
+    let alloc = *plans.allocator();
+    let mut rounds = session.begin_all(plans)?;
+    run(rt, session, &mut rounds, workers)?;
+    rounds.into_answers(alloc)
+}
+
+// Makes round after round until nothing is missing.
+fn run<S: Source, E, P: Execute<E>, R: Threads + Wait + Sync>(
+    rt: &R,
+    session: &mut Session<S>,
+    rounds: &mut Rounds<P, E>,
+    workers: usize,
+) -> Result<(), AllocError>
+    requires count { (0 < workers) × (workers ≤ 16) }
+    requires ready { rounds.old.stage ≡ Stage.Ready }
+    requires holds { Holds P.program P.text_of P.loaders P.fits rounds.old session.old }
+    ensures finished { OnOk result (rounds.new.stage ≡ Stage.Finished) }
+    ensures run { GoesOnFrom P.program P.text_of S.may_answer
+        (state_of session.old) (state_of session.new) rounds.old rounds.new }
+    ensures kept { KeepsPlans session.old session.new rounds.old rounds.new }
+{
     loop {
-        match run.resume(session, &mut progress)? {
-            Next::Finished(answer) => return Ok(answer),
-            Next::Round(orders) => make_round(rt, session, &mut run, orders, workers)?,
-        }
+        let Some(orders) = rounds.advance(session)? else {
+            return Ok(());
+        };
+        make_round(rt, session, rounds, orders, workers)?;
     }
 }
 
@@ -87,22 +168,24 @@ fn answer_in_rounds<S: Source, E: Drop, P: Execute<E>, R: Threads + Wait + Sync>
 fn make_round<S: Source, E, P: Execute<E>, R: Threads + Wait + Sync>(
     rt: &R,
     session: &mut Session<S>,
-    run: &mut RoundsByHand<'_, P>,
+    rounds: &mut Rounds<P, E>,
     orders: Vec<Order>,
     workers: usize,
 ) -> Result<(), AllocError>
     requires count { (0 < workers) × (workers ≤ 16) }
-    requires out { AwaitsReplies (P.program run.old.plan)
-        run.old.stage (state_of session.old) }
+    requires out { AwaitsReplies (program_of P.program P.text_of rounds.old)
+        rounds.old.stage (state_of session.old) }
     requires orders { AreOrdersIn (state_of session.old)
-        (P.program run.old.plan) orders.items }
-    ensures made { OnOk result (MakesRound S.may_answer (P.program run.old.plan)
-        session.old session.new run.old run.new) }
-    ensures lost { OnErr result (LosesRound S.may_answer (P.program run.old.plan)
-        (state_of session.old) (state_of session.new) run.old.rounds) }
+        (program_of P.program P.text_of rounds.old) orders.items }
+    requires holds { Holds P.program P.text_of P.loaders P.fits rounds.old session.old }
+    ensures made { OnOk result (rounds.new ≡ record rounds.old { stage = Stage.Ready }) }
+    ensures holds { Holds P.program P.text_of P.loaders P.fits rounds.new session.new }
+    ensures run { GoesOnFrom P.program P.text_of S.may_answer
+        (state_of session.old) (state_of session.new) rounds.old rounds.new }
+    ensures kept { KeepsPlans session.old session.new rounds.old rounds.new }
 {
     let alloc = *orders.allocator();
     let shelf = Shelf::new(alloc)?;
     let receipts = run_round(rt, alloc, session.loaders(), &shelf, orders, workers)?;
-    run.take(session, &shelf, receipts.as_slice())
+    rounds.take(session, &shelf, receipts.as_slice())
 }

@@ -1,5 +1,5 @@
 -- Polls of an answering future that follow one another.
-use Rattle.std.proofs.Common.{◌≡◌, ◌≢◌, ◌≤◌, ◌+◌, ℕ, true, List, [], ◌∷◌, length, Some, refl, ap, subst, ◌∙◌, sym, arith, inl}
+use Rattle.std.proofs.Common.{◌≡◌, ◌≤◌, ◌+◌, ℕ, true, List, [], ◌∷◌, length, refl, ap, subst, ◌∙◌, arith, inl}
 use Rattle.std.proofs.lemmas.List.{length-map}
 use Rattle.load_memory.specs.Keys.{KeyOf}
 use Rattle.load_memory.specs.Pairs.{MemoryOf}
@@ -20,8 +20,7 @@ use Rattle.load_rounds.specs.SharedRounds.{request_of, joint}
 use Rattle.load_rounds.specs.Executions.{plans_in}
 use Rattle.load_rounds.specs.ByHand.{front_in, IsBetween}
 use Rattle.load_rounds.specs.Runs.{RunOf, MayRun, program_of, IsReady, IsRun, IsTurn}
-use Rattle.load_rounds.specs.Answerings.{FarOf, polled, CanTurn, StartsPoll, PollRan}
-use Rattle.load_rounds.specs.declared.rounds.Stage.TheVariants as stage
+use Rattle.load_rounds.specs.Answerings.{FarOf, polled, StartsPoll, PollRan}
 use Rattle.load_rounds.proofs.Following.{in-loaders}
 use Rattle.load_rounds.proofs.Requests.{front-one}
 use Rattle.load_rounds.proofs.Runs.{between-in}

@@ -14,7 +14,6 @@ use Rattle.load_queue.specs.Loaders.{LoaderOf, AskedOf, marked, stored_in}
 use Rattle.load_queue.specs.Orders.{CutOf, order_of, asks}
 use Rattle.execution.specs.Loads.{Load, Memory, IsOneOf, read}
 use Rattle.execution.specs.Program.{Program}
-use Rattle.execution.specs.Completion.{AnsweredOf}
 use Rattle.execution.specs.Front.{front, keys_for}
 use Rattle.execution.specs.Rounds.{RuleOf, rule_of, modes_of, orders_from, round_orders, may_at, AreReplies, AreLimited, HasLoaders, after_round, without_failed}
 use Rattle.execution.specs.Sessions.{Forgot, AskedLoads, Lost}

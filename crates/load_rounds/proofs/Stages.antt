@@ -20,7 +20,7 @@ use Rattle.load_rounds.specs.Sessions.{SessionOf, StateOf, state_of, rules_of, m
 use Rattle.load_rounds.specs.Calls.{RoundLost, RoundRan}
 use Rattle.load_rounds.specs.Headline.{MakesRounds, Headline, StopsAnswering}
 use Rattle.load_rounds.specs.SharedRounds.{RequestOf, ReportOf, request_of, requests, together, joint, AreTexts, SharedHeadline}
-use Rattle.load_rounds.specs.Executions.{PartOf, plans_in, program_in, reports_in, first_report, given_to, some_unreported, CountRounds, FitsPart, FitParts, GoOn, AreBegun}
+use Rattle.load_rounds.specs.Executions.{PartOf, plans_in, reports_in, first_report, given_to, some_unreported, CountRounds, FitsPart, FitParts, GoOn, AreBegun}
 use Rattle.load_rounds.specs.ByHand.{front_in, orders_in, received, AreReceived, ReceivesReplies, IsAsked, IsRound, IsUnasked, IsOut}
 use Rattle.load_rounds.specs.Runs.{RunOf, program_of, IsReady, IsAway, IsFinished, IsRunAt, IsRun, GoesOnFrom, FitAt, Holds, Begins}
 use Rattle.load_rounds.specs.declared.rounds.Stage.{Stage}
@@ -215,42 +215,6 @@ module _ {P E : Type 0} (program : P → Program) (text_of : P → AnsweredOf �
         holds = record { enough = subst (λ n. All (λ plan. loaders plan ≤ n) (plans_in run.parts)) size own; fitting = rw ready (begun.fitting (memory_of new)) };
       }
 
--- the answer to one plan, and what stays of it after want of memory
-module _ {P E : Type 0} (program : P → Program) (text_of : P → AnsweredOf → List ℕ) {S : Type 0} (may : S → List KeyOf → AnswerOf → Type 0) (old now : StateOf S) (plan : P) (run : RunOf P E) (plans : plans_in run.parts ≡ plan ∷ []) where
-  pub answered-one : run.stage ≡ Finished → IsRun program text_of may old now run → (report : ReportOf) × (first_report run.parts ≡ Some report) × Headline may old now (program plan) (text_of plan) report.text report.rounds × (report.rounds ≡ run.rounds)
-  answered-one finished is =
-      let done : IsFinished program text_of may old now run.parts run.rounds = rw finished at is in
-      go run.parts plans done
-    where
-      one : (t : Option ReportOf) → (h : SharedHeadline may old now (request_of (program plan) (text_of plan) ∷ []) (given_to t ++ [])) → length h.log ≡ run.rounds
-          → (report : ReportOf) × (t ≡ Some report) × Headline may old now (program plan) (text_of plan) report.text report.rounds × (report.rounds ≡ run.rounds)
-      one None h counted = absurd h.answers
-      one (Some report) h counted = let longest = h.longest in (report, refl, headline-one may old now (request_of (program plan) (text_of plan)) report h, omega (arith, longest, counted))
-
-      go : (xs : List (PartOf P E)) → plans_in xs ≡ plan ∷ [] → IsFinished program text_of may old now xs run.rounds → (report : ReportOf) × (first_report xs ≡ Some report) × Headline may old now (program plan) (text_of plan) report.text report.rounds × (report.rounds ≡ run.rounds)
-      go [] e h = absurd (cc e)
-      go (x ∷ y ∷ zs) e h = absurd (cc e)
-      go (x ∷ []) e h =
-          let moved = subst (λ ps. (h : SharedHeadline may old now (requests program text_of ps) (given_to x.report ++ [])) × (length h.log ≡ run.rounds)) e (h.headline, h.counted) in
-          one x.report moved.0 moved.1
-
-  pub stopped-one : run.stage ≡ Failed → IsRun program text_of may old now run → StopsAnswering may old now (program plan)
-  stopped-one failed is =
-      let stops : StopsAnswering may old now (program_of program text_of run) = rw failed at is in
-      stops-one may old now (request_of (program plan) (text_of plan)) (subst (λ ps. StopsAnswering may old now (joint program text_of ps)) plans stops)
-
--- the answers to several, and what stays of them after want of memory
-module _ {P E : Type 0} (program : P → Program) (text_of : P → AnsweredOf → List ℕ) {S : Type 0} (may : S → List KeyOf → AnswerOf → Type 0) (old now : StateOf S) (plans : List P) (run : RunOf P E) (same : plans_in run.parts ≡ plans) where
-  pub finished-all : run.stage ≡ Finished → IsRun program text_of may old now run → SharedHeadline may old now (requests program text_of plans) (reports_in run.parts)
-  finished-all finished is =
-      let done : IsFinished program text_of may old now run.parts run.rounds = rw finished at is in
-      subst (λ ps. SharedHeadline may old now (requests program text_of ps) (reports_in run.parts)) same done.headline
-
-  pub failed-all : run.stage ≡ Failed → IsRun program text_of may old now run → StopsAnswering may old now (joint program text_of plans)
-  failed-all failed is =
-      let stops : StopsAnswering may old now (program_of program text_of run) = rw failed at is in
-      subst (λ ps. StopsAnswering may old now (joint program text_of ps)) same stops
-
 module _ {S : Type 0} (may : S → List KeyOf → AnswerOf → Type 0) where
   -- nothing was done but that failed batches were forgotten
   pub forgot-stops : (p : Program) (old new : StateOf S) → new ≡ after_step old Forgot → StopsAnswering may old new p
@@ -272,3 +236,37 @@ module _ {P E : Type 0} (program : P → Program) (text_of : P → AnsweredOf �
       at Out is = away-stops program text_of loaders fits may begun now run is
       at Finished is = headline-stops may begun now (requests program text_of (plans_in run.parts)) (reports_in run.parts) is.headline
       at Failed is = is
+
+-- the answer to one plan, and what stays of it after want of memory
+module _ {P E : Type 0} (program : P → Program) (text_of : P → AnsweredOf → List ℕ) (loaders : P → ℕ) (fits : P → E → MemoryOf → Type 0) {S : Type 0} (may : S → List KeyOf → AnswerOf → Type 0) (old now : StateOf S) (plan : P) (run : RunOf P E) (plans : plans_in run.parts ≡ plan ∷ []) where
+  pub answered-one : run.stage ≡ Finished → IsRun program text_of may old now run → (report : ReportOf) × (first_report run.parts ≡ Some report) × Headline may old now (program plan) (text_of plan) report.text report.rounds × (report.rounds ≡ run.rounds)
+  answered-one finished is =
+      let done : IsFinished program text_of may old now run.parts run.rounds = rw finished at is in
+      go run.parts plans done
+    where
+      one : (t : Option ReportOf) → (h : SharedHeadline may old now (request_of (program plan) (text_of plan) ∷ []) (given_to t ++ [])) → length h.log ≡ run.rounds
+          → (report : ReportOf) × (t ≡ Some report) × Headline may old now (program plan) (text_of plan) report.text report.rounds × (report.rounds ≡ run.rounds)
+      one None h counted = absurd h.answers
+      one (Some report) h counted = let longest = h.longest in (report, refl, headline-one may old now (request_of (program plan) (text_of plan)) report h, omega (arith, longest, counted))
+
+      go : (xs : List (PartOf P E)) → plans_in xs ≡ plan ∷ [] → IsFinished program text_of may old now xs run.rounds → (report : ReportOf) × (first_report xs ≡ Some report) × Headline may old now (program plan) (text_of plan) report.text report.rounds × (report.rounds ≡ run.rounds)
+      go [] e h = absurd (cc e)
+      go (x ∷ y ∷ zs) e h = absurd (cc e)
+      go (x ∷ []) e h =
+          let moved = subst (λ ps. (h : SharedHeadline may old now (requests program text_of ps) (given_to x.report ++ [])) × (length h.log ≡ run.rounds)) e (h.headline, h.counted) in
+          one x.report moved.0 moved.1
+
+  pub stopped-one : IsRun program text_of may old now run → StopsAnswering may old now (program plan)
+  stopped-one is =
+      let stops = run-stops program text_of loaders fits may old now run is in
+      stops-one may old now (request_of (program plan) (text_of plan)) (subst (λ ps. StopsAnswering may old now (joint program text_of ps)) plans stops)
+
+-- the answers to several, and what stays of them after want of memory
+module _ {P E : Type 0} (program : P → Program) (text_of : P → AnsweredOf → List ℕ) (loaders : P → ℕ) (fits : P → E → MemoryOf → Type 0) {S : Type 0} (may : S → List KeyOf → AnswerOf → Type 0) (old now : StateOf S) (plans : List P) (run : RunOf P E) (same : plans_in run.parts ≡ plans) where
+  pub finished-all : run.stage ≡ Finished → IsRun program text_of may old now run → SharedHeadline may old now (requests program text_of plans) (reports_in run.parts)
+  finished-all finished is =
+      let done : IsFinished program text_of may old now run.parts run.rounds = rw finished at is in
+      subst (λ ps. SharedHeadline may old now (requests program text_of ps) (reports_in run.parts)) same done.headline
+
+  pub stopped-all : IsRun program text_of may old now run → StopsAnswering may old now (joint program text_of plans)
+  stopped-all is = subst (λ ps. StopsAnswering may old now (joint program text_of ps)) same (run-stops program text_of loaders fits may old now run is)

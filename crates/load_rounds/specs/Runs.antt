@@ -10,9 +10,8 @@ use Rattle.execution.specs.Loads.{read}
 use Rattle.execution.specs.Program.{Program}
 use Rattle.execution.specs.Completion.{AnsweredOf}
 use Rattle.execution.specs.Rounds.{AreLimited, HasLoaders, without_failed}
-use Rattle.execution.specs.Sessions.{Forgot}
 use Rattle.execution.specs.Executes.{FitsFrom}
-use Rattle.load_rounds.specs.Sessions.{SessionOf, StateOf, state_of, rules_of, session_modes, memory_of, after_step}
+use Rattle.load_rounds.specs.Sessions.{SessionOf, StateOf, state_of, rules_of, session_modes, memory_of}
 use Rattle.load_rounds.specs.Calls.{RoundRan}
 use Rattle.load_rounds.specs.Headline.{StopsAnswering}
 use Rattle.load_rounds.specs.SharedRounds.{RequestOf, ReportOf, requests, together, AreTexts, SharedHeadline}

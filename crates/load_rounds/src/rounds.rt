@@ -266,6 +266,7 @@ impl<E, P: Execute<E>> Rounds<P, E> {
         ensures holds { Holds P.program P.text_of P.loaders P.fits self.new session.new }
         ensures run { GoesOnFrom P.program P.text_of S.may_tell
             (state_of session.old) (state_of session.new) self.old self.new }
+        ensures kept { KeepsPlans session.old session.new self.old self.new }
     {
         self.stage = Stage::Failed;
         session.receive(shelf, receipts)?;
@@ -301,6 +302,7 @@ impl<E, P: Execute<E>> Rounds<P, E> {
         ensures holds { Holds P.program P.text_of P.loaders P.fits self.new session.new }
         ensures run { GoesOnIfReceived P.program P.text_of S.may_tell (state_of session.old)
             (state_of session.new) self.old self.new (map reply_of replies.items) }
+        ensures kept { KeepsPlans session.old session.new self.old self.new }
     {
         self.stage = Stage::Failed;
         session.receive_owned(replies)?;
@@ -319,7 +321,6 @@ impl<E, P: Execute<E>> Rounds<P, E> {
             self.old self.new (state_of session.old) (state_of session.new)) }
         ensures may { OnOk result
             (MayRun (program_of P.program P.text_of self.old) (state_of session.old)) }
-        ensures failed { OnErr result (self.new.stage ≡ Stage.Failed) }
         ensures holds { Holds P.program P.text_of P.loaders P.fits self.new session.new }
         ensures run { GoesOnFrom P.program P.text_of S.may_tell
             (state_of session.old) (state_of session.new) self.old self.new }
@@ -339,7 +340,6 @@ impl<E, P: Execute<E>> Rounds<P, E> {
         requires ready { self.old.stage ≡ Stage.Ready }
         requires holds { Holds P.program P.text_of P.loaders P.fits self.old session.old }
         ensures finished { OnOk result (self.new.stage ≡ Stage.Finished) }
-        ensures failed { OnErr result (self.new.stage ≡ Stage.Failed) }
         ensures run { GoesOnFrom P.program P.text_of S.may_tell
             (state_of session.old) (state_of session.new) self.old self.new }
         ensures kept { KeepsPlans session.old session.new self.old self.new }

@@ -51,7 +51,8 @@ impl<S> Session<S> {
     ghost use Rattle.load_rounds.specs.Histories.{IsCallOf, Priming, Clearing, ClearingAll, Forgetting, Restarting, any_tell};
     ghost use Rattle.load_rounds.specs.ByHand.{received};
 
-    pub(crate) fn alloc(&self) -> Global {
+    /// The allocator that its calls take.
+    pub fn alloc(&self) -> Global {
         *self.loaders.allocator()
     }
 

@@ -20,7 +20,7 @@ unreachable-requires g c =
     let start = rw c.replace-far.ensures.value at c.begin-session.ensures in
     let plans = c.turn.ensures.kept.plans ∙ start.can.plans in
     let turned = rw c.in-Ok-false.field-0-test at c.in-Ok-false.ensures.turned in
-    let done = answered-one g.P.Execute.program g.P.Execute.text_of may start.can.old now plan later plans turned.3 (c.in-Ok-false.ensures.run start.can.old start.can.is) in
+    let done = answered-one g.P.Execute.program g.P.Execute.text_of g.P.Execute.loaders g.P.Execute.fits may start.can.old now plan later plans turned.3 (c.in-Ok-false.ensures.run start.can.old start.can.is) in
     let none : None ≡ Some done.0 = rw c.in-None.is at c.into_answer.ensures ∙ done.1 in
     cc none
 
@@ -70,7 +70,7 @@ returns-in-Some-clause-value g c =
     let plans = c.turn.ensures.kept.plans ∙ start.can.plans in
     let turned = rw c.in-Ok-false.field-0-test at c.in-Ok-false.ensures.turned in
     rw (← c.self.view_is) (λ old underway.
-        let done = answered-one g.P.Execute.program g.P.Execute.text_of may old now plan later plans turned.3 (c.in-Ok-false.ensures.run old (start.since old underway)) in
+        let done = answered-one g.P.Execute.program g.P.Execute.text_of g.P.Execute.loaders g.P.Execute.fits may old now plan later plans turned.3 (c.in-Ok-false.ensures.run old (start.since old underway)) in
         let same : report_of c.in-Some.answer ≡ done.0 = some-is (report_of c.in-Some.answer) done.0 (rw c.in-Some.is at c.into_answer.ensures ∙ done.1) in
         (subst (λ (t : ReportOf). Headline may old now (g.P.Execute.program plan) (g.P.Execute.text_of plan) t.text t.rounds) (sym same) done.2, tt))
 
@@ -84,7 +84,7 @@ returns-in-Some-clause-polled g c =
     let start = rw c.replace-far.ensures.value at c.begin-session.ensures in
     let plans = c.turn.ensures.kept.plans ∙ start.can.plans in
     let turned = rw c.in-Ok-false.field-0-test at c.in-Ok-false.ensures.turned in
-    let done = answered-one g.P.Execute.program g.P.Execute.text_of may start.can.old now plan later plans turned.3 (c.in-Ok-false.ensures.run start.can.old start.can.is) in
+    let done = answered-one g.P.Execute.program g.P.Execute.text_of g.P.Execute.loaders g.P.Execute.fits may start.can.old now plan later plans turned.3 (c.in-Ok-false.ensures.run start.can.old start.can.is) in
     let same : report_of c.in-Some.answer ≡ done.0 = some-is (report_of c.in-Some.answer) done.0 (rw c.in-Some.is at c.into_answer.ensures ∙ done.1) in
     rw (← c.self.view_is) (record {
       plan = refl;
@@ -103,4 +103,4 @@ returns-in-Err-clause-value g c =
     let now = state_of c.turn.new.session in
     let start = rw c.replace-far.ensures.value at c.begin-session.ensures in
     let plans = c.turn.ensures.kept.plans ∙ start.can.plans in
-    rw (← c.self.view_is) (λ old underway. (tt, stopped-one g.P.Execute.program g.P.Execute.text_of may old now plan later plans c.in-Err.ensures.failed (c.in-Err.ensures.run old (start.since old underway))))
+    rw (← c.self.view_is) (λ old underway. (tt, stopped-one g.P.Execute.program g.P.Execute.text_of g.P.Execute.loaders g.P.Execute.fits may old now plan later plans (c.in-Err.ensures.run old (start.since old underway))))

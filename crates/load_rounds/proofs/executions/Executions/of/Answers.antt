@@ -1,4 +1,4 @@
-use Rattle.std.proofs.Common.{◌≡◌, ◌++◌, List, ◌∷◌, [], append_assoc, ap, ◌∙◌, sym, arith, refl}
+use Rattle.std.proofs.Common.{◌≡◌, ◌++◌, List, ◌∷◌, [], append_assoc, ap, ◌∙◌, sym, arith}
 use Rattle.std.proofs.lemmas.List.{append-nil, map-append}
 use Rattle.load_rounds.specs.Executions.{PartOf, plans_in, reports_in}
 use Rattle.load_rounds.proofs.GoingOn.{begun-fits, fit-more, unreported-begun}

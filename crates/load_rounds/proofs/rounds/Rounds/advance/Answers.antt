@@ -1,5 +1,4 @@
-use Rattle.std.proofs.Common.{◌≡◌, ◌+◌, ◌≤◌, [], length, Some, refl, sym, ap, subst, ◌∙◌, arith, inl, inr}
-use Rattle.std.specs.Prelude.{All}
+use Rattle.std.proofs.Common.{◌≡◌, ◌+◌, length, refl, ap, subst, ◌∙◌, inl, inr}
 use Rattle.load_memory.specs.Pairs.{look}
 use Rattle.load_memory.proofs.LoaderMemoryLaws.{SomeIff-at}
 use Rattle.execution.specs.Loads.{read}
@@ -8,12 +7,11 @@ use Rattle.load_rounds.specs.Sessions.{state_of, memory_of}
 use Rattle.load_rounds.specs.SharedRounds.{requests, AreTexts}
 use Rattle.load_rounds.specs.Executions.{program_in, reports_in}
 use Rattle.load_rounds.specs.ByHand.{front_in, IsRound, IsUnasked}
-use Rattle.load_rounds.specs.Runs.{RunOf, KeepsPlans}
+use Rattle.load_rounds.specs.Runs.{RunOf}
 use Rattle.load_rounds.proofs.GoingOn.{gone-fit, gone-plans, gone-within}
 use Rattle.load_rounds.proofs.Growing.{same-grows, lost-grows}
 use Rattle.load_rounds.proofs.Sharing.{all-report}
 use Rattle.load_rounds.proofs.Stages.{all-texts, fails, round-is, finishes, goes-out, fails-holds, out-holds, lost-size, unasked-size}
-use Rattle.load_rounds.proofs.States.{on-err}
 use Rattle.load_rounds.proofs.rounds.Rounds.advance.Goals as goal
 
 pub returns-in_err-find-clause-run : goal.returns-in_err-find-clause-run

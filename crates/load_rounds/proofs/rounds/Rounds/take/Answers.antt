@@ -1,15 +1,14 @@
-use Rattle.std.proofs.Common.{◌≡◌, ◌<◌, ◌≤◌, ◌∙◌, length, map, refl, arith}
+use Rattle.std.proofs.Common.{◌<◌, ◌≤◌, ◌∙◌, length, map, refl, ap, arith}
 use Rattle.std.proofs.lemmas.List.{length-map}
-use Rattle.load_memory.specs.Replies.{ReplyOf, reply_of}
+use Rattle.load_memory.specs.Replies.{ReplyOf}
 use Rattle.load_memory.specs.Shelves.{shown}
 use Rattle.load_memory.proofs.ReplyPairs.{All-of_map}
 use Rattle.execution.specs.Rounds.{rule_of, may_at}
-use Rattle.load_rounds.specs.Sessions.{state_of, rules_of}
-use Rattle.load_rounds.specs.Histories.{any_tell}
+use Rattle.load_rounds.specs.Sessions.{StateOf, state_of, rules_of}
 use Rattle.load_rounds.specs.ByHand.{front_in}
 use Rattle.load_rounds.specs.Runs.{RunOf, program_of}
 use Rattle.load_rounds.proofs.Runs.{received-below, received-moved, asked-ran}
-use Rattle.load_rounds.proofs.Stages.{takes, loses, takes-holds}
+use Rattle.load_rounds.proofs.Stages.{takes, loses, takes-holds, received-size}
 use Rattle.load_rounds.proofs.rounds.Rounds.take.Goals as goal
 
 pub receive-requires-clause-loaders : goal.receive-requires-clause-loaders
@@ -48,3 +47,11 @@ returns-clause-run g c =
     let out = rw (← c.self.view_is) at c.requires.out.out in
     let round = rw (← c.self.view_is) at c.requires.round.round in
     takes g.P.Execute.program g.P.Execute.text_of g.P.Execute.loaders g.P.Execute.fits g.S.LocalSource.may_tell (state_of c.args.session.now) (state_of c.receive.new.self) run c.args.self.now (map shown c.args.receipts.now) c.self.view_is c.in_ok-receive.ensures.received out c.receive.ensures.limited round
+
+pub returns-clause-kept : goal.returns-clause-kept
+returns-clause-kept g c =
+    rw (← c.self.view_is) (record { plans = refl; loaders = received-size (state_of c.args.session.now) (state_of c.receive.new.self) (map shown c.args.receipts.now) c.in_ok-receive.ensures.received; bounded = c.self.invariant })
+
+pub returns-in_err-receive-clause-kept : goal.returns-in_err-receive-clause-kept
+returns-in_err-receive-clause-kept g c =
+    rw (← c.self.view_is) (record { plans = refl; loaders = ap (λ (s : StateOf _). length s.loaders) c.in_err-receive.ensures.kept; bounded = c.self.invariant })

@@ -1,9 +1,8 @@
-use Rattle.std.proofs.Common.{◌≡◌, ◌∙◌, refl, sym, subst, inl}
+use Rattle.std.proofs.Common.{◌∙◌, sym, subst}
 use Rattle.load_rounds.specs.Sessions.{state_of}
-use Rattle.load_rounds.specs.Headline.{StopsAnswering}
 use Rattle.load_rounds.specs.SharedRounds.{requests, joint, SharedHeadline}
 use Rattle.load_rounds.proofs.Runs.{if-ok}
-use Rattle.load_rounds.proofs.Stages.{finished-all, forgot-stops, failed-all, headline-stops}
+use Rattle.load_rounds.proofs.Stages.{finished-all, forgot-stops, stopped-all, headline-stops}
 use Rattle.load_rounds.proofs.States.{on-err}
 use Rattle.load_rounds.proofs.session.Session.answer_all.Goals as goal
 
@@ -15,14 +14,14 @@ pub returns-in_err-run-clause-stopped : goal.returns-in_err-run-clause-stopped
 returns-in_err-run-clause-stopped g c =
     let old = state_of c.args.self.now in
     let begun = c.in_ok-rounds.ensures.begun in
-    on-err c.from_residual-in_err-run.result (failed-all g.P.Execute.program g.P.Execute.text_of g.S.LocalSource.may_tell old (state_of c.run.new.session) c.args.plans.items c.run.new.self (c.run.ensures.kept.plans ∙ begun.same) c.in_err-run.ensures.failed (c.run.ensures.run old begun.is))
+    on-err c.from_residual-in_err-run.result (stopped-all g.P.Execute.program g.P.Execute.text_of g.P.Execute.loaders g.P.Execute.fits g.S.LocalSource.may_tell old (state_of c.run.new.session) c.args.plans.items c.run.new.self (c.run.ensures.kept.plans ∙ begun.same) (c.run.ensures.run old begun.is))
 
 pub returns-clause-answers : goal.returns-clause-answers
 returns-clause-answers g c =
     let old = state_of c.args.self.now in
     let now = state_of c.run.new.session in
     let begun = c.in_ok-rounds.ensures.begun in
-    let headline = finished-all g.P.Execute.program g.P.Execute.text_of g.S.LocalSource.may_tell old now c.args.plans.items c.run.new.self (c.run.ensures.kept.plans ∙ begun.same) c.in_ok-run.ensures.finished (c.run.ensures.run old begun.is) in
+    let headline = finished-all g.P.Execute.program g.P.Execute.text_of g.P.Execute.loaders g.P.Execute.fits g.S.LocalSource.may_tell old now c.args.plans.items c.run.new.self (c.run.ensures.kept.plans ∙ begun.same) c.in_ok-run.ensures.finished (c.run.ensures.run old begun.is) in
     if-ok c.into_answers.result (λ answers e. subst (λ ts. SharedHeadline g.S.LocalSource.may_tell old now (requests g.P.Execute.program g.P.Execute.text_of c.args.plans.items) ts) (sym e) headline) c.into_answers.ensures
 
 pub returns-clause-stopped : goal.returns-clause-stopped
@@ -30,5 +29,5 @@ returns-clause-stopped g c =
     let old = state_of c.args.self.now in
     let now = state_of c.run.new.session in
     let begun = c.in_ok-rounds.ensures.begun in
-    let headline = finished-all g.P.Execute.program g.P.Execute.text_of g.S.LocalSource.may_tell old now c.args.plans.items c.run.new.self (c.run.ensures.kept.plans ∙ begun.same) c.in_ok-run.ensures.finished (c.run.ensures.run old begun.is) in
+    let headline = finished-all g.P.Execute.program g.P.Execute.text_of g.P.Execute.loaders g.P.Execute.fits g.S.LocalSource.may_tell old now c.args.plans.items c.run.new.self (c.run.ensures.kept.plans ∙ begun.same) c.in_ok-run.ensures.finished (c.run.ensures.run old begun.is) in
     on-err c.into_answers.result (headline-stops g.S.LocalSource.may_tell old now (requests g.P.Execute.program g.P.Execute.text_of c.args.plans.items) _ headline)

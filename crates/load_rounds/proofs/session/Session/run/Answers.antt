@@ -1,4 +1,3 @@
-use Rattle.std.proofs.Common.{rules}
 use Rattle.load_rounds.proofs.Runs.{received-session, received-state}
 use Rattle.load_rounds.proofs.session.Session.run.Goals as goal
 
