@@ -1,5 +1,5 @@
 -- Lemmas on what the receipts of workers are to the run whose round is out.
-use Rattle.std.proofs.Common.{◌≡◌, List, [], ◌∷◌, map}
+use Rattle.std.proofs.Common.{List, [], ◌∷◌, map}
 use Rattle.std.proofs.lemmas.List.Sorted.{IsPermutation-map, IsPermutation-sym}
 use Rattle.load_memory.specs.Keys.{KeyOf}
 use Rattle.load_memory.specs.Shelves.{shown}

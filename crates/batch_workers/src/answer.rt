@@ -3,12 +3,12 @@
 //! An answer is a run of `load_rounds`, which starts no threads, and takes the session's allocator. A
 //! shelf goes with its round, so that no receipt of an earlier round is on it; the memory copies outcomes from
 //! it.
-ghost use Rattle.std.specs.Prelude.{◌≡◌, ◌<◌, ◌≤◌, ◌↔◌, All, length, IfOk, OnOk, OnErr, IsErrOf};
+ghost use Rattle.std.specs.Prelude.{◌≡◌, ◌<◌, ◌≤◌, ◌↔◌, length, IfOk, OnOk, OnErr, IsErrOf};
 ghost use Rattle.load_rounds.specs.Sessions.{state_of};
 ghost use Rattle.load_rounds.specs.Headline.{HasHeadline};
-ghost use Rattle.load_rounds.specs.SharedRounds.{requests, joint, AreAnswers};
 ghost use Rattle.load_rounds.specs.ByHand.{AwaitsReplies};
-ghost use Rattle.load_rounds.specs.Runs.{GoesOnFrom, Holds, KeepsPlans, program_of};
+ghost use Rattle.load_rounds.specs.Runs.{GoesOnFrom, Holds, program_of};
+ghost use Rattle.load_rounds.specs.Executions.{plans_in};
 ghost use Rattle.batch_workers.specs.Workers.{IsBadCount, Stops, AreOrdersIn};
 
 use crate::fault::WorkFault;
@@ -60,43 +60,6 @@ pub fn answer_with<S: Source, E: Drop, P: Execute<E>, R: Threads + Wait + Sync>(
     }
 }
 
-/// Answers several plans as [`Session::answer_all`] does, where the session has the plans' loaders; the batches of each round are run
-/// by this many workers at the same time, 1 to 16. The calling thread is one of them, and a round of one batch starts no thread. All
-/// workers have ended when it returns.
-///
-/// # Errors
-///
-/// Those of [`answer_with`].
-///
-/// # Headline
-///
-/// `answers`, `stopped`, `bad_count` and `refused`, as `answer_with`
-pub fn answer_all_with<S: Source, E: Drop, P: Execute<E> + Drop, R: Threads + Wait + Sync>(
-    rt: &R,
-    session: &mut Session<S>,
-    plans: Vec<P>,
-    workers: usize,
-) -> Result<Vec<Answer>, WorkFault>
-    requires loaders { All (λ plan. P.loaders plan
-        ≤ length session.old.loaders) plans.items }
-    ensures bad_count { IsErrOf result WorkFault.BadCount
-        ↔ IsBadCount workers }
-    ensures refused { IsErrOf result WorkFault.BadCount
-        → session.new ≡ session.old }
-    ensures answers { IfOk result (AreAnswers S.may_answer (state_of session.old)
-        (state_of session.new) (requests P.program P.text_of plans.items)) }
-    ensures stopped { IsErrOf result WorkFault.NoMemory
-        → Stops S.may_answer session.old session.new (joint P.program P.text_of plans.items) }
-{
-    if workers == 0 || workers > MOST_WORKERS {
-        return Err(WorkFault::BadCount);
-    }
-    match answer_all_in_rounds(rt, session, plans, workers) {
-        Ok(answers) => Ok(answers),
-        Err(_) => Err(WorkFault::NoMemory),
-    }
-}
-
 // Answers a plan, where the number of workers is no bad one.
 fn answer_in_rounds<S: Source, E: Drop, P: Execute<E>, R: Threads + Wait + Sync>(
     rt: &R,
@@ -120,29 +83,8 @@ fn answer_in_rounds<S: Source, E: Drop, P: Execute<E>, R: Threads + Wait + Sync>
     }
 }
 
-// Answers several plans, where the number of workers is no bad one.
-fn answer_all_in_rounds<S: Source, E: Drop, P: Execute<E> + Drop, R: Threads + Wait + Sync>(
-    rt: &R,
-    session: &mut Session<S>,
-    plans: Vec<P>,
-    workers: usize,
-) -> Result<Vec<Answer>, AllocError>
-    requires count { (0 < workers) × (workers ≤ 16) }
-    requires loaders { All (λ plan. P.loaders plan
-        ≤ length session.old.loaders) plans.items }
-    ensures answers { IfOk result (AreAnswers S.may_answer (state_of session.old)
-        (state_of session.new) (requests P.program P.text_of plans.items)) }
-    ensures stopped { OnErr result
-        (Stops S.may_answer session.old session.new (joint P.program P.text_of plans.items)) }
-{
-    let alloc = *plans.allocator();
-    let mut rounds = session.begin_all(plans)?;
-    run(rt, session, &mut rounds, workers)?;
-    rounds.into_answers(alloc)
-}
-
-// Makes round after round until nothing is missing.
-fn run<S: Source, E, P: Execute<E>, R: Threads + Wait + Sync>(
+/// Makes round after round until nothing is missing.
+pub(crate) fn run<S: Source, E, P: Execute<E>, R: Threads + Wait + Sync>(
     rt: &R,
     session: &mut Session<S>,
     rounds: &mut Rounds<P, E>,
@@ -154,7 +96,7 @@ fn run<S: Source, E, P: Execute<E>, R: Threads + Wait + Sync>(
     ensures finished { OnOk result (rounds.new.stage ≡ Stage.Finished) }
     ensures run { GoesOnFrom P.program P.text_of S.may_answer
         (state_of session.old) (state_of session.new) rounds.old rounds.new }
-    ensures kept { KeepsPlans session.old session.new rounds.old rounds.new }
+    ensures plans { plans_in rounds.new.parts ≡ plans_in rounds.old.parts }
 {
     loop {
         let Some(orders) = rounds.advance(session)? else {
@@ -182,7 +124,7 @@ fn make_round<S: Source, E, P: Execute<E>, R: Threads + Wait + Sync>(
     ensures holds { Holds P.program P.text_of P.loaders P.fits rounds.new session.new }
     ensures run { GoesOnFrom P.program P.text_of S.may_answer
         (state_of session.old) (state_of session.new) rounds.old rounds.new }
-    ensures kept { KeepsPlans session.old session.new rounds.old rounds.new }
+    ensures plans { plans_in rounds.new.parts ≡ plans_in rounds.old.parts }
 {
     let alloc = *orders.allocator();
     let shelf = Shelf::new(alloc)?;

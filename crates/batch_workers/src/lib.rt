@@ -20,12 +20,14 @@
 #![tactic(auto)]
 
 pub mod answer;
+pub mod answering_all;
 pub mod desk;
 pub mod fault;
 pub mod law;
 pub mod round;
 
-pub use answer::{answer_all_with, answer_with};
+pub use answer::answer_with;
+pub use answering_all::answer_all_with;
 pub use fault::WorkFault;
 pub use law::{every_schedule_keeps_the_orders, workers_change_nothing};
 pub use round::{MOST_WORKERS, run_round};

@@ -74,12 +74,12 @@ module _ {P E : Type 0} (program : P → Program) (text_of : P → AnsweredOf �
           let each = subst (λ n. All (λ plan. loaders plan ≤ n) (plans_in run.parts)) size enough in
           let within = gone-within program text_of loaders fits 0 run.rounds (length begun.loaders) (memory_of s) run.parts later.parts gone each in
           let all = shared-all program text_of loaders fits may begun s later.parts h.between.log
-              (subst (λ ps. MakesRounds may begun (state_of s) (joint program text_of ps) h.between.log) (sym are) h.between.made)
-              counts in_rounds.rules (rw in_rounds.rules at limited)
-              (subst (λ ps. HasLoaders (length begun.loaders) (joint program text_of ps)) (sym are) within)
-              (all-report program text_of loaders fits run.rounds (memory_of s) run.parts later.parts gone none)
-              (gone-fit program text_of loaders fits run.rounds (memory_of s) (memory_of s) run.parts later.parts gone (same-grows s s refl))
-              (subst (λ ps. front_in (state_of s) (joint program text_of ps) ≡ []) (sym are) none) in
+          (subst (λ ps. MakesRounds may begun (state_of s) (joint program text_of ps) h.between.log) (sym are) h.between.made)
+          counts in_rounds.rules (rw in_rounds.rules at limited)
+          (subst (λ ps. HasLoaders (length begun.loaders) (joint program text_of ps)) (sym are) within)
+          (all-report program text_of loaders fits run.rounds (memory_of s) run.parts later.parts gone none)
+          (gone-fit program text_of loaders fits run.rounds (memory_of s) (memory_of s) run.parts later.parts gone (same-grows s s refl))
+          (subst (λ ps. front_in (state_of s) (joint program text_of ps) ≡ []) (sym are) none) in
           record { headline = all.0; counted = all.1 ∙ h.between.counted ∙ sym one }
 
       -- one round more is out

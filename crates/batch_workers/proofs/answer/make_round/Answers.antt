@@ -1,5 +1,3 @@
-use Rattle.std.proofs.Common.{map}
-use Rattle.load_memory.specs.Shelves.{shown}
 use Rattle.load_rounds.specs.Sessions.{state_of}
 use Rattle.load_rounds.proofs.Runs.{on-ok}
 use Rattle.batch_workers.proofs.Receipts.{received}
@@ -22,3 +20,6 @@ take-requires g c =
 
 pub returns-clause-made : goal.returns-clause-made
 returns-clause-made g c = on-ok c.take.result (λ took. took.ready) c.take.ensures.taken
+
+pub returns-clause-plans : goal.returns-clause-plans
+returns-clause-plans g c = c.take.ensures.kept.plans

@@ -70,9 +70,9 @@ returns-in-Some-clause-value g c =
     let plans = c.turn.ensures.kept.plans ∙ start.can.plans in
     let turned = rw c.in-Ok-false.field-0-test at c.in-Ok-false.ensures.turned in
     rw (← c.self.view_is) (λ old underway.
-        let done = answered-one g.P.Execute.program g.P.Execute.text_of g.P.Execute.loaders g.P.Execute.fits may old now plan later plans turned.3 (c.in-Ok-false.ensures.run old (start.since old underway)) in
-        let same : report_of c.in-Some.answer ≡ done.0 = some-is (report_of c.in-Some.answer) done.0 (rw c.in-Some.is at c.into_answer.ensures ∙ done.1) in
-        (subst (λ (t : ReportOf). Headline may old now (g.P.Execute.program plan) (g.P.Execute.text_of plan) t.text t.rounds) (sym same) done.2, tt))
+    let done = answered-one g.P.Execute.program g.P.Execute.text_of g.P.Execute.loaders g.P.Execute.fits may old now plan later plans turned.3 (c.in-Ok-false.ensures.run old (start.since old underway)) in
+    let same : report_of c.in-Some.answer ≡ done.0 = some-is (report_of c.in-Some.answer) done.0 (rw c.in-Some.is at c.into_answer.ensures ∙ done.1) in
+    (subst (λ (t : ReportOf). Headline may old now (g.P.Execute.program plan) (g.P.Execute.text_of plan) t.text t.rounds) (sym same) done.2, tt))
 
 pub returns-in-Some-clause-polled : goal.returns-in-Some-clause-polled
 returns-in-Some-clause-polled g c =

@@ -1,10 +1,10 @@
-use Rattle.std.proofs.Common.{◌≡◌, ◌∙◌, sym, subst}
+use Rattle.std.proofs.Common.{◌∙◌, sym, subst}
 use Rattle.load_rounds.specs.Sessions.{state_of}
 use Rattle.load_rounds.specs.SharedRounds.{requests, joint, SharedHeadline}
 use Rattle.load_rounds.proofs.Runs.{if-ok}
 use Rattle.load_rounds.proofs.Stages.{finished-all, forgot-stops, stopped-all}
 use Rattle.load_rounds.proofs.States.{on-err}
-use Rattle.batch_workers.proofs.answer.answer_all_in_rounds.Goals as goal
+use Rattle.batch_workers.proofs.answering_all.answer_all_in_rounds.Goals as goal
 
 pub returns-in_err-rounds-clause-stopped : goal.returns-in_err-rounds-clause-stopped
 returns-in_err-rounds-clause-stopped g c =
@@ -14,18 +14,18 @@ pub returns-in_err-run-clause-stopped : goal.returns-in_err-run-clause-stopped
 returns-in_err-run-clause-stopped g c =
     let old = state_of c.args.session.now in
     let begun = c.in_ok-rounds.ensures.begun in
-    on-err c.from_residual-in_err-run.result (stopped-all g.P.Execute.program g.P.Execute.text_of g.P.Execute.loaders g.P.Execute.fits g.S.Source.may_answer old (state_of c.run.new.session) c.args.plans.items c.run.new.rounds (c.run.ensures.kept.plans ∙ begun.same) (c.run.ensures.run old begun.is))
+    on-err c.from_residual-in_err-run.result (stopped-all g.P.Execute.program g.P.Execute.text_of g.P.Execute.loaders g.P.Execute.fits g.S.Source.may_answer old (state_of c.run.new.session) c.args.plans.items c.run.new.rounds (c.run.ensures.plans ∙ begun.same) (c.run.ensures.run old begun.is))
 
 pub returns-clause-answers : goal.returns-clause-answers
 returns-clause-answers g c =
     let old = state_of c.args.session.now in
     let now = state_of c.run.new.session in
     let begun = c.in_ok-rounds.ensures.begun in
-    let headline = finished-all g.P.Execute.program g.P.Execute.text_of g.P.Execute.loaders g.P.Execute.fits g.S.Source.may_answer old now c.args.plans.items c.run.new.rounds (c.run.ensures.kept.plans ∙ begun.same) c.in_ok-run.ensures.finished (c.run.ensures.run old begun.is) in
+    let headline = finished-all g.P.Execute.program g.P.Execute.text_of g.P.Execute.loaders g.P.Execute.fits g.S.Source.may_answer old now c.args.plans.items c.run.new.rounds (c.run.ensures.plans ∙ begun.same) c.in_ok-run.ensures.finished (c.run.ensures.run old begun.is) in
     if-ok c.into_answers.result (λ answers e. subst (λ ts. SharedHeadline g.S.Source.may_answer old now (requests g.P.Execute.program g.P.Execute.text_of c.args.plans.items) ts) (sym e) headline) c.into_answers.ensures
 
 pub returns-clause-stopped : goal.returns-clause-stopped
 returns-clause-stopped g c =
     let old = state_of c.args.session.now in
     let begun = c.in_ok-rounds.ensures.begun in
-    on-err c.into_answers.result (stopped-all g.P.Execute.program g.P.Execute.text_of g.P.Execute.loaders g.P.Execute.fits g.S.Source.may_answer old (state_of c.run.new.session) c.args.plans.items c.run.new.rounds (c.run.ensures.kept.plans ∙ begun.same) (c.run.ensures.run old begun.is))
+    on-err c.into_answers.result (stopped-all g.P.Execute.program g.P.Execute.text_of g.P.Execute.loaders g.P.Execute.fits g.S.Source.may_answer old (state_of c.run.new.session) c.args.plans.items c.run.new.rounds (c.run.ensures.plans ∙ begun.same) (c.run.ensures.run old begun.is))

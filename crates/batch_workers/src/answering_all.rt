@@ -1,0 +1,72 @@
+//! Answers to several plans with workers, in rounds that the plans share.
+ghost use Rattle.std.specs.Prelude.{◌≡◌, ◌<◌, ◌≤◌, ◌↔◌, All, length, IfOk, OnErr, IsErrOf};
+ghost use Rattle.load_rounds.specs.Sessions.{state_of};
+ghost use Rattle.load_rounds.specs.SharedRounds.{requests, joint, AreAnswers};
+ghost use Rattle.batch_workers.specs.Workers.{IsBadCount, Stops};
+
+use crate::answer::run;
+use crate::fault::WorkFault;
+use crate::round::MOST_WORKERS;
+use load_queue::Source;
+use load_rounds::{Answer, Execute, Session};
+use std::alloc::AllocError;
+use std::sync::Wait;
+use std::thread::Threads;
+
+/// Answers several plans as [`Session::answer_all`] does, where the session has the plans' loaders; the batches of each round are run
+/// by this many workers at the same time, 1 to 16. The calling thread is one of them, and a round of one batch starts no thread. All
+/// workers have ended when it returns.
+///
+/// # Errors
+///
+/// Those of [`answer_with`](crate::answer_with).
+///
+/// # Headline
+///
+/// `answers`, `stopped`, `bad_count` and `refused`, as `answer_with`
+pub fn answer_all_with<S: Source, E: Drop, P: Execute<E> + Drop, R: Threads + Wait + Sync>(
+    rt: &R,
+    session: &mut Session<S>,
+    plans: Vec<P>,
+    workers: usize,
+) -> Result<Vec<Answer>, WorkFault>
+    requires loaders { All (λ plan. P.loaders plan
+        ≤ length session.old.loaders) plans.items }
+    ensures bad_count { IsErrOf result WorkFault.BadCount
+        ↔ IsBadCount workers }
+    ensures refused { IsErrOf result WorkFault.BadCount
+        → session.new ≡ session.old }
+    ensures answers { IfOk result (AreAnswers S.may_answer (state_of session.old)
+        (state_of session.new) (requests P.program P.text_of plans.items)) }
+    ensures stopped { IsErrOf result WorkFault.NoMemory
+        → Stops S.may_answer session.old session.new (joint P.program P.text_of plans.items) }
+{
+    if workers == 0 || workers > MOST_WORKERS {
+        return Err(WorkFault::BadCount);
+    }
+    match answer_all_in_rounds(rt, session, plans, workers) {
+        Ok(answers) => Ok(answers),
+        Err(_) => Err(WorkFault::NoMemory),
+    }
+}
+
+// Answers several plans, where the number of workers is no bad one.
+fn answer_all_in_rounds<S: Source, E: Drop, P: Execute<E> + Drop, R: Threads + Wait + Sync>(
+    rt: &R,
+    session: &mut Session<S>,
+    plans: Vec<P>,
+    workers: usize,
+) -> Result<Vec<Answer>, AllocError>
+    requires count { (0 < workers) × (workers ≤ 16) }
+    requires loaders { All (λ plan. P.loaders plan
+        ≤ length session.old.loaders) plans.items }
+    ensures answers { IfOk result (AreAnswers S.may_answer (state_of session.old)
+        (state_of session.new) (requests P.program P.text_of plans.items)) }
+    ensures stopped { OnErr result
+        (Stops S.may_answer session.old session.new (joint P.program P.text_of plans.items)) }
+{
+    let alloc = *plans.allocator();
+    let mut rounds = session.begin_all(plans)?;
+    run(rt, session, &mut rounds, workers)?;
+    rounds.into_answers(alloc)
+}
