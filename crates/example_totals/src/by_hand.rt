@@ -14,7 +14,7 @@ use crate::shop::{CountedTable, ORDERS_OF};
 use anyhow::Result;
 use load_memory::{Item, Key, Reply, Row};
 use load_queue::{FetchFault, Loader, Order};
-use load_rounds::{Answer, Execute, Next, Session};
+use load_rounds::{Answer, Execute, Session};
 use std::alloc::{AllocError, Global};
 
 /// Knowledge of Dee's orders from elsewhere.
@@ -134,15 +134,14 @@ pub fn answer_by_hand<E: Drop, P: Execute<E>>(
     ensures { IfOk result (HasHeadline any_tell (state_of session.old)
         (state_of session.new) (P.program plan.now) (P.text_of plan.now)) }
 {
-    let mut run = session.begin(plan)?;
-    loop {
-        match run.next_round(session)? {
-            Next::Finished(answer) => return Ok(answer),
-            Next::Round(orders) => {
-                note(notes, run.rounds(), orders.as_slice(), session.loaders())?;
-                let replies = last_first(alloc, orders, session.loaders(), elsewhere)?;
-                run.take_owned(session, replies)?;
-            }
-        }
+    let mut rounds = session.begin(plan);
+    while let Some(orders) = rounds.advance(session)? {
+        note(notes, rounds.rounds(), orders.as_slice(), session.loaders())?;
+        let replies = last_first(alloc, orders, session.loaders(), elsewhere)?;
+        rounds.take_owned(session, replies)?;
+    }
+    match rounds.into_answer() {
+        Some(answer) => Ok(answer),
+        None => unreachable!(),
     }
 }

@@ -21,10 +21,12 @@ use Rattle.load_rounds.specs.Headline.{StopsAnswering}
 use Rattle.load_rounds.specs.Sessions.{SessionOf, StateOf, state_of, rules_of, after_step, of_first}
 use Rattle.load_rounds.specs.ByHand.{AreReceived, front_in, orders_in, received, IsAsked, IsRound, IsUnasked}
 use Rattle.load_rounds.specs.SharedRounds.{joint, requests, AreAnswers}
-use Rattle.load_rounds.specs.SharedRuns.{RunAllOf, IsRunAll}
-use Rattle.load_rounds.specs.declared.by_hand.Stage.TheVariants as stage
+use Rattle.load_rounds.specs.Executions.{plans_in}
+use Rattle.load_rounds.specs.Runs.{RunOf}
+use Rattle.load_rounds.specs.declared.rounds.Stage.TheVariants as stage
 use Rattle.load_rounds.proofs.Numbering.{orders-below, orders-loads}
-use Rattle.load_rounds.proofs.Runs.{lost-rules, run-stops, round-asked, round-orders}
+use Rattle.load_rounds.proofs.Runs.{lost-rules, round-asked, round-orders}
+use Rattle.load_rounds.proofs.Stages.{stopped-all}
 use Rattle.load_rounds.proofs.Stepping.{record-logged, record-many, record-same, record-then}
 use Rattle.rounds_by_hand.specs.declared.hand.Advance.{Advance}
 use Rattle.rounds_by_hand.specs.declared.hand.Advance.TheVariants as did
@@ -91,16 +93,11 @@ module _ {S : Type 0} where
   received-in may s p ps replies e fit = record { replies = replies; fit = rw e at fit; moved = IsPermutation-refl replies }
 
   module _ {P E : Type 0} (program : P → Program) (text_of : P → AnsweredOf → List ℕ) (may : S → List KeyOf → AnswerOf → Type 0) where
-    -- a run that is dropped
-    pub stops : (begun now : StateOf S) (run : RunAllOf P E) (plans : List P) → run.plans ≡ plans → IsRunAll program text_of may begun now run → StopsAnswering may begun now (joint program text_of plans)
-    stops begun now run plans e is =
-        subst (λ ps. StopsAnswering may begun now (joint program text_of ps)) e (run-stops may (joint program text_of run.plans) begun now run.executions.rounds run.stage is.is)
-
     -- a property of the session whatever comes next
-    pub gone-stops : (begun now : SessionOf S) (plans : List P) (far : FarOf P E) → HasGone program text_of may begun now plans far → (now ≡ begun) ⊎ StopsAnswering may (state_of begun) (state_of now) (joint program text_of plans)
-    gone-stops begun now plans handed h = inl h
-    gone-stops begun now plans (out run ps) h = inr (stops (state_of begun) (state_of now) run plans h.0 h.1)
-    gone-stops begun now plans over h = inr h
+    pub gone-stops : (loaders : P → ℕ) (fits : P → E → MemoryOf → Type 0) (begun now : SessionOf S) (plans : List P) (far : FarOf P E) → HasGone program text_of may begun now plans far → (now ≡ begun) ⊎ StopsAnswering may (state_of begun) (state_of now) (joint program text_of plans)
+    gone-stops loaders fits begun now plans handed h = inl h
+    gone-stops loaders fits begun now plans (out run ps) h = inr (stopped-all program text_of loaders fits may (state_of begun) (state_of now) plans run h.0 h.1)
+    gone-stops loaders fits begun now plans over h = inr h
 
     pub goes-weaker : (from more : SessionOf S → Type 0) (now : SessionOf S) (plans others : List P) (far : FarOf P E) → others ≡ plans → ((begun : SessionOf S) → from begun → more begun)
         → GoesFrom program text_of may more now others far → GoesFrom program text_of may from now plans far
@@ -108,7 +105,7 @@ module _ {S : Type 0} where
 
   module _ {P E : Type 0} (program : P → Program) (text_of : P → AnsweredOf → List ℕ) where
     -- the orders of a round that was just made
-    pub out-with : (old new : StateOf S) (plans : List P) (later : RunAllOf P E) (orders : List CutOf) (ps : List Pending) → later.plans ≡ plans → later.stage ≡ stage.Out → IsRound (joint program text_of plans) old new orders
+    pub out-with : (old new : StateOf S) (plans : List P) (later : RunOf P E) (orders : List CutOf) (ps : List Pending) → plans_in later.parts ≡ plans → later.stage ≡ stage.Out → IsRound (joint program text_of plans) old new orders
         → ps ≡ map still_out orders → IsOutWith program text_of new later ps
     out-with old new plans later orders ps e stage is same = record {
       stage = stage;
@@ -119,11 +116,6 @@ module _ {S : Type 0} where
     }
 
   module _ {P : Type 0} (program : P → Program) (text_of : P → AnsweredOf → List ℕ) (may : S → List KeyOf → AnswerOf → Type 0) where
-    -- failed batches were forgotten, and nothing else was done
-    pub forgot-stops : (begun now : StateOf S) (plans : List P) → now ≡ after_step begun Forgot → StopsAnswering may begun now (joint program text_of plans)
-    forgot-stops begun now plans e =
-        run-stops may (joint program text_of plans) begun now 0 stage.Ready (record { log = []; made = record { rounds = λ l k. ap (λ (s : StateOf S). s.memory l k) e; after = e }; counted = refl })
-
     pub tells-weaker : (from more : SessionOf S → Type 0) (now : SessionOf S) (plans others : List P) (did : Advance) → others ≡ plans → ((begun : SessionOf S) → from begun → more begun)
         → TellsFrom program text_of may more now others did → TellsFrom program text_of may from now plans did
     tells-weaker from more now plans others (did.Finished answers) e to tells = λ begun h. subst (λ ps. AreAnswers may (state_of begun) (state_of now) (requests program text_of ps) answers) e (tells begun (to begun h))

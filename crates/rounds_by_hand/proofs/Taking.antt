@@ -20,8 +20,7 @@ use Rattle.execution.specs.Program.{Program}
 use Rattle.execution.specs.Completion.{AnsweredOf}
 use Rattle.execution.specs.Rounds.{any_answer, may_at}
 use Rattle.load_rounds.specs.Sessions.{StateOf}
-use Rattle.load_rounds.specs.SharedRounds.{joint}
-use Rattle.load_rounds.specs.SharedRuns.{RunAllOf}
+use Rattle.load_rounds.specs.Runs.{RunOf, program_of}
 use Rattle.rounds_by_hand.specs.declared.pending.Pending.{Pending}
 use Rattle.rounds_by_hand.specs.declared.pending.Pending.TheVariants.{Out, In}
 use Rattle.rounds_by_hand.specs.Pending.{order_in, CanAsk, HasAnswer, IsAnswered, TakesAnswer, MayAnswer}
@@ -90,9 +89,9 @@ taken-may {S} may loaders ps n answer now t within can told =
     at-fetched (Err NoMemory) l at f = tt
 
 module _ {S P E : Type 0} (program : P → Program) (text_of : P → AnsweredOf → List ℕ) where
-  pub taken-with : (s : StateOf S) (run : RunAllOf P E) (ps : List Pending) (n : ℕ) (answer : Result (Vec Item) FetchFault) (now : List Pending) → TakesAnswer ps n answer now → IsOutWith program text_of s run ps → IsOutWith program text_of s run now
+  pub taken-with : (s : StateOf S) (run : RunOf P E) (ps : List Pending) (n : ℕ) (answer : Result (Vec Item) FetchFault) (now : List Pending) → TakesAnswer ps n answer now → IsOutWith program text_of s run ps → IsOutWith program text_of s run now
   taken-with s run ps n answer now t h = record { stage = h.stage; latest = h.latest; orders = taken-orders ps n answer now t ∙ h.orders; own = taken-own s.loaders ps n answer now t h.own; answers = taken-any ps n answer now t h.answers }
 
-  pub taken-told : (may : S → List KeyOf → AnswerOf → Type 0) (s : StateOf S) (run : RunAllOf P E) (ps : List Pending) (n : ℕ) (answer : Result (Vec Item) FetchFault) (now : List Pending) (t : TakesAnswer ps n answer now) → IsOutWith program text_of s run ps
+  pub taken-told : (may : S → List KeyOf → AnswerOf → Type 0) (s : StateOf S) (run : RunOf P E) (ps : List Pending) (n : ℕ) (answer : Result (Vec Item) FetchFault) (now : List Pending) (t : TakesAnswer ps n answer now) → IsOutWith program text_of s run ps
       → MayAnswer may s.loaders (asks t.order) answer → All (IsAnswered (may_at may s.loaders)) ps → All (IsAnswered (may_at may s.loaders)) now
-  taken-told may s run ps n answer now t h can told = taken-may may s.loaders ps n answer now t (orders-have s (joint program text_of run.plans) ps h.orders) can told
+  taken-told may s run ps n answer now t h can told = taken-may may s.loaders ps n answer now t (orders-have s (program_of program text_of run) ps h.orders) can told

@@ -11,12 +11,13 @@ use Rattle.execution.specs.Program.{Program}
 use Rattle.execution.specs.Completion.{AnsweredOf}
 use Rattle.execution.specs.Rounds.{any_answer, may_at}
 use Rattle.load_queue.specs.Loaders.{AreOnRecord}
-use Rattle.load_rounds.specs.Sessions.{SessionOf, StateOf, state_of, rules_of, memory_of}
+use Rattle.load_rounds.specs.Sessions.{SessionOf, StateOf, state_of, rules_of}
 use Rattle.load_rounds.specs.Headline.{StopsAnswering}
 use Rattle.load_rounds.specs.ByHand.{orders_in, IsAsked}
 use Rattle.load_rounds.specs.SharedRounds.{requests, joint, AreAnswers}
-use Rattle.load_rounds.specs.SharedRuns.{RunAllOf, IsRunAll, FitsLater, GoesOnFrom}
-use Rattle.load_rounds.specs.declared.by_hand.Stage.TheVariants as stage
+use Rattle.load_rounds.specs.Executions.{plans_in}
+use Rattle.load_rounds.specs.Runs.{RunOf, IsRun, Holds as HoldsRun, GoesOnFrom, program_of}
+use Rattle.load_rounds.specs.declared.rounds.Stage.TheVariants as stage
 use Rattle.rounds_by_hand.specs.declared.hand.Advance.{Advance}
 use Rattle.rounds_by_hand.specs.declared.hand.Advance.TheVariants.{Finished, Round, Waiting, Over}
 use Rattle.rounds_by_hand.specs.declared.hand.Far.{Far}
@@ -28,7 +29,7 @@ use Rattle.rounds_by_hand.specs.Stored.{ForgetsFailed, KnowsTheSame, Stores, Sto
 -- says how far they are: nothing is done yet, or a round of a run is out with its orders, or nothing more can be done
 pub data FarOf (P E : Type 0) : Type 0 where
   handed : FarOf P E
-  out : RunAllOf P E → List Pending → FarOf P E
+  out : RunOf P E → List Pending → FarOf P E
   over : FarOf P E
 
 -- the session, what is answered in it, and how far that is
@@ -156,11 +157,11 @@ module _ {S P E : Type 0} where
   module _ (program : P → Program) (text_of : P → AnsweredOf → List ℕ) where
     -- A round is out, the latest of the session. Its orders are the batches of all that is needed and missing, each of which the session's
     -- own loader cut, and each that is answered has an outcome for each key.
-    pub record IsOutWith (s : StateOf S) (run : RunAllOf P E)
+    pub record IsOutWith (s : StateOf S) (run : RunOf P E)
         (pending : List Pending) : Type 0 where
       pub stage : run.stage ≡ stage.Out
-      pub latest : IsAsked (joint program text_of run.plans) s
-      pub orders : map order_in pending ≡ orders_in s (joint program text_of run.plans)
+      pub latest : IsAsked (program_of program text_of run) s
+      pub orders : map order_in pending ≡ orders_in s (program_of program text_of run)
       pub own : All (CanAsk s.loaders) pending
       pub answers : All (IsAnswered any_answer) pending
 
@@ -168,8 +169,8 @@ module _ {S P E : Type 0} where
       abbrev pub HoldsFar : SessionOf S → List P → FarOf P E → Type 0
       HoldsFar session plans handed = Unit {0}
       HoldsFar session plans (out run pending) =
-          (run.plans ≡ plans) × IsOutWith (state_of session) run pending
-          × FitsLater program text_of loaders fits run (memory_of session)
+          (plans_in run.parts ≡ plans) × IsOutWith (state_of session) run pending
+          × HoldsRun program text_of loaders fits run session
       HoldsFar session plans over = Unit {0}
 
       -- Gives what holds between calls: the session has the loaders of each plan, and the round that is out is of a run that fits it.
@@ -194,7 +195,7 @@ module _ {S P E : Type 0} where
       abbrev pub HasGone : SessionOf S → SessionOf S → List P → FarOf P E → Type 0
       HasGone begun now plans handed = now ≡ begun
       HasGone begun now plans (out run pending) =
-          (run.plans ≡ plans) × IsRunAll program text_of may (state_of begun) (state_of now) run
+          (plans_in run.parts ≡ plans) × IsRun program text_of may (state_of begun) (state_of now) run
           × All (IsAnswered (may_at may now.loaders)) pending
       HasGone begun now plans over =
           StopsAnswering may (state_of begun) (state_of now) (joint program text_of plans)
@@ -240,31 +241,31 @@ module _ {S P E : Type 0} where
           ⊎ StopsAnswering may (state_of begun) (state_of now) (joint program text_of old.plans)
 
       -- gives what a step does, from whichever session the run was begun on
-      module _ (old : SessionOf S) (run : RunAllOf P E) (new : SessionOf S) where
+      module _ (old : SessionOf S) (run : RunOf P E) (new : SessionOf S) where
         -- says where no round is out
         abbrev pub RunSteps : (P → ℕ) → (P → E → MemoryOf → Type 0) → FarOf P E → Advance → Type 0
         RunSteps loaders fits far advance =
             StepsFrom loaders fits
-            (λ begun. IsRunAll program text_of may (state_of begun) (state_of old) run)
-            new run.plans far advance
+            (λ begun. IsRun program text_of may (state_of begun) (state_of old) run)
+            new (plans_in run.parts) far advance
 
         abbrev pub RunStops : Type 0
         RunStops = StopsFrom program text_of may (λ begun.
-            IsRunAll program text_of may (state_of begun) (state_of old) run) new run.plans
+            IsRun program text_of may (state_of begun) (state_of old) run) new (plans_in run.parts)
 
         -- says where a round is out, with its orders
         abbrev pub OutSteps : (P → ℕ) → (P → E → MemoryOf → Type 0)
             → List Pending → FarOf P E → Advance → Type 0
         OutSteps loaders fits pending far advance =
-            StepsFrom loaders fits (λ begun. HasGone begun old run.plans (out run pending))
-            new run.plans far advance
+            StepsFrom loaders fits (λ begun. HasGone begun old (plans_in run.parts) (out run pending))
+            new (plans_in run.parts) far advance
 
         abbrev pub OutStops : List Pending → Type 0
         OutStops pending = StopsFrom program text_of may
-            (λ begun. HasGone begun old run.plans (out run pending)) new run.plans
+            (λ begun. HasGone begun old (plans_in run.parts) (out run pending)) new (plans_in run.parts)
 
         -- says where each order of the round is answered as its source may answer it: the round is stored
-        abbrev pub GoesOnIfAnswered : List Pending → RunAllOf P E → Type 0
+        abbrev pub GoesOnIfAnswered : List Pending → RunOf P E → Type 0
         GoesOnIfAnswered pending later =
             All (IsAnswered (may_at may old.loaders)) pending
             → GoesOnFrom program text_of may (state_of old) (state_of new) run later

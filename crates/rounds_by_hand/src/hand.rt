@@ -8,7 +8,7 @@ use crate::steps::{begin, finish_round};
 use execution::Execute;
 use load_memory::Item;
 use load_queue::{FetchFault, LocalSource};
-use load_rounds::{AllRoundsByHand, Answer, Session};
+use load_rounds::{Answer, Rounds, Session};
 use std::alloc::AllocError;
 use std::marker::Model;
 use std::mem;
@@ -19,7 +19,7 @@ pub(crate) enum Far<P, E> {
     /// Nothing is done yet of these plans.
     Handed(Vec<P>),
     /// A round is out, with its orders.
-    Out(AllRoundsByHand<P, E>, Vec<Pending>),
+    Out(Rounds<P, E>, Vec<Pending>),
     /// Nothing more can be done.
     Over,
 }

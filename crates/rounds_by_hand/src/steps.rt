@@ -1,7 +1,7 @@
 //! Steps of a hand: what a call does, on its parts.
 ghost use Rattle.std.specs.Prelude.{◌≡◌, ◌≤◌, All, length, IfOk, OnOk, OnErr};
-ghost use Rattle.load_rounds.specs.Sessions.{SessionOf, state_of, memory_of};
-ghost use Rattle.load_rounds.specs.SharedRuns.{CanGoOnAll, FitsRun, FitsLater, KeepsFitting};
+ghost use Rattle.load_rounds.specs.Sessions.{SessionOf, state_of};
+ghost use Rattle.load_rounds.specs.Runs.{Holds};
 ghost use Rattle.rounds_by_hand.specs.Hands.{far_of, IsOutWith, KeepsLoaders, StepsFrom, StopsFrom};
 ghost use Rattle.rounds_by_hand.specs.Hands.{RunSteps, RunStops, OutSteps, OutStops, GoesOnIfAnswered};
 ghost use Rattle.rounds_by_hand.specs.Stored.{ForgetsFailed, KnowsTheSame, StoresRound};
@@ -10,17 +10,16 @@ use crate::hand::{Advance, Far};
 use crate::pending::{Pending, all_out, replies_to};
 use execution::Execute;
 use load_queue::LocalSource;
-use load_rounds::{AllRoundsByHand, NextAll, Session, Stage};
+use load_rounds::{Rounds, Session, Stage};
 use std::alloc::AllocError;
 
 // Goes on with a run over what is known.
 fn go_on<E: Drop, P: Execute<E> + Drop, S: LocalSource>(
     session: &mut Session<S>,
-    run: AllRoundsByHand<P, E>,
+    run: Rounds<P, E>,
 ) -> Result<(Far<P, E>, Advance), AllocError>
-    requires can { CanGoOnAll P.loaders run session.old }
-    requires fits { FitsRun P.program P.text_of
-        P.loaders P.fits run (memory_of session.old) }
+    requires ready { run.stage ≡ Stage.Ready }
+    requires holds { Holds P.program P.text_of P.loaders P.fits run session.old }
     ensures gone { IfOk result (λ gone. RunSteps P.program P.text_of S.may_tell session.old
         run session.new P.loaders P.fits (far_of gone.0) gone.1) }
     ensures stopped { OnErr result
@@ -31,9 +30,12 @@ fn go_on<E: Drop, P: Execute<E> + Drop, S: LocalSource>(
         (KnowsTheSame session.old session.new) }
 {
     let mut run = run;
-    match run.next_round(session)? {
-        NextAll::Finished(answers) => Ok((Far::Over, Advance::Finished(answers))),
-        NextAll::Round(orders) => Ok((Far::Out(run, all_out(orders)?), Advance::Round)),
+    match run.advance(session)? {
+        None => {
+            let answers = run.into_answers(session.alloc())?;
+            Ok((Far::Over, Advance::Finished(answers)))
+        }
+        Some(orders) => Ok((Far::Out(run, all_out(orders)?), Advance::Round)),
     }
 }
 
@@ -60,15 +62,16 @@ pub(crate) fn begin<E: Drop, P: Execute<E> + Drop, S: LocalSource>(
 // Stores the replies to the round that is out. The sources are asked for the orders that nobody has answered.
 fn store<E: Drop, P: Execute<E> + Drop, S: LocalSource>(
     session: &mut Session<S>,
-    run: AllRoundsByHand<P, E>,
+    run: Rounds<P, E>,
     pending: Vec<Pending>,
-) -> Result<AllRoundsByHand<P, E>, AllocError>
-    requires { IsOutWith P.program P.text_of
+) -> Result<Rounds<P, E>, AllocError>
+    requires out { IsOutWith P.program P.text_of
         (state_of session.old) run pending.items }
+    requires holds { Holds P.program P.text_of P.loaders P.fits run session.old }
     ensures ready { IfOk result (λ later.
         later ≡ record run { stage = Stage.Ready }) }
-    ensures fits { IfOk result (λ later. KeepsFitting P.program P.text_of P.loaders
-        P.fits run later (memory_of session.old) (memory_of session.new)) }
+    ensures holds { IfOk result (λ later.
+        Holds P.program P.text_of P.loaders P.fits later session.new) }
     ensures ran { IfOk result (GoesOnIfAnswered P.program P.text_of
         S.may_tell session.old run session.new pending.items) }
     ensures lost { OnErr result
@@ -87,15 +90,12 @@ fn store<E: Drop, P: Execute<E> + Drop, S: LocalSource>(
 /// Stores the round that is out, and goes on over what is known then. The sources are asked for the orders that nobody has answered.
 pub(crate) fn finish_round<E: Drop, P: Execute<E> + Drop, S: LocalSource>(
     session: &mut Session<S>,
-    run: AllRoundsByHand<P, E>,
+    run: Rounds<P, E>,
     pending: Vec<Pending>,
 ) -> Result<(Far<P, E>, Advance), AllocError>
-    requires enough { All (λ plan. P.loaders plan
-        ≤ length session.old.loaders) run.plans }
     requires out { IsOutWith P.program P.text_of
         (state_of session.old) run pending.items }
-    requires fits { FitsLater P.program P.text_of
-        P.loaders P.fits run (memory_of session.old) }
+    requires holds { Holds P.program P.text_of P.loaders P.fits run session.old }
     ensures gone { IfOk result (λ gone. OutSteps P.program P.text_of S.may_tell session.old
         run session.new P.loaders P.fits pending.items (far_of gone.0) gone.1) }
     ensures stopped { OnErr result

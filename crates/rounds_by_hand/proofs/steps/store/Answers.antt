@@ -3,35 +3,36 @@ use Rattle.load_memory.specs.Replies.{reply_of}
 use Rattle.execution.specs.Program.{Program}
 use Rattle.load_rounds.specs.Histories.{any_tell}
 use Rattle.load_rounds.specs.Sessions.{StateOf, state_of}
-use Rattle.load_rounds.specs.SharedRounds.{joint}
+use Rattle.load_rounds.specs.Runs.{program_of}
 use Rattle.rounds_by_hand.proofs.Far.{orders-have, received-in, received-kept, same-kept}
 use Rattle.rounds_by_hand.proofs.steps.store.Goals as goal
 
 pub replies_to-requires-clause-loaders : goal.replies_to-requires-clause-loaders
 replies_to-requires-clause-loaders g c =
-    let p : Program = joint g.P.Execute.program g.P.Execute.text_of c.args.run.plans in
-    rw c.loaders.ensures (orders-have (state_of c.args.session.now) p c.args.pending.items c.requires.orders)
+    let p : Program = program_of g.P.Execute.program g.P.Execute.text_of c.args.run in
+    rw c.loaders.ensures (orders-have (state_of c.args.session.now) p c.args.pending.items c.requires.out.orders)
 
 pub replies_to-requires-clause-own : goal.replies_to-requires-clause-own
-replies_to-requires-clause-own g c = rw c.loaders.ensures c.requires.own
+replies_to-requires-clause-own g c = rw c.loaders.ensures c.requires.out.own
 
 pub take_owned-requires : goal.take_owned-requires
 take_owned-requires g c =
     let s = state_of c.args.session.now in
-    let p : Program = joint g.P.Execute.program g.P.Execute.text_of c.args.run.plans in
-    let fit = rw c.loaders.ensures at (c.in_ok-replies.ensures.any c.requires.answers) in
+    let p : Program = program_of g.P.Execute.program g.P.Execute.text_of c.args.run in
+    let fit = rw c.loaders.ensures at (c.in_ok-replies.ensures.any c.requires.out.answers) in
     record {
-      out = record { out = c.requires.stage; latest = c.requires.latest };
-      round = received-in any_tell s p c.args.pending.items (map reply_of c.in_ok-replies.replies.items) c.requires.orders fit;
+      out = record { out = c.requires.out.stage; latest = c.requires.out.latest };
+      round = received-in any_tell s p c.args.pending.items (map reply_of c.in_ok-replies.replies.items) c.requires.out.orders fit;
+      holds = c.requires.holds;
     }
 
 pub returns-clause-ran : goal.returns-clause-ran
 returns-clause-ran g c = λ told.
     let s = state_of c.args.session.now in
-    let p : Program = joint g.P.Execute.program g.P.Execute.text_of c.args.run.plans in
+    let p : Program = program_of g.P.Execute.program g.P.Execute.text_of c.args.run in
     let own = rw (← c.loaders.ensures) at told in
     let fit = rw c.loaders.ensures at (c.in_ok-replies.ensures.told own) in
-    let went = c.take_owned.ensures.run (received-in g.S.LocalSource.may_tell s p c.args.pending.items (map reply_of c.in_ok-replies.replies.items) c.requires.orders fit) in
+    let went = c.take_owned.ensures.run (received-in g.S.LocalSource.may_tell s p c.args.pending.items (map reply_of c.in_ok-replies.replies.items) c.requires.out.orders fit) in
     went
 
 pub returns-clause-stored : goal.returns-clause-stored

@@ -1,6 +1,6 @@
-use Rattle.std.proofs.Common.{◌≡◌, ◌≤◌, ◌∙◌, sym, subst, refl, length}
-use Rattle.std.specs.Prelude.{All}
+use Rattle.std.proofs.Common.{◌≡◌, ◌∙◌, sym, subst, refl}
 use Rattle.load_rounds.specs.Sessions.{state_of}
+use Rattle.load_rounds.specs.Executions.{plans_in}
 use Rattle.rounds_by_hand.specs.Hands.{HasGone, HoldsFar, IsUnderway, far_of, out, over}
 use Rattle.rounds_by_hand.proofs.Far.{keeps-hand, same-kept, tells-weaker}
 use Rattle.rounds_by_hand.proofs.hand.Hand.ask_and_advance.Goals as goal
@@ -9,9 +9,8 @@ use Rattle.rounds_by_hand.proofs.hand.Hand.ask_and_advance.Goals.{in-Over, in-Ha
 pub finish_round-requires : goal.finish_round-requires
 finish_round-requires g c =
     let far = sym c.replace.ensures.value ∙ c.in-Out.is in
-    let enough = rw (← c.self.view_is) at c.requires.enough in
     let round = rw far at (rw (← c.self.view_is) at c.requires.round) in
-    record { enough = subst (All (λ plan. g.P.Execute.loaders plan ≤ length c.self.inside.session.loaders)) (sym round.0) enough; out = round.1; fits = round.2 }
+    record { out = round.1; holds = round.2 }
 
 pub returns-clause-underway : goal.returns-clause-underway
 returns-clause-underway g c = λ begun h.
@@ -47,7 +46,7 @@ returns-clause-answers g c =
           let run = w.in-Out.run' in
           let pending = w.in-Out.pending.items in
           let round = rw (value ∙ w.in-Out.is) at (rw (← c.self.view_is) at c.requires.round) in
-          let tells = tells-weaker program text_of may (λ begun. IsUnderway program text_of may begun c.args.self.now) (λ begun. HasGone program text_of may begun s run.plans (out run pending)) w.finish_round.new.session plans run.plans w.in_ok-far-in-Out.advance round.0
+          let tells = tells-weaker program text_of may (λ begun. IsUnderway program text_of may begun c.args.self.now) (λ begun. HasGone program text_of may begun s (plans_in run.parts) (out run pending)) w.finish_round.new.session plans (plans_in run.parts) w.in_ok-far-in-Out.advance round.0
           (λ begun h. let gone = rw (value ∙ w.in-Out.is) at (rw (← c.self.view_is) at h) in (refl, gone.1, gone.2)) w.in_ok-far-in-Out.ensures.gone.tells in
           rw (w.far-is, w.self-inside-is) tells
     ]
