@@ -22,7 +22,8 @@ use Rattle.load_rounds.specs.Headline.{StopsAnswering, asked_steps}
 use Rattle.load_rounds.specs.Histories.{IsCallOf, StoppedLoading}
 use Rattle.load_rounds.specs.Reading.{KeysOf, CanLoad, HasRead, keys_fits, keys_loaders, keys_program, keys_text}
 use Rattle.load_rounds.specs.SharedRounds.{ReportOf, SharedHeadline, joint, report_of, request_of}
-use Rattle.load_rounds.specs.SharedRuns.{RunAllOf}
+use Rattle.load_rounds.specs.Executions.{plans_in}
+use Rattle.load_rounds.specs.Runs.{RunOf}
 use Rattle.load_rounds.proofs.Reading.{read-complete, read-fills, read-once, reading-front, reading-stops}
 use Rattle.load_rounds.proofs.Requests.{front-one, headline-one, stops-one}
 use Rattle.load_rounds.proofs.Runs.{lost-rules}
@@ -70,15 +71,15 @@ module _ {S : Type 0} (keys : KeysOf) where
       let same : front_in s p ≡ front_in is.before p = ap (λ (t : StateOf S). front_in t p) is.entered ∙ ap (λ rs. front (modes_of rs) p is.before.memory) (lost-rules is.before (front_in is.before p)) in
       is.lacks (sym same ∙ none)
 
-  out-lacks : (s : StateOf S) (run : RunAllOf KeysOf (Unit {0})) (ps : List Pending) (plans : List KeysOf) → plans ≡ keys ∷ [] → run.plans ≡ plans → IsOutWith keys_program keys_text s run ps → lacking s ≢ []
-  out-lacks s run ps plans is same h none = asked-lacks s (joint keys_program keys_text run.plans) h.latest (keys-front s run.plans (same ∙ is) ∙ none)
+  out-lacks : (s : StateOf S) (run : RunOf KeysOf (Unit {0})) (ps : List Pending) (plans : List KeysOf) → plans ≡ keys ∷ [] → plans_in run.parts ≡ plans → IsOutWith keys_program keys_text s run ps → lacking s ≢ []
+  out-lacks s run ps plans is same h none = asked-lacks s (joint keys_program keys_text (plans_in run.parts)) h.latest (keys-front s (plans_in run.parts) (same ∙ is) ∙ none)
 
   -- once it is stored nothing is missing
-  stored-none : (may : S → List KeyOf → AnswerOf → Type 0) (old new : SessionOf S) (run : RunAllOf KeysOf (Unit {0})) (ps : List Pending) (plans : List KeysOf) → plans ≡ keys ∷ [] → run.plans ≡ plans → IsOutWith keys_program keys_text (state_of old) run ps
+  stored-none : (may : S → List KeyOf → AnswerOf → Type 0) (old new : SessionOf S) (run : RunOf KeysOf (Unit {0})) (ps : List Pending) (plans : List KeysOf) → plans ≡ keys ∷ [] → plans_in run.parts ≡ plans → IsOutWith keys_program keys_text (state_of old) run ps
       → StoresRound may old new ps → KeepsLoaders (state_of old) (state_of new) → AreLimited (rules_of (state_of old)) → keys.loader < length old.loaders → lacking (state_of new) ≡ []
   stored-none may old new run ps plans is same h stores kept limited lt =
       let rules : List RuleOf = rules_of (state_of old) in
-      let orders : map order_in ps ≡ round_orders rules (lacking (state_of old)) = h.orders ∙ ap (round_orders rules) (keys-front (state_of old) run.plans (same ∙ is)) in
+      let orders : map order_in ps ≡ round_orders rules (lacking (state_of old)) = h.orders ∙ ap (round_orders rules) (keys-front (state_of old) (plans_in run.parts) (same ∙ is)) in
       let told : AreReplies any_answer (round_orders rules (lacking (state_of old))) stores.replies = subst (λ os. AreReplies any_answer os stores.replies) orders (replies-any (may_at may old.loaders) ps stores.replies h.answers stores.replied) in
       let filled = read-fills any_answer rules keys.loader keys.keys (look old.pairs) stores.replies limited (omega (arith, lt, length-map old.loaders rule_of)) (out-lacks (state_of old) run ps plans is same h) told in
       ap (λ rs. front_of_keys (modes_of rs) keys.loader keys.keys (look new.pairs)) kept.rules ∙ ap (front_of_keys (modes_of rules) keys.loader keys.keys) stores.stored ∙ filled
