@@ -164,16 +164,16 @@ class Calls:
 
 def call_number(client: Client, call: str, loader: int, rest: str) -> None:
     """Makes a call on the loader of a number, which the package doesn't take."""
-    calls, told = client._library.calls, array("Q", bytes(32))
+    told = array("Q", bytes(32))
     key, _, name = rest.partition(" ")
     keys = keys_in(key)
     number, shapes, key_texts, row = SIZES[loader], words_of([1] * len(keys)), texts_of(*flat(keys)), texts_of(*flat(["name", name]))
     made: dict[str, Callable[[], int]] = {
-        "load": lambda: client._call(calls.rz_begin_load, number, *shapes, *key_texts),
-        "prime": lambda: client._call(calls.rz_prime, number, *key_texts, SIZES[1], COUNTS[1], *row, pointer_to(told)),
-        "clear": lambda: client._call(calls.rz_clear, number, *key_texts, pointer_to(told)),
-        "clear all": lambda: client._call(calls.rz_clear_all, number),
-        "batches": lambda: client._call(calls.rz_log_sizes, number, pointer_to(told)),
+        "load": lambda: client._call("rz_begin_load", number, *shapes, *key_texts),
+        "prime": lambda: client._call("rz_prime", number, *key_texts, SIZES[1], COUNTS[1], *row, pointer_to(told)),
+        "clear": lambda: client._call("rz_clear", number, *key_texts, pointer_to(told)),
+        "clear all": lambda: client._call("rz_clear_all", number),
+        "batches": lambda: client._call("rz_log_sizes", number, pointer_to(told)),
     }
     made[{"load_many": "load", "clear": "clear all" if key == "all" else "clear"}.get(call, call)]()
 

@@ -207,7 +207,7 @@ def refuse(client: Client, order: Order, items: list[Rows]) -> None:
     counts = words_of([len(item) for item in items])
     texts = texts_of(*flat([*columns, *(text for row in rows for text in row.values())]))
     try:
-        client._call(client._library.calls.rz_take_rows, SIZES[order.number], SIZES[len(columns)], *counts, *texts)
+        client._call("rz_take_rows", SIZES[order.number], SIZES[len(columns)], *counts, *texts)
     except Refused as refused:
         if refused.name == "RZ_BAD_COUNT" and client.next() == Progress.WAITING:
             return
