@@ -90,18 +90,10 @@ class Client:
     _max_answer: int | None = None
 
     def __init__(
-        self,
-        opened: Opened,
-        loaders: Sequence[Loader],
-        functions: Loaders,
-        asks: Asks = _PLAIN,
-        limits: bytes = b"",
-        max_answer: int | None = None,
+        self, opened: Opened, loaders: Sequence[Loader], functions: Loaders, asks: Asks = _PLAIN, limits: bytes = b""
     ) -> None:
         self._opened, self._loaders, self._functions, self._asks = opened, loaders, functions, asks
         self._handle = opened.handle.client(limits)
-        if max_answer is not None:
-            self.limit_answers(max_answer)
 
     @property
     def closed(self) -> bool:

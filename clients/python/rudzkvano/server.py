@@ -156,7 +156,10 @@ class Server:
 
     def _made(self, loaders: Loaders, max_batch: MaxBatch = None, max_answer: int | None = None, **asks: Unpack[_AskOptions]) -> Client:
         self._check(loaders)
-        return Client(self._opened, self.loaders, loaders, self._asks(**asks), self._limits(max_batch), max_answer)
+        client = Client(self._opened, self.loaders, loaders, self._asks(**asks), self._limits(max_batch))
+        if max_answer is not None:
+            client.limit_answers(max_answer)
+        return client
 
     def _asks(
         self,
