@@ -1,11 +1,12 @@
--- Execution is defined exactly where the front is empty, and stays; what is needed only grows.
-use Rattle.std.proofs.Common.{◌≡◌, Bool, true, false, ◌||◌, ◌↔◌, List, [], ◌∷◌, ◌++◌, is_none, IsSome, inl, inr, sym, ap, refl, Option, Some, None, if◌then◌else◌}
+-- Execution is defined exactly where the front is empty, and stays; what is needed only grows, and so does work.
+use Rattle.std.proofs.Common.{◌≡◌, Bool, true, false, ◌||◌, ◌↔◌, ◌≤◌, List, [], ◌∷◌, ◌++◌, is_none, IsSome, inl, inr, sym, ap, refl, Option, Some, None, arith, if◌then◌else◌}
 use Rattle.load_memory.specs.Outcomes.{OutcomeOf}
 use Rattle.load_memory.specs.declared.key.KeyMode.{KeyMode}
 use Rattle.execution.specs.Loads.{Load, Reader, Memory, read, IsOneOf, AnswersMore, Extends}
 use Rattle.execution.specs.Program.{Program, Is, Read, Under, Programs, End, With, Over, tree, trees, needs, all_needs}
 use Rattle.execution.specs.Completion.{is_open, any_open, AnsweredOf}
 use Rattle.execution.specs.Executed.{completed, exec}
+use Rattle.execution.specs.Work.{count_all_completed, work}
 use Rattle.execution.specs.Front.{firsts, missing, front}
 use Rattle.execution.proofs.Same.{one-left, one-right, one-either, reads-more}
 
@@ -125,3 +126,17 @@ mutual
     | inl a ↦ one-left l (needs p Q) (all_needs rest Q) (needs-grow p R Q more l a)
     | inr b ↦ one-right l (needs p Q) (all_needs rest Q) (all-needs-grow rest R Q more l b)
   ]
+
+work-read : (load : Load) (next : OutcomeOf → Program) (R Q : Reader) → AnswersMore R Q → (r : Option OutcomeOf) → R load ≡ r → ((o : OutcomeOf) → work (next o) R ≤ work (next o) Q) → work (Read load next) R ≤ work (Read load next) Q
+work-read load next R Q more None e ih = rw e (omega arith)
+work-read load next R Q more (Some o) e ih = let f : Q load ≡ Some o = more load o e in rw (e, f) (ih o)
+
+mutual
+  pub work-grows : (p : Program) (R Q : Reader) → AnswersMore R Q → work p R ≤ work p Q
+  work-grows (Is own) R Q more = omega arith
+  work-grows (Read load next) R Q more = work-read load next R Q more (R load) refl (λ o. work-grows (next o) R Q more)
+  work-grows (Under kind below) R Q more = omega (arith, all-work-grows below R Q more)
+
+  all-work-grows : (ps : Programs) (R Q : Reader) → AnswersMore R Q → count_all_completed (trees ps R) ≤ count_all_completed (trees ps Q)
+  all-work-grows End R Q more = omega arith
+  all-work-grows (With position p rest) R Q more = omega (arith, work-grows p R Q more, all-work-grows rest R Q more)

@@ -2,6 +2,7 @@ pub mod Loads
 pub mod Program
 pub mod Completion
 pub mod Executed
+pub mod Work
 pub mod Front
 pub mod Rounds
 pub mod Residual

@@ -1,8 +1,9 @@
 //! Examples of what the definitions give on small programs, whose answers were worked by hand from the rules.
 ghost use Rattle.std.specs.Prelude.{◌≡◌, List, [], ◌∷◌, Some, None, codes};
 ghost use Rattle.execution.specs.Loads.{Load};
-ghost use Rattle.execution.specs.Program.{Program, needs, chain};
+ghost use Rattle.execution.specs.Program.{Null, Program, Is, needs, chain};
 ghost use Rattle.execution.specs.Executed.{exec};
+ghost use Rattle.execution.specs.Work.{work};
 ghost use Rattle.execution.specs.Residual.{unanswered};
 ghost use Rattle.load_memory.specs.Keys.{text};
 ghost use Rattle.execution.specs.Front.{firsts};
@@ -33,6 +34,17 @@ pub fn read_by_hand()
         fault_answered ≡ 4 }
     ensures faults { exec three_loads fault_answered
         ≡ Some three_faults }
+{}
+
+/// Work counts each position that is completed, also where its null makes all that is around it null, and none that is open.
+pub fn work_by_hand()
+    ensures leaf { work (Is Null) unanswered ≡ 1 }
+    ensures object { work user_without_name unanswered ≡ 3 }
+    ensures list { work nullable_users unanswered ≡ 6 }
+    ensures whole { work users_and_one_without_name
+        unanswered ≡ 6 }
+    ensures waits { work three_loads unanswered ≡ 1 }
+    ensures first { work three_loads first_answered ≡ 3 }
 {}
 
 /// A front has of equal cache keys the first; a round asks each loader's keys in order, in pieces of its limit; and a list

@@ -14,6 +14,7 @@ ghost use Rattle.load_queue.specs.Wanted.{WantedOf, keys_wanted};
 ghost use Rattle.load_memory.specs.Pairs.{PairOf, look};
 ghost use Rattle.execution.specs.Residual.{rest, Fits, unanswered};
 ghost use Rattle.execution.specs.Executed.{exec, nulls};
+ghost use Rattle.execution.specs.Work.{work};
 
 /// *Completion* (sections 6.4.3 and 6.4.4 of the GraphQL specification of October 2021): what `exec` computes bottom up is
 /// the one answer that the sentence on paths and the list of all positions allow.
@@ -35,6 +36,12 @@ pub fn monotone_execution()
         → front modes p M ≡ [] → exec p (read modes N) ≡ exec p (read modes M) }
     ensures grows { (modes : _) (p : _) (M N : Memory) (load : _) → Extends M N
         → IsOneOf load (needs p (read modes M)) → IsOneOf load (needs p (read modes N)) }
+{}
+
+/// *Work only grows*: over a larger memory an execution completes at least as many positions, also where something is missing.
+pub fn work_only_grows()
+    ensures { (modes : List KeyMode) (p : Program) (M N : Memory) → Extends M N
+        → work p (read modes M) ≤ work p (read modes N) }
 {}
 
 /// A suspended program fits a reader if it has done only what the reader answers; a fresh program fits every reader. A
