@@ -1,6 +1,6 @@
 -- Lemmas on what a walk puts, one thing after another.
 use Rattle.std.proofs.Common.{◌≡◌, ◌⊎◌, inl, inr, ℕ, suc, ◌<◌, ◌≤◌, ◌+◌, ◌-◌, Bool, false, List, [], ◌∷◌, ◌++◌, map, take, drop, length, get_or, refl, sym, ap, ◌∙◌, subst, arith, append_assoc, append-nil, None}
-use Rattle.std.proofs.lemmas.List.{take_more, take_all, drop_all, map_push, length-map, length-take-le}
+use Rattle.std.proofs.lemmas.List.{take_more, take_all, take-append-drop, drop_all, map_push, map-append, length-map, length-take-le}
 use Rattle.std.proofs.Math.Path.{fun_ext}
 use Rattle.schema_syntax.specs.Tree.{Definition}
 use Rattle.text_place.specs.declared.place.Place.{Place}
@@ -95,6 +95,13 @@ module _ {S : Type 0} {goes : Putting S} {below : Below S} {most : ℕ} {plan : 
       let here : Goes goes below most plan known (λ v. Ends kind ∷ []) b c = goes-put same (λ k v _. q v) in
       goes-then laws (λ k. k) p here
 
+  -- what is left to put changes a full sink no more
+  pub goes-full : {known : Type 0} {before : View → List Put} {a b : Progress S} (left : View → List Put) → Laws goes below → ((v : View) (ps : List Put) → goes v ps b.out b.out) → Goes goes below most plan known before a b
+      → Goes goes below most plan known (λ v. before v ++ left v) a b
+  goes-full {known} {b = b} left laws full p =
+      let rest : Goes goes below most plan known left b b = goes-put refl (λ k v _. full v (left v)) in
+      goes-then laws (λ k. k) p rest
+
   -- an object of a type, whose members were prepared first
   pub goes-made : {known : Type 0} (non_null : Bool) (R : Reader) (levels n group : ℕ) (ty : List ℕ) (row : RowOf) (a mid b : Progress S) (ms : List Member) → Laws goes below → levels ≡ suc n → mid.out ≡ a.out
       → IsShaped plan most a.groups.items mid.groups.items group ty ms → Goes goes below most plan (AreKnown (length mid.groups.items) ms) (λ v. puts false (Under ObjectOf (members_seen plan.definitions v n row ms)) R) mid b
@@ -157,15 +164,27 @@ fields-more defs levels row R ms i m v lt is =
     ∙ ap (λ ps. Begins ObjectOf ∷ all_puts ObjectOf ps R) (sym (members-append defs v levels row (take i ms) (m ∷ [])))
     ∙ ap (λ xs. fields_put defs levels row R xs v) (sym (take_more ms i m lt ∙ ap (λ x. take i ms ++ x ∷ []) (sym is)))
 
+-- gives what is put of an object after some of its members
+abbrev pub fields_left : List Definition → ℕ → RowOf → Reader → List Member → View → List Put
+fields_left defs levels row R ms v = all_puts ObjectOf (members_seen defs v levels row ms) R ++ Ends ObjectOf ∷ []
+
+pub fields-rest : (defs : List Definition) (levels : ℕ) (row : RowOf) (R : Reader) (ms : List Member) (i : ℕ) (v : View)
+    → fields_put defs levels row R (take i ms) v ++ fields_left defs levels row R (drop i ms) v ≡ puts false (Under ObjectOf (members_seen defs v levels row ms)) R
+fields-rest defs levels row R ms i v =
+    let seen = members_seen defs v levels row in
+    sym (append_assoc (fields_put defs levels row R (take i ms) v) (all_puts ObjectOf (seen (drop i ms)) R) (Ends ObjectOf ∷ []))
+    ∙ ap (λ us. Begins ObjectOf ∷ (us ++ Ends ObjectOf ∷ [])) (sym (puts-chained ObjectOf (seen (take i ms)) (seen (drop i ms)) R))
+    ∙ ap (λ us. Begins ObjectOf ∷ (all_puts ObjectOf us R ++ Ends ObjectOf ∷ [])) (sym (members-append defs v levels row (take i ms) (drop i ms)) ∙ ap seen (take-append-drop i ms))
+
 -- one of several known members asks for what is known
 pub known-at : (n k : ℕ) (ms : List Member) (i : ℕ) (m : Member) → n ≤ k → i < length ms → m ≡ get_or ms i m → AreKnown n ms → IsAsked k m.asks
 known-at n k ms i m le lt is known = subst (λ (x : Member). IsAsked k x.asks) (sym is) (asked-more n k (get_or ms i m).asks le (known i m lt))
 
-places-append : (non_null : Bool) (place : Place) (n : ℕ) (ps : List Program) (p : Program) → places non_null place n (ps ++ p ∷ []) ≡ chained (places non_null place n ps) (places non_null place (n + length ps) (p ∷ []))
-places-append non_null place n [] p = let e : n + 0 ≡ n = omega arith in rw e refl
-places-append non_null place n (q ∷ ps) p =
+places-append : (non_null : Bool) (place : Place) (n : ℕ) (ps qs : List Program) → places non_null place n (ps ++ qs) ≡ chained (places non_null place n ps) (places non_null place (n + length ps) qs)
+places-append non_null place n [] qs = let e : n + 0 ≡ n = omega arith in rw e refl
+places-append non_null place n (p ∷ ps) qs =
     let e : n + suc (length ps) ≡ suc n + length ps = omega arith in
-    rw e (ap (With (record { part = Item n; non_null = non_null; place = place }) q) (places-append non_null place (suc n) ps p))
+    rw e (ap (With (record { part = Item n; non_null = non_null; place = place }) p) (places-append non_null place (suc n) ps qs))
 
 -- gives what is put of a list up to some of its items
 abbrev pub items_put : {A : Type 0} → Bool → Place → Reader → (View → A → Program) → List A → View → List Put
@@ -180,7 +199,7 @@ items-more non_null place R f xs i x v lt is =
     ap (λ us. items_put non_null place R f (take i xs) v ++ Enters ListOf (record { part = Item i; non_null = non_null; place = place }) ∷ us) (sym (append-nil (puts non_null (f v x) R)))
     ∙ ap (λ n. items_put non_null place R f (take i xs) v ++ all_puts ListOf (places non_null place n (f v x ∷ [])) R) number
     ∙ ap (λ us. Begins ListOf ∷ us) (sym (puts-chained ListOf (places non_null place 0 ps) (places non_null place (0 + length ps) (f v x ∷ [])) R))
-    ∙ ap (λ us. Begins ListOf ∷ all_puts ListOf us R) (sym (places-append non_null place 0 ps (f v x)))
+    ∙ ap (λ us. Begins ListOf ∷ all_puts ListOf us R) (sym (places-append non_null place 0 ps (f v x ∷ [])))
     ∙ ap (λ qs. Begins ListOf ∷ all_puts ListOf (places non_null place 0 qs) R) (sym (ap (map (f v)) (take_more xs i x lt ∙ ap (λ y. take i xs ++ y ∷ []) (sym is)) ∙ map_push (f v) (take i xs) x))
 
 -- all of them
@@ -189,6 +208,22 @@ pub items-whole : {A : Type 0} (non_null to_be : Bool) (place there : Place) (R 
 items-whole non_null to_be place there R f xs i v e g le =
     let put = λ (s : Bool) (p : Place). puts false (Under ListOf (places s p 0 (map (f v) xs))) R in
     ap (λ ys. items_put non_null place R f ys v ++ Ends ListOf ∷ []) (take_all i xs le) ∙ ap (λ s. put s place) e ∙ ap (λ p. put to_be p) g
+
+-- gives what is put of a list after some of its items
+abbrev pub items_left : {A : Type 0} → Bool → Place → Reader → (View → A → Program) → List A → ℕ → View → List Put
+items_left non_null place R f xs i v = all_puts ListOf (places non_null place (0 + length (map (f v) (take i xs))) (map (f v) (drop i xs))) R ++ Ends ListOf ∷ []
+
+pub items-rest : {A : Type 0} (non_null to_be : Bool) (place there : Place) (R : Reader) (f : View → A → Program) (xs : List A) (i : ℕ) (v : View) → non_null ≡ to_be → place ≡ there
+    → items_put non_null place R f (take i xs) v ++ items_left non_null place R f xs i v ≡ puts false (Under ListOf (places to_be there 0 (map (f v) xs))) R
+items-rest non_null to_be place there R f xs i v e g =
+    let put = λ (s : Bool) (p : Place) (ps : List Program). puts false (Under ListOf (places s p 0 ps)) R in
+    let ps : List Program = map (f v) (take i xs) in
+    let qs : List Program = map (f v) (drop i xs) in
+    sym (append_assoc (items_put non_null place R f (take i xs) v) (all_puts ListOf (places non_null place (0 + length ps) qs) R) (Ends ListOf ∷ []))
+    ∙ ap (λ us. Begins ListOf ∷ (us ++ Ends ListOf ∷ [])) (sym (puts-chained ListOf (places non_null place 0 ps) (places non_null place (0 + length ps) qs) R))
+    ∙ ap (λ us. Begins ListOf ∷ (all_puts ListOf us R ++ Ends ListOf ∷ [])) (sym (places-append non_null place 0 ps qs))
+    ∙ ap (put non_null place) (sym (map-append (f v) (take i xs) (drop i xs)) ∙ ap (map (f v)) (take-append-drop i xs))
+    ∙ ap (λ s. put s place (map (f v) xs)) e ∙ ap (λ p. put to_be p (map (f v) xs)) g
 
 -- ---- rows
 

@@ -1,6 +1,6 @@
 //! Sinks, into which a walk puts an answer.
 
-ghost use Rattle.std.specs.Prelude.{◌≡◌, ◌<◌, ◌≤◌, ◌++◌, ◌∷◌, [], ℕ, List, OnOk};
+ghost use Rattle.std.specs.Prelude.{◌≡◌, ◌<◌, ◌≤◌, ◌++◌, ◌∷◌, [], ℕ, List, IsTrue, OnOk};
 ghost use Rattle.load_memory.specs.Keys.{borrowed_of};
 ghost use Rattle.execution.specs.Program.{ObjectOf, ListOf};
 ghost use Rattle.plan_program.specs.Prepared.{leaf_value_seen};
@@ -69,6 +69,15 @@ pub trait Sink {
     /// Returns how many positions wait in it.
     fn waiting(&self) -> usize
         ensures { result ≡ waits self.now };
+
+    /// Tells whether nothing that is put changes it any more. A walk may end early then.
+    #[inline]
+    fn is_full(&self) -> bool
+        ensures { IsTrue result
+            → (v : View) (ps : List Put) → goes v ps self.now self.now }
+    {
+        false
+    }
 
     ghost none: { (v : View) (s : Self) → goes v [] s s };
 

@@ -1,4 +1,5 @@
-//! The walk over what a plan asks and what a memory says, which puts the answer into a sink.
+//! The walk over what a plan asks and what a memory says, which puts the answer into a sink. Once the sink is full, it ends
+//! before the next field or item.
 //!
 //! Clauses of the walk are stated for every view that covers the groups at the end: a view tells for each
 //! number what the group does with rows. The table of groups only grows, and so nothing has to be said again
@@ -70,6 +71,9 @@ impl<'w> Walk<'w> {
     {
         at.out.begin(PositionKind::Object)?;
         for member in members {
+            if at.out.is_full() {
+                return Ok(());
+            }
             at.out.field(member.position.as_position())?;
             let nullability = member.position.nullability;
             self.ask(at, levels, nullability, &member.asks, row)?;
@@ -239,6 +243,9 @@ impl<'w> Walk<'w> {
         };
         at.out.begin(PositionKind::List)?;
         for (number, row) in rows.iter().enumerate() {
+            if at.out.is_full() {
+                return Ok(());
+            }
             at.out.item(items, number)?;
             self.follow(at, to, left, row)?;
         }
@@ -295,6 +302,9 @@ impl<'w> Walk<'w> {
         };
         at.out.begin(PositionKind::List)?;
         for (number, key) in keys.iter().enumerate() {
+            if at.out.is_full() {
+                return Ok(());
+            }
             at.out.item(items, number)?;
             self.read_if(at, to, loader, key)?;
         }

@@ -28,7 +28,7 @@ use Rattle.plan_walk.specs.declared.positions.Onward.{Onward}
 use Rattle.plan_walk.specs.Following.{followed_puts}
 use Rattle.plan_walk.specs.declared.loading_fields.LoadingField.{LoadingField}
 use Rattle.plan_walk.specs.declared.loading_fields.Member.{Member}
-use Rattle.plan_walk.proofs.Touring.{Laws, goes-put, goes-as, walks-as, goes-probed, goes-entered, goes-ended, goes-made, goes-only-none, goes-only, goes-let_go, fields_put, fields-more, known-at, items-more, items-whole, joined_by, after-one, after-taken, after-followed, after-missing, after-row, after-head, map-map}
+use Rattle.plan_walk.proofs.Touring.{Laws, goes-put, goes-as, walks-as, goes-probed, goes-entered, goes-ended, goes-full, goes-made, goes-only-none, goes-only, goes-let_go, fields_put, fields-more, fields-rest, known-at, items-more, items-rest, items-whole, joined_by, after-one, after-taken, after-followed, after-missing, after-row, after-head, map-map}
 use Rattle.plan_walk.proofs.walk.Walk.+walk.Given.{Over}
 use Rattle.plan_walk.proofs.walk.Walk.+walk.Goals as goal
 
@@ -43,6 +43,11 @@ object-loop-member-preserved g t c =
     goes-as (goes-entered (laws g) (known-at _ _ c.args.members.now i c.member-item.result c.loop-member.invariant.grows.longer (omega (arith, c.loop-member-test.true)) c.member-item.is) c.loop-member.invariant refl (rw c.as_position.ensures at c.in_ok-field.ensures) c.in_ok-ask.ensures)
     (λ k v cov. fields-more (plan_of c.args.self.now.plan.now).definitions c.args.levels c.args.row.now (lookup c.args.self.now.memory.now) c.args.members.now i c.member-item.result v (omega (arith, c.loop-member-test.true)) c.member-item.is)
 
+pub object-returns-then-is_full : goal.object-returns-then-is_full
+object-returns-then-is_full g t c =
+    goes-as (goes-full _ (laws g) (c.is_full.ensures c.if-is_full.true) c.loop-member.invariant)
+    (λ k v cov. fields-rest (plan_of c.args.self.now.plan.now).definitions c.args.levels c.args.row.now (lookup c.args.self.now.memory.now) c.args.members.now c.loop-member.member-index v)
+
 pub object-returns : goal.object-returns
 object-returns g t c =
     on_ok_weaker c.end.result
@@ -54,6 +59,13 @@ pub all-loop-number-preserved : goal.all-loop-number-preserved
 all-loop-number-preserved g t c =
     goes-as (goes-entered (laws g) (λ lt. omega (arith, lt, c.loop-number.invariant.grows.longer)) c.loop-number.invariant refl c.in_ok-item.ensures c.in_ok-follow.ensures)
     (λ k v cov. items-more _ _ _ (λ (v : View) (row : RowOf). v.after (later_of c.args.left (onward_of c.args.onward)) (row ∷ [])) c.args.rows.now c.loop-number.number c.index-rows-number.result v c.loop-number-test.true c.index-rows-number.is)
+
+pub all-returns-then-is_full : goal.all-returns-then-is_full
+all-returns-then-is_full g t c =
+    goes-as (goes-full _ (laws g) (c.is_full.ensures c.if-is_full.true) c.loop-number.invariant)
+    (λ k v cov. items-rest _ _ _ _ _ (λ (v : View) (row : RowOf). v.after (later_of c.args.left (onward_of c.args.onward)) (row ∷ [])) c.args.rows.now c.loop-number.number v
+    (c.items_of-items.ensures.nullability ∙ ap (λ (gs : List LoadingField). (children_at gs c.args.onward.group).item_non_null) c.deref.ensures.value)
+    (c.items_of-items.ensures.place ∙ ap (λ (gs : List LoadingField). (children_at gs c.args.onward.group).place) c.deref.ensures.value))
 
 pub all-returns : goal.all-returns
 all-returns g t c =
@@ -115,6 +127,14 @@ each-loop-number-preserved g t c =
     let item = λ (v : View) (k : Option Key). read_if c.args.loader (v.after (onward_of c.args.onward)) (option_map key_of k) in
     goes-as (goes-entered (laws g) (λ lt. omega (arith, lt, c.loop-number.invariant.grows.longer)) c.loop-number.invariant refl c.in_ok-item.ensures c.in_ok-read_if.ensures)
     (λ k v cov. items-more _ _ _ item c.args.keys.now c.loop-number.number c.index-keys-number.result v c.loop-number-test.true c.index-keys-number.is)
+
+pub each-returns-then-is_full : goal.each-returns-then-is_full
+each-returns-then-is_full g t c =
+    let read = λ (v : View) (k : Option KeyOf). read_if c.args.loader (v.after (onward_of c.args.onward)) k in
+    let put = λ (ps : List Program). puts false (Under ListOf (places (is_non_null c.args.items.nullability) c.args.items.place 0 ps)) (lookup c.args.self.now.memory.now) in
+    goes-as (goes-full _ (laws g) (c.is_full.ensures c.if-is_full.true) c.loop-number.invariant)
+    (λ k v cov. items-rest _ _ _ _ _ (λ (v : View) (k : Option Key). read v (option_map key_of k)) c.args.keys.now c.loop-number.number v refl refl
+    ∙ ap put (sym (map-map (read v) (λ (x : Option Key). option_map key_of x) c.args.keys.now)))
 
 pub each-returns : goal.each-returns
 each-returns g t c =
