@@ -17,5 +17,6 @@ pub mod Completing
 pub mod Limiting
 pub mod KeyByKey
 pub mod ReadingOn
+pub mod Working
 pub mod PlanCrossing
 pub mod Crossing

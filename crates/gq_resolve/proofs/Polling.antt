@@ -62,7 +62,7 @@ left-same plan m le = same-rest (length plan.bindings.loaders) (lookup m) (reade
 lookup-asks : (plan : PlanOf) (m : MemoryOf) → length plan.bindings.loaders ≤ length m.modes → asks (plan_program plan) (lookup m) ≡ lacking plan m
 lookup-asks plan m le = sym (needs-rest (plan_program plan) (lookup m)) ∙ ap (λ q. needs q unanswered) (left-same plan m le) ∙ needs-rest (plan_program plan) (reader m)
 
-lookup-tree : (plan : PlanOf) (m : MemoryOf) → length plan.bindings.loaders ≤ length m.modes → tree (plan_program plan) (lookup m) ≡ tree (plan_program plan) (reader m)
+pub lookup-tree : (plan : PlanOf) (m : MemoryOf) → length plan.bindings.loaders ≤ length m.modes → tree (plan_program plan) (lookup m) ≡ tree (plan_program plan) (reader m)
 lookup-tree plan m le = sym (held-rest (plan_program plan) (lookup m)) ∙ ap (λ q. tree q unanswered) (left-same plan m le) ∙ held-rest (plan_program plan) (reader m)
 
 module _ (plan : PlanOf) (m : MemoryOf) (old : List WantedOf) (w : FinishedWalk Output) (can : CanExecute (length plan.bindings.loaders) m old) (a : Advanced plan m w) where

@@ -12,5 +12,6 @@ pub mod Within
 pub mod Counting
 pub mod KeyByKey
 pub mod Adding
+pub mod WorkLeft
 pub mod NewKeys
 pub mod PlanLoads

@@ -27,6 +27,7 @@ mod root_state;
 mod threads;
 mod units;
 mod wanting;
+mod work;
 
 pub use answered::{ExecutionResult, answer_text};
 pub use counting::loads_read;
@@ -34,3 +35,4 @@ pub use limited_plan::LimitedPlan;
 pub use prepared_plan::PreparedPlan;
 pub use root_state::RootState;
 pub use units::{ArgFault, Args, CompletedValue, Group, arguments_of, collect, complete, evaluate};
+pub use work::work_left;

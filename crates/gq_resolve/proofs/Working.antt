@@ -1,0 +1,39 @@
+-- Lemmas on the work of what is put.
+use Rattle.std.proofs.Common.{◌≡◌, ◌∙◌, ◌≤◌, ◌+◌, ℕ, Bool, false, List, ◌∷◌, ◌++◌, [], length, refl, ap, subst, Option, Some, None, arith}
+use Rattle.std.specs.List.{sum_by}
+use Rattle.std.proofs.lemmas.List.Sums.{sum_by-append}
+use Rattle.load_memory.specs.Outcomes.{OutcomeOf}
+use Rattle.load_memory.specs.Pairs.{MemoryOf}
+use Rattle.execution.specs.Loads.{Load, Reader}
+use Rattle.execution.specs.Program.{Kind, Program, Is, Read, Under, Programs, End, With, trees}
+use Rattle.execution.specs.Work.{work, count_completed, count_all_completed}
+use Rattle.gq_check.specs.Plans.{PlanOf}
+use Rattle.plan_program.specs.PlanPrograms.{plan_program}
+use Rattle.plan_walk.specs.Puts.{Put, Begins, Ends, puts, all_puts}
+use Rattle.plan_walk.specs.Reading.{lookup}
+use Rattle.gq_resolve.specs.WorkLeft.{put_work, plan_work, IsLeft, TakesWork}
+use Rattle.gq_resolve.proofs.Polling.{lookup-tree}
+
+puts-read : (non_null : Bool) (load : Load) (next : OutcomeOf → Program) (R : Reader) (r : Option OutcomeOf) → R load ≡ r
+    → ((o : OutcomeOf) → sum_by put_work (puts non_null (next o) R) ≡ work (next o) R) → sum_by put_work (puts non_null (Read load next) R) ≡ work (Read load next) R
+puts-read non_null load next R None e ih = rw e refl
+puts-read non_null load next R (Some o) e ih = rw e (ih o)
+
+mutual
+  -- what is put of a program is as much work as its execution
+  puts-work : (non_null : Bool) (p : Program) (R : Reader) → sum_by put_work (puts non_null p R) ≡ work p R
+  puts-work non_null (Is own) R = refl
+  puts-work non_null (Read load next) R = puts-read non_null load next R (R load) refl (λ o. puts-work non_null (next o) R)
+  puts-work non_null (Under kind below) R =
+      let inner : List Put = all_puts kind below R in
+      let begun : sum_by put_work (puts non_null (Under kind below) R) ≡ 1 + sum_by put_work (inner ++ Ends kind ∷ []) = sum_by-append put_work (Begins kind ∷ []) (inner ++ Ends kind ∷ []) in
+      omega (arith, begun, sum_by-append put_work inner (Ends kind ∷ []), all-puts-work kind below R)
+
+  all-puts-work : (kind : Kind) (ps : Programs) (R : Reader) → sum_by put_work (all_puts kind ps R) ≡ count_all_completed (trees ps R)
+  all-puts-work kind End R = refl
+  all-puts-work kind (With position p rest) R =
+      sum_by-append put_work (puts position.non_null p R) (all_puts kind rest R) ∙ rw (puts-work position.non_null p R, all-puts-work kind rest R) refl
+
+-- the whole plan was put
+pub plan-taken : (plan : PlanOf) (m : MemoryOf) (most : ℕ) (left : Option ℕ) → length plan.bindings.loaders ≤ length m.modes → TakesWork (puts false (plan_program plan) (lookup m)) (Some most) left → IsLeft most (plan_work plan m) left
+plan-taken plan m most left enough h = subst (λ (n : ℕ). IsLeft most n left) (puts-work false (plan_program plan) (lookup m) ∙ ap count_completed (lookup-tree plan m enough)) h

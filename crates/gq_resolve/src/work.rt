@@ -1,0 +1,133 @@
+//! The work of an answer, counted until it is more than a limit.
+
+ghost use Rattle.std.specs.Prelude.{◌≤◌, IfOk, length};
+ghost use Rattle.gq_check.specs.Plans.{plan_of};
+ghost use Rattle.gq_resolve.specs.WorkLeft.{plan_work, IsLeft, IsLeftOf};
+
+use crate::advance::{go_over, prepare_root};
+use crate::most_groups::most_groups_of;
+use gq_check::Plan;
+use load_memory::{KeyRef, Memory};
+use plan_program::LeafValue;
+use plan_walk::positions::{FieldPosition, Items, Leaf, Nullability, Onward, PositionKind};
+use plan_walk::sink::Sink;
+use plan_walk::walk::Walk;
+use std::alloc::{AllocError, Global};
+
+/// What the positions that a walk completes leave of a limit. It is full once there was one too many.
+#[derive(Drop)]
+pub struct WorkLeft {
+    left: Option<usize>,
+}
+
+impl WorkLeft {
+    // A position is completed.
+    fn complete(&mut self)
+        ensures { IsLeftOf self.old.left 1 self.new.left }
+    {
+        self.left = match self.left {
+            Some(left) => left.checked_sub(1),
+            None => None,
+        };
+    }
+}
+
+impl Sink for WorkLeft {
+    ghost use Rattle.gq_resolve.specs.WorkLeft.{TakesWork, takes-none, takes-more};
+
+    ghost goes = { λ v ps old new. TakesWork ps old.left new.left };
+
+    ghost below = { λ n s. Unit {0} };
+
+    ghost waits = { λ s. 0 };
+
+    ghost none = { λ v s. takes-none s.left };
+
+    ghost more = { λ v ps qs a b c p q. takes-more ps qs a.left b.left c.left p q };
+
+    ghost rises = { λ n m s le h. h };
+
+    ghost stays = { λ v ps a b h w. w };
+
+    ghost narrow = { λ v w n ps a b le same below held h. h };
+
+    fn begin(&mut self, _kind: PositionKind) -> Result<(), AllocError> {
+        self.complete();
+        Ok(())
+    }
+
+    fn end(&mut self, _kind: PositionKind) -> Result<(), AllocError> {
+        Ok(())
+    }
+
+    fn field(&mut self, _position: FieldPosition<'_>) -> Result<(), AllocError> {
+        Ok(())
+    }
+
+    fn item(&mut self, _items: Items, _number: usize) -> Result<(), AllocError> {
+        Ok(())
+    }
+
+    fn leaf_value(
+        &mut self,
+        _leaf_value: &LeafValue,
+        _nullability: Nullability,
+    ) -> Result<(), AllocError> {
+        self.complete();
+        Ok(())
+    }
+
+    fn cell(&mut self, _leaf: Leaf<'_>, _nullability: Nullability) -> Result<(), AllocError> {
+        self.complete();
+        Ok(())
+    }
+
+    fn waiting(&self) -> usize {
+        0
+    }
+
+    // A position that waits isn't completed.
+    fn wait(
+        &mut self,
+        _onward: Onward,
+        _loader: usize,
+        _key: KeyRef<'_>,
+    ) -> Result<(), AllocError> {
+        Ok(())
+    }
+
+    fn is_full(&self) -> bool {
+        self.left.is_none()
+    }
+}
+
+/// Returns what the work of a plan over a memory leaves of `most`, or `None` where it is more. The work is the number of leaves, nulls,
+/// objects and lists that execution completes, also of those that a null below them makes null. A load that the memory doesn't have is none,
+/// so over a memory with more the work is at least this.
+///
+/// It ends at the first of them that is one too many: it takes time in proportion to `most` and to the plan, however long the answer is.
+///
+/// # Errors
+///
+/// Only when out of memory.
+pub fn work_left(
+    alloc: Global,
+    plan: &Plan,
+    memory: &Memory,
+    most: usize,
+) -> Result<Option<usize>, AllocError>
+    requires { length (plan_of plan.now).bindings.loaders
+        ≤ length memory.now.modes }
+    ensures { IfOk result
+        (IsLeft most (plan_work (plan_of plan.now) memory.now)) }
+{
+    let walk = Walk {
+        alloc,
+        plan,
+        memory,
+        most: most_groups_of(plan),
+    };
+    let limit = WorkLeft { left: Some(most) };
+    let walked = go_over(&walk, prepare_root(&walk)?, limit)?;
+    Ok(walked.out.left)
+}
