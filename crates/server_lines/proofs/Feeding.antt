@@ -1,6 +1,6 @@
 -- Steps of the loops over lines.
 use Rattle.std.proofs.Common.{subst, inl, inr, ne_eqb, cond, ◌≡◌, ◌≢◌, ◌⊎◌, ℕ, ◌+◌, ◌<◌, ◌≤◌, List, [], ◌∷◌, ◌++◌, length, take, refl, sym, ap, ◌∙◌, append_assoc, append-nil, arith, length-append}
-use Rattle.std.specs.Prelude.{Option, Some, None}
+use Rattle.std.specs.Prelude.{Option, Some, None, Ok, Err}
 use Rattle.std.specs.Io.KnownBytes.{Appends, Consumes, Keeps, IsAtEnd}
 use Rattle.std.specs.List.{All, flat_map}
 use Rattle.std.proofs.lemmas.List.{flat_map_more}
@@ -10,12 +10,13 @@ use Rattle.std.proofs.lemmas.List.Elements.{All-nil, All-cons, All-head, All-tai
 use Rattle.server_lines.specs.Answering.{AnsweringOf, AreAnswers, FrontOf, IsNext, IsStopped, MayStop, StopsOne, StopsNext, WithAnswer, WithAnswers}
 use Rattle.server_lines.specs.Lines.{HasNoLineFeed, IsLine, Splits, ended, line_feed, limit, input_lines, last_of, on_first}
 use Rattle.server_lines.specs.Output.{Sends, IsCut}
-use Rattle.server_lines.specs.Serving.{block_size, IsUnanswered, StartsLong, AtFault, Stopped, IsAnswered, Fails}
+use Rattle.server_lines.specs.Devices.{CountsOf, DevicesOf, HasFault, IsFlushed, IsReadOut, IsSteady, IsStuck}
+use Rattle.server_lines.specs.Serving.{block_size, IsUnanswered, StartsLong, AtFault, Stopped, IsAnswered, Fails, ReadsAll, StopsAt, CountsServing, Serves}
 use Rattle.server_lines.specs.declared.fault.ServeFault.{ServeFault}
 use Rattle.server_lines.specs.declared.fault.ServeFault.TheVariants as fault
 use Rattle.server_lines.specs.declared.fault.LineFault.{LineFault}
 use Rattle.server_lines.specs.declared.fault.LineFault.TheVariants as at
-use Rattle.server_lines.proofs.Known.{sends_kept, consumes_none, consumes_trans, sends_same, sends_trans, cut_sends, cut_same, same_text, appends_trans, cut_after}
+use Rattle.server_lines.proofs.Known.{sends_kept, consumes_none, consumes_trans, sends_same, sends_trans, cut_sends, cut_same, same_text, appends_trans, cut_after, steady_trans, fault_after}
 
 pub is_line : (held line : List ℕ) → IsLine held → HasNoLineFeed line → length (held ++ line) ≤ limit → IsLine (held ++ line)
 is_line held line h k short = record { one = All-append (λ b. b ≢ line_feed) held line h.one k; short = short }
@@ -142,6 +143,37 @@ count_given m more g h n blk was few e = grind (arith, common_steps, was, few, e
 
 abbrev pub IsNoWriteFault : ServeFault → Type 0
 IsNoWriteFault e = AtFault e (Unit {0}) (Unit {0}) ⊥ (λ _. Unit {0})
+
+-- what is counted of the writer at a fault that isn't its own
+abbrev Steady : DevicesOf → Type 0
+Steady d = IsSteady d.writer_old d.writer_new
+
+abbrev Stuck : DevicesOf → Type 0
+Stuck d = HasFault IsStuck d.writer_old d.writer_new
+
+at_other : (e : ServeFault) (P W Q V : Type 0) → (e ≡ fault.WriteFault → ⊥) → AtFault e P P W (λ _. P) → (P → Q) → AtFault e Q Q V (λ _. Q)
+at_other fault.LineTooLong P W Q V other h k = k h
+at_other fault.ReadFault P W Q V other h k = k h
+at_other fault.WriteFault P W Q V other h k = absurd (other refl)
+at_other fault.NoMemory P W Q V other h k = k h
+at_other fault.BadCount P W Q V other h k = absurd h
+at_other fault.TraceFault P W Q V other h k = k h
+
+steady_at : (e : ServeFault) (P W : Type 0) → (e ≡ fault.WriteFault → ⊥) → AtFault e P P W (λ _. P) → P
+steady_at fault.LineTooLong P W other h = h
+steady_at fault.ReadFault P W other h = h
+steady_at fault.WriteFault P W other h = absurd (other refl)
+steady_at fault.NoMemory P W other h = h
+steady_at fault.BadCount P W other h = absurd h
+steady_at fault.TraceFault P W other h = h
+
+any_read : (e : ServeFault) (P Q : Type 0) → AtFault e P Q (P ⊎ Q) (λ _. P) → P ⊎ Q
+any_read fault.LineTooLong P Q h = inl h
+any_read fault.ReadFault P Q h = inr h
+any_read fault.WriteFault P Q h = h
+any_read fault.NoMemory P Q h = inl h
+any_read fault.BadCount P Q h = absurd h
+any_read fault.TraceFault P Q h = inl h
 
 module _ {F : Type 0} (A : AnsweringOf F) where
   pub are_append : (f g h : F) (ls ms : List (List ℕ)) (x y : List ℕ) → AreAnswers A f ls x g → AreAnswers A g ms y h → AreAnswers A f (ls ++ ms) (x ++ y) h
@@ -325,11 +357,6 @@ module _ {F : Type 0} (A : AnsweringOf F) where
   closed_at fault.TraceFault f g a b c left p text Cut other h (inl (s, k)) = inl (s, (k.0, sends_close a b c p s.output k.1 h, k.2))
   closed_at fault.TraceFault f g a b c left p text Cut other h (inr k) = absurd k
 
-  pub closed : (e k : ServeFault) (f g : F) (a b c left : Option (List ℕ)) (p text : List ℕ) → e ≡ k → IsNoWriteFault k
-      → Appends b c p → Fails A f g text (Sends a [] b p) (IsCut a b) left e → Fails A f g text (Appends a c) (IsCut a c) left k
-  closed e k f g a b c left p text is other h fails =
-      closed_at k f g a b c left p text (IsCut a b) other h (subst (λ x. Fails A f g text (Sends a [] b p) (IsCut a b) left x) is fails)
-
   -- or didn't go out whole
   cut_at : (e : ServeFault) (f g : F) (a b c left : Option (List ℕ)) (p text : List ℕ) (Cut : List ℕ → Type 0) → IsNoWriteFault e
       → IsCut b c p → Fails A f g text (Sends a [] b p) Cut left e → Fails A f g text (Appends a c) (IsCut a c) left fault.WriteFault
@@ -344,20 +371,68 @@ module _ {F : Type 0} (A : AnsweringOf F) where
   cut_at fault.TraceFault f g a b c left p text Cut other h (inl (s, k)) = inl (s, (stopped_may at.TraceFault s.state g s.rest (IsAtEnd left) k.0, cut_close a b c p s.output k.1 h))
   cut_at fault.TraceFault f g a b c left p text Cut other h (inr k) = absurd k
 
-  pub cut_off : (e k : ServeFault) (f g : F) (a b c left : Option (List ℕ)) (p text : List ℕ) → e ≡ k → IsNoWriteFault k
-      → IsCut b c p → Fails A f g text (Sends a [] b p) (IsCut a b) left e → Fails A f g text (Appends a c) (IsCut a c) left fault.WriteFault
-  cut_off e k f g a b c left p text is other h fails =
-      cut_at k f g a b c left p text (IsCut a b) other h (subst (λ x. Fails A f g text (Sends a [] b p) (IsCut a b) left x) is fails)
-
   -- nothing more was written where the writer failed
   writer_failed : (f g : F) (left : Option (List ℕ)) (text : List ℕ) (Sent More Cut : List ℕ → Type 0) → Fails A f g text Sent Cut left fault.WriteFault → Fails A f g text More Cut left fault.WriteFault
   writer_failed f g left text Sent More Cut (inl h) = inl h
   writer_failed f g left text Sent More Cut (inr h) = inr h
 
-  pub stays_failed : (e : ServeFault) (f g : F) (a b left : Option (List ℕ)) (p text : List ℕ) → e ≡ fault.WriteFault
-      → Fails A f g text (Sends a [] b p) (IsCut a b) left e → Fails A f g text (Appends a b) (IsCut a b) left fault.WriteFault
-  stays_failed e f g a b left p text is fails =
-      writer_failed f g left text (Sends a [] b p) (Appends a b) (IsCut a b) (subst (λ x. Fails A f g text (Sends a [] b p) (IsCut a b) left x) is fails)
+  -- serving, once what was pending went out after a fault and the writer was flushed
+  pub closes : (f g : F) (d : DevicesOf) (p : List ℕ) (c : Option (List ℕ)) (w : CountsOf) (e : ServeFault) → (e ≡ fault.WriteFault → ⊥)
+      → StopsAt A f g d (Sends d.old [] d.new p) e → CountsServing {T = ℕ} d.reader_old d.reader_new d.writer_old d.writer_new (Err e)
+      → Appends d.new c p → IsFlushed w → IsSteady d.writer_new w → Serves A f g (record d { new = c; writer_new = w }) (Err e)
+  closes f g d p c w e other (text, went, fails) counts h flushed steady = record {
+    all = tt;
+    stopped = (text, went, closed_at e f g d.old d.new c d.rest p text (IsCut d.old d.new) (at_other e (Steady d) (Stuck d) (Unit {0}) ⊥ other counts.writer (λ _. tt)) h fails);
+    reader = counts.reader;
+    writer = at_other e (Steady d) (Stuck d) (IsSteady d.writer_old w) (HasFault IsStuck d.writer_old w) other counts.writer (λ s. steady_trans s steady);
+    flushed = at_other e (Steady d) (Stuck d) (IsFlushed w) (Unit {0}) other counts.writer (λ _. flushed);
+    bounded = tt;
+    grown = counts.grown;
+  }
+
+  -- or the writer failed there
+  pub cuts : (f g : F) (d : DevicesOf) (p : List ℕ) (c : Option (List ℕ)) (w : CountsOf) (e : ServeFault) → (e ≡ fault.WriteFault → ⊥)
+      → StopsAt A f g d (Sends d.old [] d.new p) e → CountsServing {T = ℕ} d.reader_old d.reader_new d.writer_old d.writer_new (Err e)
+      → IsCut d.new c p → HasFault IsStuck d.writer_new w → Serves A f g (record d { new = c; writer_new = w }) (Err fault.WriteFault)
+  cuts f g d p c w e other (text, went, fails) counts h due = record {
+    all = tt;
+    stopped = (text, went, cut_at e f g d.old d.new c d.rest p text (IsCut d.old d.new) (at_other e (Steady d) (Stuck d) (Unit {0}) ⊥ other counts.writer (λ _. tt)) h fails);
+    reader = any_read e (IsSteady d.reader_old d.reader_new) (HasFault IsReadOut d.reader_old d.reader_new) counts.reader;
+    writer = fault_after IsStuck (steady_at e (Steady d) (Stuck d) other counts.writer) due;
+    flushed = tt;
+    bounded = tt;
+    grown = counts.grown;
+  }
+
+  -- or at the end of the input
+  pub ends_cut : (f g : F) (d : DevicesOf) (p : List ℕ) (c : Option (List ℕ)) (w : CountsOf) (n : ℕ)
+      → ReadsAll A f g d (Sends d.old [] d.new p) n → CountsServing {T = ℕ} d.reader_old d.reader_new d.writer_old d.writer_new (Ok n)
+      → IsCut d.new c p → HasFault IsStuck d.writer_new w → Serves A f g (record d { new = c; writer_new = w }) (Err fault.WriteFault)
+  ends_cut f g d p c w n (text, went, end, was) counts h due = record {
+    all = tt;
+    stopped = (text, went, inr record { end = end; output = was.output; answers = was.answers; cut = cut_close d.old d.new c p was.output was.sent h });
+    reader = inl counts.reader;
+    writer = fault_after IsStuck counts.writer due;
+    flushed = tt;
+    bounded = tt;
+    grown = counts.grown;
+  }
+
+  -- or before that
+  pub stays_failed : (f g : F) (d : DevicesOf) (p : List ℕ) (e : ServeFault) → e ≡ fault.WriteFault
+      → StopsAt A f g d (Sends d.old [] d.new p) e → CountsServing {T = ℕ} d.reader_old d.reader_new d.writer_old d.writer_new (Err e) → Serves A f g d (Err fault.WriteFault)
+  stays_failed f g d p e is stops counts =
+      let s : StopsAt A f g d (Sends d.old [] d.new p) fault.WriteFault = subst (λ x. StopsAt A f g d (Sends d.old [] d.new p) x) is stops in
+      let k : CountsServing {T = ℕ} d.reader_old d.reader_new d.writer_old d.writer_new (Err fault.WriteFault) = subst (λ x. CountsServing {T = ℕ} d.reader_old d.reader_new d.writer_old d.writer_new (Err x)) is counts in
+      record {
+        all = tt;
+        stopped = (s.0, s.1, writer_failed f g d.rest s.0 (Sends d.old [] d.new p) (Appends d.old d.new) (IsCut d.old d.new) s.2);
+        reader = k.reader;
+        writer = k.writer;
+        flushed = tt;
+        bounded = tt;
+        grown = k.grown;
+      }
 
   pub fails_read : (f g : F) (a c left : Option (List ℕ)) (q : List ℕ) (lines : List (List ℕ)) (held x : List ℕ) → All IsLine lines → IsLine held → AreAnswers A f lines x g → Sends a [] c q x
       → Fails A f g (flat_map ended lines ++ held) (Sends a [] c q) (IsCut a c) left fault.ReadFault

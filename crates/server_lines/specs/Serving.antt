@@ -209,16 +209,6 @@ abbrev pub StopsBy : {F : Type 0}
     → F → F → Vec ℕ → DevicesOf → ServeFault → Type 0
 StopsBy m = StopsLater (by_calls m)
 
-abbrev pub ServesAllBy : {F : Type 0}
-    → Mut F (Bor (List ℕ) × Unit {0}) (Result (String Global) LineFault)
-    → F → F → DevicesOf → ℕ → Type 0
-ServesAllBy m = ServesAll (by_calls m)
-
-abbrev pub StopsServingBy : {F : Type 0}
-    → Mut F (Bor (List ℕ) × Unit {0}) (Result (String Global) LineFault)
-    → F → F → DevicesOf → ServeFault → Type 0
-StopsServingBy m = StopsServing (by_calls m)
-
 -- past a bound of the reader no input is served to its end
 abbrev pub IsBounded : CountsOf → Type 0
 IsBounded c = (c.calls ≤ bound) × (c.given < bound)

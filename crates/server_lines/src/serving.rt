@@ -4,7 +4,7 @@ ghost use Rattle.std.specs.Prelude.{◌≡◌, [], ◌++◌, ◌<◌, ◌≤◌,
 ghost use Rattle.std.specs.Io.KnownBytes.{ReadConsumes};
 ghost use Rattle.server_lines.specs.Answering.{by_calls};
 ghost use Rattle.server_lines.specs.Devices.{counts_of, device_of, devices, CountsFaults, CountsNone, CountsRead, IsReadOut};
-ghost use Rattle.server_lines.specs.Serving.{ServesBy, StopsBy, ServesAllBy, StopsServingBy, CountsServing, WriterFlushed, Serves};
+ghost use Rattle.server_lines.specs.Serving.{ServesBy, StopsBy, CountsServing, Serves};
 
 use crate::device::{CountedDevice, DeviceFault};
 use crate::fault::{LineFault, ServeFault};
@@ -51,11 +51,9 @@ fn serve_lines<F: FnMut(&[u8]) -> Result<String, LineFault>, R: Read, W: Write>(
     reader: &mut CountedDevice<R>,
     writer: &mut CountedDevice<W>,
     pending: &mut Vec<u8>,
-    block: &mut [u8],
 ) -> Result<u64, ServeFault>
     requires callable { F.IsAlwaysCallable answer.old }
     requires nothing { pending.old.items ≡ [] }
-    requires room { length block.old ≡ 65536 }
     ensures ok { IfOk result (ServesBy F.FnMut answer.old answer.new pending.new
         (devices R.remaining W.contents reader.old reader.new writer.old writer.new)) }
     ensures err { IfErr result (StopsBy F.FnMut answer.old answer.new pending.new
@@ -63,6 +61,11 @@ fn serve_lines<F: FnMut(&[u8]) -> Result<String, LineFault>, R: Read, W: Write>(
     ensures counts { CountsServing (counts_of reader.old) (counts_of reader.new)
         (counts_of writer.old) (counts_of writer.new) result }
 {
+    let mut room = match new_block(alloc) {
+        Ok(room) => room,
+        Err(_) => return Err(ServeFault::NoMemory),
+    };
+    let block = room.as_mut_slice();
     let mut held = Vec::new(alloc);
     let mut count = 0u64;
     loop {
@@ -84,77 +87,6 @@ fn serve_lines<F: FnMut(&[u8]) -> Result<String, LineFault>, R: Read, W: Write>(
             Ok(()) => {}
             Err(_) => return Err(ServeFault::WriteFault),
         }
-    }
-}
-
-// Reads to the end, and answers each line. What is pending may not be written yet.
-fn serve_blocks<F: FnMut(&[u8]) -> Result<String, LineFault>, R: Read, W: Write>(
-    alloc: Global,
-    answer: &mut F,
-    reader: &mut CountedDevice<R>,
-    writer: &mut CountedDevice<W>,
-    pending: &mut Vec<u8>,
-) -> Result<u64, ServeFault>
-    requires callable { F.IsAlwaysCallable answer.old }
-    requires nothing { pending.old.items ≡ [] }
-    ensures ok { IfOk result (ServesBy F.FnMut answer.old answer.new pending.new
-        (devices R.remaining W.contents reader.old reader.new writer.old writer.new)) }
-    ensures err { IfErr result (StopsBy F.FnMut answer.old answer.new pending.new
-        (devices R.remaining W.contents reader.old reader.new writer.old writer.new)) }
-    ensures counts { CountsServing (counts_of reader.old) (counts_of reader.new)
-        (counts_of writer.old) (counts_of writer.new) result }
-{
-    let mut block = match new_block(alloc) {
-        Ok(block) => block,
-        Err(_) => return Err(ServeFault::NoMemory),
-    };
-    match serve_lines(alloc, answer, reader, writer, pending, &mut block) {
-        Ok(count) => Ok(count),
-        Err(fault) => Err(fault),
-    }
-}
-
-// Reads to the end, answers each line, and writes and flushes what is pending.
-fn serve_all<F: FnMut(&[u8]) -> Result<String, LineFault>, R: Read, W: Write>(
-    alloc: Global,
-    answer: &mut F,
-    reader: &mut CountedDevice<R>,
-    writer: &mut CountedDevice<W>,
-) -> Result<u64, ServeFault>
-    requires { F.IsAlwaysCallable answer.old }
-    ensures ok { IfOk result (ServesAllBy F.FnMut answer.old answer.new
-        (devices R.remaining W.contents reader.old reader.new writer.old writer.new)) }
-    ensures err { IfErr result (StopsServingBy F.FnMut answer.old answer.new
-        (devices R.remaining W.contents reader.old reader.new writer.old writer.new)) }
-    ensures counts { CountsServing (counts_of reader.old) (counts_of reader.new)
-        (counts_of writer.old) (counts_of writer.new) result }
-    ensures flushed { WriterFlushed
-        (counts_of writer.new) result }
-{
-    let mut pending = Vec::new(alloc);
-    match serve_blocks(alloc, answer, reader, writer, &mut pending) {
-        Ok(count) => match close(writer, &mut pending) {
-            Ok(()) => Ok(count),
-            Err(_) => Err(ServeFault::WriteFault),
-        },
-        Err(ServeFault::WriteFault) => Err(ServeFault::WriteFault),
-        Err(ServeFault::LineTooLong) => match close(writer, &mut pending) {
-            Ok(()) => Err(ServeFault::LineTooLong),
-            Err(_) => Err(ServeFault::WriteFault),
-        },
-        Err(ServeFault::ReadFault) => match close(writer, &mut pending) {
-            Ok(()) => Err(ServeFault::ReadFault),
-            Err(_) => Err(ServeFault::WriteFault),
-        },
-        Err(ServeFault::NoMemory) => match close(writer, &mut pending) {
-            Ok(()) => Err(ServeFault::NoMemory),
-            Err(_) => Err(ServeFault::WriteFault),
-        },
-        Err(ServeFault::TraceFault) => match close(writer, &mut pending) {
-            Ok(()) => Err(ServeFault::TraceFault),
-            Err(_) => Err(ServeFault::WriteFault),
-        },
-        Err(ServeFault::BadCount) => unreachable!(),
     }
 }
 
@@ -184,5 +116,18 @@ pub fn serve<F: FnMut(&[u8]) -> Result<String, LineFault>, R: Read, W: Write>(
     ensures { Serves (by_calls F.FnMut) answer.old answer.new
         (devices R.remaining W.contents reader.old reader.new writer.old writer.new) result }
 {
-    serve_all(alloc, answer, reader, writer)
+    let mut pending = Vec::new(alloc);
+    match serve_lines(alloc, answer, reader, writer, &mut pending) {
+        Ok(count) => match close(writer, &mut pending) {
+            Ok(()) => Ok(count),
+            Err(_) => Err(ServeFault::WriteFault),
+        },
+        Err(fault) => match fault {
+            ServeFault::WriteFault => Err(ServeFault::WriteFault),
+            _ => match close(writer, &mut pending) {
+                Ok(()) => Err(fault),
+                Err(_) => Err(ServeFault::WriteFault),
+            },
+        },
+    }
 }
