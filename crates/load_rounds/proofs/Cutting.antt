@@ -27,8 +27,7 @@ first-some keys k m lt = rw (lt-ltb m k lt) refl
 
 pub made-more : (os more : List OrderOf) → more ≢ [] → made (os ++ more) ≡ 1
 made-more [] [] ne = absurd (ne refl)
-made-more [] (m ∷ ms) ne = refl
-made-more (o ∷ os) more ne = refl
+made-more os more ne = refl
 
 -- an order asks the same, whichever loader cut it
 pub asks-cut : (identity n : ℕ) (bs : List (List KeyOf)) → map asks (map (cut_of identity n) bs) ≡ map (order_of n) bs

@@ -1,5 +1,5 @@
 -- Rounds that follow one another, until nothing is missing.
-use Rattle.std.proofs.Common.{true, ◌≡◌, ◌≢◌, ◌<◌, ◌≤◌, ◌+◌, ℕ, List, [], ◌∷◌, ◌++◌, map, length, refl, ap, ◌∙◌, sym, arith, ◌⊎◌, length-append}
+use Rattle.std.proofs.Common.{true, ◌≡◌, ◌≢◌, ◌<◌, ◌≤◌, ◌+◌, ℕ, List, [], ◌∷◌, ◌++◌, map, length, refl, ap, ◌∙◌, sym, arith, length-append}
 use Rattle.std.proofs.Math.Path.{fun_ext}
 use Rattle.std.specs.Prelude.{slice_get}
 use Rattle.std.proofs.lemmas.List.{length-map}
@@ -21,12 +21,12 @@ use Rattle.execution.proofs.RoundLaws.{rounds-chain, rounds-sparing, rounds-more
 use Rattle.execution.proofs.Wanting.{wanting-front, wanting-firsts}
 use Rattle.load_rounds.specs.Sessions.{StateOf, rules_of, session_modes, after_step, after_steps}
 use Rattle.load_rounds.specs.Rounds.{AreWanted}
-use Rattle.load_rounds.specs.Calls.{RoundRan, RoundLost}
-use Rattle.load_rounds.specs.Headline.{asked_steps, MakesRounds, Headline, StopsAnswering}
+use Rattle.load_rounds.specs.Calls.{RoundRan}
+use Rattle.load_rounds.specs.Headline.{asked_steps, MakesRounds, Headline}
 use Rattle.execution.specs.Executes.{IsTextOf}
 use Rattle.load_rounds.proofs.Numbering.{source-at}
 pub use Rattle.load_rounds.proofs.Stepping.{SameSources}
-use Rattle.load_rounds.proofs.Stepping.{made-recorded, end-recorded}
+use Rattle.load_rounds.proofs.Stepping.{made-recorded}
 use Rattle.load_rounds.proofs.Stepping.{ran-rules}
 use Rattle.load_rounds.proofs.Lacking.{length-wanting}
 
@@ -47,13 +47,12 @@ wants-are modes p M wants is m lt =
 module _ {S : Type 0} (may : S → List KeyOf → AnswerOf → Type 0) where
   pub replies-over : (old cur : List (LoaderOf S)) → SameSources old cur → (os : List OrderOf) (rs : List ReplyOf) → AreReplies (may_at may cur) os rs → AreReplies (may_at may old) os rs
   replies-over old cur same [] [] h = tt
-  replies-over old cur same [] (r ∷ rs) h = absurd h
-  replies-over old cur same (o ∷ os) [] h = absurd h
   replies-over old cur same (o ∷ os) (r ∷ rs) h =
       let is = h.0 in
       let at = same o.loader is.may_be.0 is.may_be.1 in
       let can : may at.0.source o.keys is.answer = rw (← at.2) is.may_be.2 in
       (record { loader = is.loader; keys = is.keys; answer = is.answer; may_be = (at.0, at.1, can); outcomes = is.outcomes }, replies-over old cur same os rs h.1)
+  replies-over old cur same os rs h = absurd h
 
   -- a state after `rounds` rounds
   pub record InRounds (old cur : StateOf S) (p : Program) (rounds : ℕ) : Type 0 where
@@ -112,19 +111,6 @@ module _ {S : Type 0} (may : S → List KeyOf → AnswerOf → Type 0) where
 
   pub in-loaders : (old cur : StateOf S) (p : Program) (rounds : ℕ) → InRounds old cur p rounds → length cur.loaders ≡ length old.loaders
   in-loaders old cur p rounds is = sym (length-map cur.loaders rule_of) ∙ ap length is.rules ∙ length-map old.loaders rule_of
-
-  -- memory was wanted: the rounds so far stay, and perhaps one more is lost
-  pub in-stops : (old cur new : StateOf S) (p : Program) (rounds : ℕ) → InRounds old cur p rounds → (new ≡ cur) ⊎ RoundLost cur new (front (session_modes cur) p cur.memory) → StopsAnswering may old new p
-  in-stops old cur new p rounds is end =
-      let same : session_modes cur ≡ session_modes old = ap modes_of is.rules in
-      let last = rw (ap (λ ms. front ms p cur.memory) same) at end in
-      record {
-        log = is.log;
-        mid = cur;
-        made = is.made;
-        end = last;
-        recorded = end-recorded old cur new (front (session_modes old) p cur.memory) (made-recorded may old cur p is.log is.made) last;
-      }
 
   -- nothing is missing
   pub in-all : (old cur : StateOf S) (p : Program) (rounds loaders : ℕ) (text_of : AnsweredOf → List ℕ) (text : List ℕ) → InRounds old cur p rounds → AreLimited (rules_of old) → HasLoaders loaders p → loaders ≤ length old.loaders

@@ -117,13 +117,10 @@ module _ {S : Type 0} where
   logged-at n (suc i) m stored round keys (l ∷ ls) e = logged-at (suc n) i m stored round keys ls (omega (arith, e))
 
   step-log : (s : StateOf S) (n : ℕ) (step : Step) → GoesOn step → log_of (after_step s step) n ≡ log_of s n ++ step_entries s n step
-  step-log s n Forgot on = sym (append-nil (log_of s n))
   step-log s n (AskedLoads loads replies) on = logged-at 0 n n true (s.rounds + 1) (λ m. keys_for m loads) s.loaders (omega arith)
   step-log s n (Lost loads) on = logged-at 0 n n false (s.rounds + 1) (λ m. keys_for m loads) s.loaders (omega arith)
-  step-log s n (Primed pair) on = sym (append-nil (log_of s n))
-  step-log s n (Cleared cell) on = sym (append-nil (log_of s n))
-  step-log s n (ClearedAll loader) on = sym (append-nil (log_of s n))
   step-log s n Restarted on = absurd on
+  step-log s n step on = sym (append-nil (log_of s n))
 
   steps-log : (s : StateOf S) (n : ℕ) (steps : List Step) → AllGoOn steps → log_of (after_steps s steps) n ≡ log_of s n ++ all_entries s n steps
   steps-log s n [] on = sym (append-nil (log_of s n))

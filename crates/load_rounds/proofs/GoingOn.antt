@@ -1,5 +1,5 @@
 -- Executions that go on one after another over one memory.
-use Rattle.std.proofs.Common.{◌≡◌, ◌≢◌, ◌||◌, ℕ, zero, suc, ◌<◌, ◌≤◌, Bool, true, false, List, [], ◌∷◌, ◌++◌, map, take, length, get_or, Option, Some, None, is_none, is_some, refl, ap, subst, ◌∙◌, sym, arith, inl, inr, append_assoc}
+use Rattle.std.proofs.Common.{◌≡◌, ◌≢◌, ◌||◌, ℕ, zero, suc, ◌<◌, ◌≤◌, Bool, true, false, List, [], ◌∷◌, ◌++◌, map, take, length, get_or, Option, Some, None, is_none, is_some, refl, ap, subst, ◌∙◌, sym, arith, inl, inr, append_assoc, append-nil}
 use Rattle.std.proofs.lemmas.List.Elements.{All-head, All-tail}
 use Rattle.std.specs.List.{list_any}
 use Rattle.std.proofs.lemmas.List.{length-map}
@@ -24,6 +24,12 @@ use Rattle.load_rounds.specs.Executions.{PartOf, IsDone, TellsAt, FindsAll, fron
 use Rattle.load_rounds.specs.declared.answer.Answer.{Answer}
 use Rattle.load_rounds.proofs.Following.{nothing-modes, rules-size, wants-are}
 use Rattle.load_rounds.proofs.Lacking.{missing-append, wanting-append, length-wanting}
+
+-- of several executions one changes, and their plans stay
+pub plans-set : {P E : Type 0} (n : ℕ) (xs : List (PartOf P E)) (d y : PartOf P E) → n < length xs → d ≡ get_or xs n d → y.plan ≡ d.plan → plans_in (slice_set xs n y) ≡ plans_in xs
+plans-set {P} {E} n [] d y lt at same = absurd (omega (arith, lt))
+plans-set {P} {E} zero (x ∷ xs) d y lt at same = ap (λ p. p ∷ plans_in xs) (same ∙ ap (λ (z : PartOf P E). z.plan) at)
+plans-set {P} {E} (suc n) (x ∷ xs) d y lt at same = ap (λ ps. x.plan ∷ ps) (plans-set n xs d y (omega (arith, lt)) at same)
 
 -- several programs as one
 all-needs-of : (n : ℕ) (rs : List RequestOf) (R : Reader) → all_needs (items_from n rs) R ≡ needs_of_all (map (λ r. r.program) rs) R
@@ -76,85 +82,64 @@ module _ {P E : Type 0} (program : P → Program) (text_of : P → AnsweredOf �
 
   pub all-go-on : (n rounds : ℕ) (m : MemoryOf) (xs ys : List (PartOf P E)) → length ys ≤ n → FirstGoOn n rounds m xs ys → GoOn program text_of loaders fits rounds m xs ys
   all-go-on n rounds m [] [] le h = tt
-  all-go-on n rounds m [] (y ∷ ys) le h = absurd h
-  all-go-on n rounds m (x ∷ xs) [] le h = absurd h
   all-go-on zero rounds m (x ∷ xs) (y ∷ ys) le h = absurd (omega (arith, le))
   all-go-on (suc n) rounds m (x ∷ xs) (y ∷ ys) le h = (h.0, all-go-on n rounds m xs ys (omega (arith, le)) h.1)
+  all-go-on n rounds m xs ys le h = absurd h
 
   pub go-on-length : (n rounds : ℕ) (m : MemoryOf) (xs ys : List (PartOf P E)) → FirstGoOn n rounds m xs ys → length ys ≡ length xs
   go-on-length n rounds m [] [] h = refl
-  go-on-length n rounds m [] (y ∷ ys) h = absurd h
-  go-on-length n rounds m (x ∷ xs) [] h = absurd h
   go-on-length zero rounds m (x ∷ xs) (y ∷ ys) h = ap suc (go-on-length zero rounds m xs ys h.1)
   go-on-length (suc n) rounds m (x ∷ xs) (y ∷ ys) h = ap suc (go-on-length n rounds m xs ys h.1)
+  go-on-length n rounds m xs ys h = absurd h
 
   pub first-plans : (n rounds : ℕ) (m : MemoryOf) (xs ys : List (PartOf P E)) → FirstGoOn n rounds m xs ys → plans_in ys ≡ plans_in xs
   first-plans n rounds m [] [] h = refl
-  first-plans n rounds m [] (y ∷ ys) h = absurd h
-  first-plans n rounds m (x ∷ xs) [] h = absurd h
   first-plans zero rounds m (x ∷ xs) (y ∷ ys) h = rw (h.0, first-plans zero rounds m xs ys h.1) refl
   first-plans (suc n) rounds m (x ∷ xs) (y ∷ ys) h = rw (h.0.same, first-plans n rounds m xs ys h.1) refl
+  first-plans n rounds m xs ys h = absurd h
 
   -- the next of them is as it was
   pub next-fits : (n rounds : ℕ) (m : MemoryOf) (xs ys : List (PartOf P E)) (d : PartOf P E) → n < length ys → d ≡ get_or ys n d → FirstGoOn n rounds m xs ys → FitParts program text_of loaders fits xs m → FitsPart program text_of loaders fits d.plan d.progress d.report m
   next-fits n rounds m [] [] d lt at h fit = absurd (omega (arith, lt))
-  next-fits n rounds m [] (y ∷ ys) d lt at h fit = absurd h
-  next-fits n rounds m (x ∷ xs) [] d lt at h fit = absurd h
   next-fits zero rounds m (x ∷ xs) (y ∷ ys) d lt at h fit = subst (λ (z : PartOf P E). FitsPart program text_of loaders fits z.plan z.progress z.report m) (h.0 ∙ sym at) fit.0
   next-fits (suc n) rounds m (x ∷ xs) (y ∷ ys) d lt at h fit = next-fits n rounds m xs ys d (omega (arith, lt)) at h.1 fit.1
+  next-fits n rounds m xs ys d lt at h fit = absurd h
 
   pub next-enough : (n rounds count : ℕ) (m : MemoryOf) (xs ys : List (PartOf P E)) (d : PartOf P E) → n < length ys → d ≡ get_or ys n d → FirstGoOn n rounds m xs ys → All (λ plan. loaders plan ≤ count) (plans_in xs) → loaders d.plan ≤ count
   next-enough n rounds count m [] [] d lt at h all = absurd (omega (arith, lt))
-  next-enough n rounds count m [] (y ∷ ys) d lt at h all = absurd h
-  next-enough n rounds count m (x ∷ xs) [] d lt at h all = absurd h
   next-enough zero rounds count m (x ∷ xs) (y ∷ ys) d lt at h all = subst (λ (z : PartOf P E). loaders z.plan ≤ count) (h.0 ∙ sym at) (All-head (λ plan. loaders plan ≤ count) x.plan (plans_in xs) all)
   next-enough (suc n) rounds count m (x ∷ xs) (y ∷ ys) d lt at h all = next-enough n rounds count m xs ys d (omega (arith, lt)) at h.1 (All-tail (λ plan. loaders plan ≤ count) x.plan (plans_in xs) all)
+  next-enough n rounds count m xs ys d lt at h all = absurd h
 
   -- one more
   pub one-goes-on : (n next rounds : ℕ) (m : MemoryOf) (xs ys : List (PartOf P E)) (d y : PartOf P E) → next ≡ suc n → n < length ys → d ≡ get_or ys n d → FirstGoOn n rounds m xs ys → GoesOn program text_of loaders fits rounds m d y → FirstGoOn next rounds m xs (slice_set ys n y)
   one-goes-on n next rounds m [] [] d y is lt at h goes = absurd (omega (arith, lt))
-  one-goes-on n next rounds m [] (z ∷ ys) d y is lt at h goes = absurd h
-  one-goes-on n next rounds m (x ∷ xs) [] d y is lt at h goes = absurd h
   one-goes-on zero next rounds m (x ∷ xs) (z ∷ ys) d y is lt at h goes = rw is (subst (λ (w : PartOf P E). GoesOn program text_of loaders fits rounds m w y) (at ∙ sym h.0) goes, h.1)
   one-goes-on (suc n) next rounds m (x ∷ xs) (z ∷ ys) d y is lt at h goes = rw is (h.0, one-goes-on n (suc n) rounds m xs ys d y refl (omega (arith, lt)) at h.1 goes)
+  one-goes-on n next rounds m xs ys d y is lt at h goes = absurd h
 
   -- says what is missing for one more
   pub one-front : (n next rounds : ℕ) (m : MemoryOf) (xs ys : List (PartOf P E)) (d : PartOf P E) → next ≡ suc n → n < length ys → d ≡ get_or ys n d → FirstGoOn n rounds m xs ys
       → fronts program m (take next (plans_in xs)) ≡ fronts program m (take n (plans_in xs)) ++ front m.modes (program d.plan) (look m.pairs)
   one-front n next rounds m [] [] d is lt at h = absurd (omega (arith, lt))
-  one-front n next rounds m [] (z ∷ ys) d is lt at h = absurd h
-  one-front n next rounds m (x ∷ xs) [] d is lt at h = absurd h
   one-front zero next rounds m (x ∷ xs) (z ∷ ys) d is lt at h =
       let same : x ≡ d = h.0 ∙ sym at in
-      rw is (append-none (front m.modes (program x.plan) (look m.pairs)) ∙ ap (λ (w : PartOf P E). front m.modes (program w.plan) (look m.pairs)) same)
-    where
-      append-none : (ls : List Load) → ls ++ [] ≡ ls
-      append-none [] = refl
-      append-none (l ∷ ls) = ap (λ ms. l ∷ ms) (append-none ls)
+      rw is (append-nil (front m.modes (program x.plan) (look m.pairs)) ∙ ap (λ (w : PartOf P E). front m.modes (program w.plan) (look m.pairs)) same)
   one-front (suc n) next rounds m (x ∷ xs) (z ∷ ys) d is lt at h =
       let own : List Load = front m.modes (program x.plan) (look m.pairs) in
       rw is (ap (λ ls. own ++ ls) (one-front n (suc n) rounds m xs ys d refl (omega (arith, lt)) at h.1) ∙ sym (append_assoc own (fronts program m (take n (plans_in xs))) (front m.modes (program d.plan) (look m.pairs))))
-
-  pub take-whole : (n rounds : ℕ) (m : MemoryOf) (xs ys : List (PartOf P E)) → length ys ≤ n → FirstGoOn n rounds m xs ys → take n (plans_in xs) ≡ plans_in xs
-  take-whole zero rounds m [] [] le h = refl
-  take-whole (suc n) rounds m [] [] le h = refl
-  take-whole n rounds m [] (y ∷ ys) le h = absurd h
-  take-whole n rounds m (x ∷ xs) [] le h = absurd h
-  take-whole zero rounds m (x ∷ xs) (y ∷ ys) le h = absurd (omega (arith, le))
-  take-whole (suc n) rounds m (x ∷ xs) (y ∷ ys) le h = ap (λ ps. x.plan ∷ ps) (take-whole n rounds m xs ys (omega (arith, le)) h.1)
+  one-front n next rounds m xs ys d is lt at h = absurd h
 
   -- then they fit what is known later
   pub gone-fit : (rounds : ℕ) (m later : MemoryOf) (xs ys : List (PartOf P E)) → GoOn program text_of loaders fits rounds m xs ys → GrowsTo m later → FitParts program text_of loaders fits ys later
   gone-fit rounds m later [] [] h grown = tt
-  gone-fit rounds m later [] (y ∷ ys) h grown = absurd h
-  gone-fit rounds m later (x ∷ xs) [] h grown = absurd h
   gone-fit rounds m later (x ∷ xs) (y ∷ ys) h grown = (h.0.fitting later grown, gone-fit rounds m later xs ys h.1 grown)
+  gone-fit rounds m later xs ys h grown = absurd h
 
   pub gone-plans : (rounds : ℕ) (m : MemoryOf) (xs ys : List (PartOf P E)) → GoOn program text_of loaders fits rounds m xs ys → plans_in ys ≡ plans_in xs
   gone-plans rounds m [] [] h = refl
-  gone-plans rounds m [] (y ∷ ys) h = absurd h
-  gone-plans rounds m (x ∷ xs) [] h = absurd h
   gone-plans rounds m (x ∷ xs) (y ∷ ys) h = rw (h.0.same, gone-plans rounds m xs ys h.1) refl
+  gone-plans rounds m xs ys h = absurd h
 
   -- each needs loaders below a number
   pub gone-within : (n rounds count : ℕ) (m : MemoryOf) (xs ys : List (PartOf P E)) → GoOn program text_of loaders fits rounds m xs ys → All (λ plan. loaders plan ≤ count) (plans_in xs) → HasLoaders count (Under ListOf (items_from n (requests program text_of (plans_in xs))))
@@ -182,12 +167,11 @@ module _ {P E : Type 0} (program : P → Program) (text_of : P → AnsweredOf �
 
   gone-closed : (n rounds : ℕ) (m : MemoryOf) (xs ys : List (PartOf P E)) → GoOn program text_of loaders fits rounds m xs ys → some_unreported ys ≡ false → any_open (trees (items_from n (requests program text_of (plans_in xs))) (read m.modes (look m.pairs))) ≡ false
   gone-closed n rounds m [] [] h e = refl
-  gone-closed n rounds m [] (y ∷ ys) h e = absurd h
-  gone-closed n rounds m (x ∷ xs) [] h e = absurd h
   gone-closed n rounds m (x ∷ xs) (y ∷ ys) h e =
       let parts = or-left (is_none y.report) (some_unreported ys) e in
       let own : is_open (tree (program x.plan) (read m.modes (look m.pairs))) ≡ false = (front-open m.modes (program x.plan) (look m.pairs)).0 (report-none rounds (front m.modes (program x.plan) (look m.pairs)) x.report y.report h.0.report parts.0) in
       rw (own, gone-closed (suc n) rounds m xs ys h.1 parts.1) refl
+  gone-closed n rounds m xs ys h e = absurd h
 
   pub gone-lacks-none : (rounds : ℕ) (m : MemoryOf) (xs ys : List (PartOf P E)) → GoOn program text_of loaders fits rounds m xs ys → some_unreported ys ≡ false → front m.modes (together (requests program text_of (plans_in xs))) (look m.pairs) ≡ []
   gone-lacks-none rounds m xs ys h e = (front-open m.modes (together (requests program text_of (plans_in xs))) (look m.pairs)).1 (gone-closed 0 rounds m xs ys h e)
@@ -196,14 +180,13 @@ module _ {P E : Type 0} (program : P → Program) (text_of : P → AnsweredOf �
   pub front-below : (n rounds : ℕ) (m : MemoryOf) (xs ys : List (PartOf P E)) → GoOn program text_of loaders fits rounds m xs ys → some_unreported ys ≡ true
       → (p : Program) × IsBelow p (items_from n (requests program text_of (plans_in xs))) × (front m.modes p (look m.pairs) ≢ [])
   front-below n rounds m [] [] h e = absurd (cc e)
-  front-below n rounds m [] (y ∷ ys) h e = absurd h
-  front-below n rounds m (x ∷ xs) [] h e = absurd h
   front-below n rounds m (x ∷ xs) (y ∷ ys) h e = go (is_none y.report) refl e (front-below (suc n) rounds m xs ys h.1)
     where
       go : (b : Bool) → is_none y.report ≡ b → (b || some_unreported ys) ≡ true → (some_unreported ys ≡ true → (p : Program) × IsBelow p (items_from (suc n) (requests program text_of (plans_in xs))) × (front m.modes p (look m.pairs) ≢ []))
           → (p : Program) × IsBelow p (items_from n (requests program text_of (plans_in (x ∷ xs)))) × (front m.modes p (look m.pairs) ≢ [])
       go true is e later = (program x.plan, inl refl, report-some rounds (front m.modes (program x.plan) (look m.pairs)) x.report y.report h.0.report is)
       go false is e later = let rest = later e in (rest.0, inr rest.1, rest.2)
+  front-below n rounds m xs ys h e = absurd h
 
   pub gone-lacks : (rounds : ℕ) (m : MemoryOf) (xs ys : List (PartOf P E)) → GoOn program text_of loaders fits rounds m xs ys → some_unreported ys ≡ true → front m.modes (together (requests program text_of (plans_in xs))) (look m.pairs) ≢ []
   gone-lacks rounds m xs ys h e =
@@ -282,10 +265,6 @@ found-wants program text_of m s plans none wants modes pairs nothing are lacks =
       ap length all ∙ length-wanting (map nothing_wanted (session_modes s)) loads ∙ length-map (session_modes s) nothing_wanted ∙ rules-size s,
       wants-are (session_modes s) p s.memory wants all,
     )
-
-pub found-none : {S : Type 0} (p : Program) (s : StateOf S) (wants : Option (List WantedOf)) → ((w : List WantedOf) → wants ≡ Some w → ⊥) → FindsAll p s wants → front (session_modes s) p s.memory ≡ []
-found-none p s None other found = found
-found-none p s (Some w) other found = absurd (other w refl)
 
 -- one more has begun, of which nothing is done
 module _ {P E : Type 0} (program : P → Program) (text_of : P → AnsweredOf → List ℕ) (loaders : P → ℕ) (fits : P → E → MemoryOf → Type 0) where

@@ -1,17 +1,13 @@
 -- Lemmas on what a session knows grows by each round, and stays when a round is asked.
 use Rattle.std.proofs.Common.{◌≡◌, List, refl, ap, ◌∙◌}
-use Rattle.load_memory.specs.Keys.{KeyOf}
 use Rattle.load_memory.specs.Pairs.{MemoryOf, look}
 use Rattle.load_memory.specs.Replies.{ReplyOf}
-use Rattle.load_queue.specs.Answers.{AnswerOf}
 use Rattle.execution.specs.Loads.{Load, Memory, Extends}
 use Rattle.execution.specs.Rounds.{RuleOf, modes_of, after_round}
 use Rattle.execution.specs.Sessions.{Lost}
 use Rattle.execution.specs.Executes.{GrowsTo}
 use Rattle.load_rounds.specs.Sessions.{SessionOf, StateOf, state_of, rules_of, session_modes, memory_of, after_step}
-use Rattle.load_rounds.specs.Calls.{RoundRan}
 use Rattle.load_rounds.specs.ByHand.{received}
-use Rattle.load_rounds.proofs.Stepping.{ran-rules}
 use Rattle.load_rounds.proofs.Runs.{marked-rules, lost-rules}
 
 pub grows-trans : (l m n : MemoryOf) → GrowsTo l m → GrowsTo m n → GrowsTo l n
@@ -35,10 +31,6 @@ module _ {S : Type 0} where
   pub lost-grows : (old new : SessionOf S) (loads : List Load) → state_of new ≡ after_step (state_of old) (Lost loads) → GrowsTo (memory_of old) (memory_of new)
   lost-grows old new loads is =
       grows old new (look old.pairs) (ap rules_of is ∙ lost-rules (state_of old) loads) (ap (λ (s : StateOf S). s.memory) is) (λ loader key outcome there. there)
-
-  pub ran-grows : (may : S → List KeyOf → AnswerOf → Type 0) (old new : SessionOf S) (loads : List Load) → RoundRan may (state_of old) (state_of new) loads → GrowsTo (memory_of old) (memory_of new)
-  ran-grows may old new loads ran =
-      grows old new (after_round (rules_of (state_of old)) (look old.pairs) ran.replies) (ran-rules may (state_of old) (state_of new) loads ran) (ap (λ (s : StateOf S). s.memory) ran.after) (round-extends (rules_of (state_of old)) (look old.pairs) ran.replies)
 
   pub received-grows : (old new : SessionOf S) (replies : List ReplyOf) → state_of new ≡ received (state_of old) replies → GrowsTo (memory_of old) (memory_of new)
   received-grows old new replies is =

@@ -48,11 +48,7 @@ asking-append : (xs ys : List Step) → AreAsking xs → AreAsking ys → AreAsk
 asking-append [] ys h k = k
 asking-append (AskedLoads loads replies ∷ xs) ys h k = asking-append xs ys h k
 asking-append (Lost loads ∷ xs) ys h k = asking-append xs ys h k
-asking-append (Forgot ∷ xs) ys h k = absurd h
-asking-append (Primed pair ∷ xs) ys h k = absurd h
-asking-append (Cleared cell ∷ xs) ys h k = absurd h
-asking-append (ClearedAll loader ∷ xs) ys h k = absurd h
-asking-append (Restarted ∷ xs) ys h k = absurd h
+asking-append xs ys h k = absurd h
 
 -- loads of the first loaders are missing where all are
 module _ {X : Type 0} where
@@ -120,13 +116,9 @@ module _ {S : Type 0} where
   module _ (may : S → List KeyOf → AnswerOf → Type 0) where
     -- says what may be over the loaders as they are may be over them as they were
     over-step : (old cur : List (LoaderOf S)) → SameSources old cur → (rules : List RuleOf) (M : Memory) (step : Step) → IsStep (may_at may cur) rules M step → IsStep (may_at may old) rules M step
-    over-step old cur from rules M Forgot h = tt
     over-step old cur from rules M (AskedLoads loads replies) h = (h.0, replies-over may old cur from (round_orders rules loads) replies h.1)
     over-step old cur from rules M (Lost loads) h = h
-    over-step old cur from rules M (Primed pair) h = tt
-    over-step old cur from rules M (Cleared cell) h = tt
-    over-step old cur from rules M (ClearedAll loader) h = tt
-    over-step old cur from rules M Restarted h = tt
+    over-step old cur from rules M step h = tt
 
     over-steps : (old cur : List (LoaderOf S)) → SameSources old cur → (rules : List RuleOf) (M : Memory) (steps : List Step) → AreSteps (may_at may cur) rules M steps → AreSteps (may_at may old) rules M steps
     over-steps old cur from rules M [] h = tt

@@ -54,8 +54,6 @@ module _ (item : ℕ → KeyOf → ItemOf) where
   replies-known : (modes : List KeyMode) (os : List OrderOf) (rs : List ReplyOf) (loader : ℕ) (key : KeyOf) (o : OutcomeOf) → AreReplies (key_by_key item) os rs → look (pairs_of modes rs) loader key ≡ Some o
       → (k : KeyOf) × (folded (mode_at modes loader) k ≡ key) × (o ≡ known (item loader k))
   replies-known modes [] [] loader key o h e = absurd (cc e)
-  replies-known modes [] (r ∷ rs) loader key o h e = absurd h
-  replies-known modes (w ∷ ws) [] loader key o h e = absurd h
   replies-known modes (w ∷ ws) (r ∷ rs) loader key o h e = elim (either-look loader key o (reply_pairs (mode_at modes r.loader) r.loader r.keys r.outcomes) (pairs_of modes rs) e) [
     | inl a ↦
         let is : r.outcomes ≡ known_items r.loader r.keys = rw (h.0.loader, h.0.keys) (reply-known w r h.0) in
@@ -64,6 +62,7 @@ module _ (item : ℕ → KeyOf → ItemOf) where
         (t.1, ap (λ n. folded (mode_at modes n) t.1) (sym t.0) ∙ t.2, t.3 ∙ ap (λ n. known (item n t.1)) t.0)
     | inr b ↦ replies-known modes ws rs loader key o h.1 b
   ]
+  replies-known modes os rs loader key o h e = absurd h
 
   module _ (rules : List RuleOf) (p : Program) (alike : RespectsCacheKeys (modes_of rules) item) where
     round-held : (M : Memory) (os : List OrderOf) (round : List ReplyOf) → HoldsItems (modes_of rules) item M → AreReplies (key_by_key item) os round → HoldsItems (modes_of rules) item (after_round rules M round)

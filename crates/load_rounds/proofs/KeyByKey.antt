@@ -27,10 +27,9 @@ use Rattle.load_rounds.specs.KeyByKey.{CompareAlike, item_of_loader, item_over}
 module _ (may other : MayAnswer) (weaker : (loader : ℕ) (keys : List KeyOf) (answer : AnswerOf) → may loader keys answer → other loader keys answer) where
   replies-weaker : (os : List OrderOf) (rs : List ReplyOf) → AreReplies may os rs → AreReplies other os rs
   replies-weaker [] [] h = tt
-  replies-weaker [] (r ∷ rs) h = absurd h
-  replies-weaker (o ∷ os) [] h = absurd h
   replies-weaker (o ∷ os) (r ∷ rs) h =
       (record { loader = h.0.loader; keys = h.0.keys; answer = h.0.answer; may_be = weaker o.loader o.keys h.0.answer h.0.may_be; outcomes = h.0.outcomes }, replies-weaker os rs h.1)
+  replies-weaker os rs h = absurd h
 
   pub rounds-weaker : (rules : List RuleOf) (p : Program) (M : Memory) (rounds : List (List ReplyOf)) (end : Memory) → AreRounds may rules p M rounds end → AreRounds other rules p M rounds end
   rounds-weaker rules p M [] end h = h

@@ -1,5 +1,5 @@
 -- Keys that a memory lacks, one after another.
-use Rattle.std.proofs.Common.{◌≡◌, ℕ, zero, suc, Bool, true, false, List, [], ◌∷◌, ◌++◌, map, length, Option, Some, None, is_some, is_none, IsSome, Bor, refl, ap, ◌∙◌, sym}
+use Rattle.std.proofs.Common.{◌≡◌, ℕ, suc, Bool, true, false, List, [], ◌∷◌, ◌++◌, map, length, Option, Some, None, is_some, is_none, IsSome, Bor, refl, ap, ◌∙◌, sym}
 use Rattle.std.proofs.lemmas.List.{map-append, append-nil}
 use Rattle.std.specs.Prelude.{if◌then◌else◌, option_map, option_copied, not}
 use Rattle.load_memory.specs.Keys.{KeyOf}
@@ -22,9 +22,8 @@ wanting-append w [] ys = refl
 wanting-append w (x ∷ xs) ys = wanting-append (with_wanted w x.loader x.key) xs ys
 
 length-with : (w : List WantedOf) (loader : ℕ) (key : KeyOf) → length (with_wanted w loader key) ≡ length w
-length-with [] loader key = refl
-length-with (w ∷ ws) zero key = refl
 length-with (w ∷ ws) (suc loader) key = ap suc (length-with ws loader key)
+length-with w loader key = refl
 
 pub length-wanting : (w : List WantedOf) (ls : List Load) → length (wanting w ls) ≡ length w
 length-wanting w [] = refl

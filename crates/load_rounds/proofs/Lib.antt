@@ -19,5 +19,4 @@ pub mod Stages
 pub mod Sharing
 pub mod States
 pub mod Stepping
-pub mod Taking
 pub mod Twice

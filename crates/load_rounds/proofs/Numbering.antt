@@ -15,6 +15,7 @@ use Rattle.execution.specs.Front.{keys_for}
 use Rattle.execution.specs.Rounds.{RuleOf, rule_of, orders_from, may_at, AreReplies}
 use Rattle.load_rounds.specs.Sessions.{entry, logged, logged_from, made, of_first, AreNumbered}
 use Rattle.load_rounds.specs.Rounds.{orders_by, first_keys, Enters}
+use Rattle.load_rounds.proofs.KeyByKey.{some-same}
 
 later : (n m : ℕ) → n ≤ m → (log : List AskedOf) → All (λ (a : AskedOf). a.round ≤ n) log → All (λ (a : AskedOf). a.round ≤ m) log
 later n m le [] h = All-nil (λ (a : AskedOf). a.round ≤ m)
@@ -92,11 +93,9 @@ keys-first n m (l ∷ ls) = kept (nat_lt l.loader n) refl (l.loader == m) refl (
   kept true e true f true h rest = rw f (ap (λ ks. l.key ∷ ks) (rw h at rest))
   kept true e true f false h rest = absurd (cc (sym e ∙ ap (λ i. nat_lt i n) (eqb-true l.loader m f) ∙ h))
   kept false e true f true h rest = absurd (cc (sym e ∙ ap (λ i. nat_lt i n) (eqb-true l.loader m f) ∙ h))
-  kept false e true f false h rest = rw h at rest
   kept true e false f true h rest = rw f (rw h at rest)
   kept true e false f false h rest = rw f (rw h at rest)
-  kept false e false f true h rest = rw h at rest
-  kept false e false f false h rest = rw h at rest
+  kept a e b f c h rest = rw h at rest
 
 -- each order is of one of the loaders
 own-orders : (n most : ℕ) (bs : List (List KeyOf)) → n < most → All (λ (o : OrderOf). o.loader < most) (map (order_of n) bs)
@@ -111,29 +110,24 @@ orders-below n most (r ∷ rs) keys le =
 -- and so is each reply
 pub replies-below : (may : ℕ → List KeyOf → AnswerOf → Type 0) (most : ℕ) (os : List OrderOf) (rs : List ReplyOf) → AreReplies may os rs → All (λ (o : OrderOf). o.loader < most) os → All (λ (r : ReplyOf). r.loader < most) rs
 replies-below may most [] [] h below = All-nil (λ (r : ReplyOf). r.loader < most)
-replies-below may most [] (r ∷ rs) h below = absurd h
-replies-below may most (o ∷ os) [] h below = absurd h
 replies-below may most (o ∷ os) (r ∷ rs) h below =
     let first : o.loader < most = All-head (λ (o : OrderOf). o.loader < most) o os below in
     let is = h.0.loader in
     All-cons (λ (r : ReplyOf). r.loader < most) r rs (omega (arith, first, is)) (replies-below may most os rs h.1 (All-tail (λ (o : OrderOf). o.loader < most) o os below))
-
-some-is : {X : Type 0} (x y : X) → Some x ≡ Some y → x ≡ y
-some-is x y e = cc e
+replies-below may most os rs h below = absurd h
 
 -- the sources of loaders stay as their logs grow
 module _ {S : Type 0} (stored : Bool) (round : ℕ) (keys : ℕ → List KeyOf) where
   pub source-at : (n : ℕ) (ls : List (LoaderOf S)) (i : ℕ) (x : LoaderOf S) → slice_get (logged_from n stored round keys ls) i ≡ Some x → (y : LoaderOf S) × (slice_get ls i ≡ Some y) × (x.source ≡ y.source)
   source-at n [] i x e = absurd (cc e)
-  source-at n (l ∷ ls) zero x e = (l, refl, ap (λ (y : LoaderOf S). y.source) (sym (some-is (logged stored round (keys n) l) x e)))
+  source-at n (l ∷ ls) zero x e = (l, refl, ap (λ (y : LoaderOf S). y.source) (sym (some-same (logged stored round (keys n) l) x e)))
   source-at n (l ∷ ls) (suc i) x e = source-at (suc n) ls i x e
 
   pub replies-before : (may : S → List KeyOf → AnswerOf → Type 0) (ls : List (LoaderOf S)) (os : List OrderOf) (rs : List ReplyOf) → AreReplies (may_at may (logged_from 0 stored round keys ls)) os rs → AreReplies (may_at may ls) os rs
   replies-before may ls [] [] h = tt
-  replies-before may ls [] (r ∷ rs) h = absurd h
-  replies-before may ls (o ∷ os) [] h = absurd h
   replies-before may ls (o ∷ os) (r ∷ rs) h =
       let is = h.0 in
       let at = source-at 0 ls o.loader is.may_be.0 is.may_be.1 in
       let can : may at.0.source o.keys is.answer = rw (← at.2) is.may_be.2 in
       (record { loader = is.loader; keys = is.keys; answer = is.answer; may_be = (at.0, at.1, can); outcomes = is.outcomes }, replies-before may ls os rs h.1)
+  replies-before may ls os rs h = absurd h

@@ -2,14 +2,14 @@
 use Rattle.std.proofs.Common.{◌≡◌, ◌==◌, ℕ, Bool, true, false, List, [], ◌∷◌, ◌++◌, inl, inr, ◌⊎◌, ◌∙◌, ap, refl, Option, Some, None, if◌then◌else◌}
 use Rattle.std.specs.Option.{option_or}
 use Rattle.load_memory.specs.Keys.{KeyOf}
-use Rattle.load_memory.specs.Outcomes.{OutcomeOf, known, batch_fault}
+use Rattle.load_memory.specs.Outcomes.{OutcomeOf, batch_fault}
 use Rattle.load_memory.specs.Pairs.{PairOf, look}
 use Rattle.execution.specs.Loads.{Memory, IsOneOf}
 use Rattle.execution.specs.Rounds.{RuleOf, modes_of, unless_failed, pairs_of}
 use Rattle.execution.specs.Sessions.{Step, Forgot, AskedLoads, Lost, Primed, Cleared, ClearedAll, Restarted, is_cell, after, IsAnsweredIn}
 use Rattle.execution.proofs.Same.{one-either}
 use Rattle.execution.proofs.ReplyLaws.{make, look-member, pairs-from}
-use Rattle.load_rounds.specs.Histories.{Call, Loading, StoppedLoading, Priming, Clearing, ClearingAll, Forgetting, Executing, StoppedExecuting, ExecutingTogether, Restarting, AreAsking, IsMadeOf, AreMadeOf, replies_of}
+use Rattle.load_rounds.specs.Histories.{Call, Priming, Clearing, ClearingAll, Forgetting, Restarting, AreAsking, IsMadeOf, AreMadeOf, replies_of}
 use Rattle.load_rounds.proofs.Histories.{memory_after}
 
 module _ (rules : List RuleOf) (loader : ℕ) (key : KeyOf) (o : OutcomeOf) where
@@ -17,9 +17,8 @@ module _ (rules : List RuleOf) (loader : ℕ) (key : KeyOf) (o : OutcomeOf) wher
   IsFrom M steps = (M loader key ≡ Some o) ⊎ (IsOneOf (Primed (make loader key o)) steps ⊎ IsAnsweredIn (modes_of rules) (make loader key o) (replies_of steps))
 
   unfailed : (x : Option OutcomeOf) → unless_failed x ≡ Some o → x ≡ Some o
-  unfailed None e = e
-  unfailed (Some (known item)) e = e
   unfailed (Some (batch_fault text)) e = absurd (cc e)
+  unfailed x e = e
 
   left-in : (b : Bool) (x : Option OutcomeOf) → (if b then None else x) ≡ Some o → x ≡ Some o
   left-in true x e = absurd (cc e)
@@ -48,24 +47,14 @@ module _ (rules : List RuleOf) (loader : ℕ) (key : KeyOf) (o : OutcomeOf) wher
 
   more-replies : (step : Step) (steps : List Step) → IsAnsweredIn (modes_of rules) (make loader key o) (replies_of steps) → IsAnsweredIn (modes_of rules) (make loader key o) (replies_of (step ∷ steps))
   more-replies (AskedLoads loads replies) steps h = (h.0, inr h.1, h.2, h.3, h.4)
-  more-replies (Lost loads) steps h = h
-  more-replies Forgot steps h = h
-  more-replies (Primed pair) steps h = h
-  more-replies (Cleared cell) steps h = h
-  more-replies (ClearedAll n) steps h = h
-  more-replies Restarted steps h = h
+  more-replies step steps h = h
 
   first-reply : (step : Step) (steps : List Step) → IsAnsweredIn (modes_of rules) (make loader key o) (replies_of (step ∷ [])) → IsAnsweredIn (modes_of rules) (make loader key o) (replies_of (step ∷ steps))
   first-reply (AskedLoads loads replies) steps h = go h.1 where
     go : IsOneOf h.0 (replies ∷ []) → IsAnsweredIn (modes_of rules) (make loader key o) (replies ∷ replies_of steps)
     go (inl e) = (h.0, inl e, h.2, h.3, h.4)
     go (inr i) = absurd i
-  first-reply (Lost loads) steps h = absurd h.1
-  first-reply Forgot steps h = absurd h.1
-  first-reply (Primed pair) steps h = absurd h.1
-  first-reply (Cleared cell) steps h = absurd h.1
-  first-reply (ClearedAll n) steps h = absurd h.1
-  first-reply Restarted steps h = absurd h.1
+  first-reply step steps h = absurd h.1
 
   pub pair-from : (M : Memory) (steps : List Step) → memory_after rules M steps loader key ≡ Some o → IsFrom M steps
   pair-from M [] e = inl e
@@ -91,18 +80,12 @@ asking-primes pair (AskedLoads loads replies ∷ steps) h (inl e) = cc e
 asking-primes pair (AskedLoads loads replies ∷ steps) h (inr i) = asking-primes pair steps h i
 asking-primes pair (Lost loads ∷ steps) h (inl e) = cc e
 asking-primes pair (Lost loads ∷ steps) h (inr i) = asking-primes pair steps h i
-asking-primes pair (Forgot ∷ steps) h i = h
-asking-primes pair (Primed p ∷ steps) h i = h
-asking-primes pair (Cleared cell ∷ steps) h i = h
-asking-primes pair (ClearedAll n ∷ steps) h i = h
-asking-primes pair (Restarted ∷ steps) h i = h
+asking-primes pair steps h i = h
 
 primed-is : (p q : PairOf) → Primed p ≡ Primed q → p ≡ q
 primed-is p q e = cc e
 
 call-primes : (pair : PairOf) (call : Call) (own : List Step) → IsMadeOf call own → IsOneOf (Primed pair) own → Priming pair ≡ call
-call-primes pair (Loading loader keys outcomes) own h i = absurd (asking-primes pair own h i)
-call-primes pair (StoppedLoading loader keys) own h i = absurd (asking-primes pair own h i)
 call-primes pair (Priming p) own h i = go (rw h at i) where
   go : IsOneOf (Primed pair) (Primed p ∷ []) → Priming pair ≡ Priming p
   go (inl e) = ap Priming (primed-is pair p e)
@@ -116,13 +99,11 @@ call-primes pair (ClearingAll n) own h i = go (rw h at i) where
   go (inl e) = absurd (cc e)
   go (inr j) = absurd j
 call-primes pair Forgetting own h i = let none = rw h at i in absurd none
-call-primes pair (Executing p text_of text rounds) own h i = absurd (asking-primes pair own h i)
-call-primes pair (StoppedExecuting p) own h i = absurd (asking-primes pair own h i)
-call-primes pair (ExecutingTogether rs reports) own h i = absurd (asking-primes pair own h i)
 call-primes pair Restarting own h i = go (rw h at i) where
   go : IsOneOf (Primed pair) (Restarted ∷ []) → Priming pair ≡ Restarting
   go (inl e) = absurd (cc e)
   go (inr j) = absurd j
+call-primes pair call own h i = absurd (asking-primes pair own h i)
 
 pub calls-prime : (pair : PairOf) (calls : List Call) (steps : List Step) → AreMadeOf calls steps → IsOneOf (Primed pair) steps → IsOneOf (Priming pair) calls
 calls-prime pair [] steps h i = let none = rw h at i in absurd none

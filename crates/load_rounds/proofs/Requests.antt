@@ -107,9 +107,8 @@ module _ {S : Type 0} (may : S → List KeyOf → AnswerOf → Type 0) (old new 
 
   greatest-chain : (log : List (List ReplyOf)) (n : ℕ) (rs : List RequestOf) (reports : List ReportOf) → AreShared old new log rs reports → greatest reports ≤ all_chain (items_from n rs) (read (session_modes old) new.memory)
   greatest-chain log n [] [] h = omega arith
-  greatest-chain log n [] (t ∷ ts) h = absurd h
-  greatest-chain log n (r ∷ rs) [] h = absurd h
   greatest-chain log n (r ∷ rs) (t ∷ ts) h = let own = h.0.chained in omega (arith, own, greatest-chain log (suc n) rs ts h.1)
+  greatest-chain log n rs reports h = absurd h
 
   pub shared-chain : (rs : List RequestOf) (reports : List ReportOf) (h : SharedHeadline may old new rs reports) → length h.log ≤ chain (together rs) (read (session_modes old) new.memory)
   shared-chain rs reports h = let longest = h.longest in omega (arith, longest, greatest-chain h.log 0 rs reports h.answers)

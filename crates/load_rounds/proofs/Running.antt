@@ -27,8 +27,6 @@ tails x y xs ys e = cc e
 -- one element more is replaced
 pub replaced-more : {X : Type 0} (f : X → X) (i n : ℕ) (cur all : List X) (d x : X) → n ≡ suc i → i < length cur → d ≡ get_or cur i d → x ≡ f d → cur ≡ map f (take i all) ++ drop i all → slice_set cur i x ≡ map f (take n all) ++ drop n all
 replaced-more f i n [] all d x next lt at is h = absurd (omega arith)
-replaced-more f zero n (c ∷ cur) [] d x next lt at is h = absurd (cc h)
-replaced-more f (suc i) n (c ∷ cur) [] d x next lt at is h = absurd (cc h)
 replaced-more f zero n (c ∷ cur) (a ∷ all) d x next lt at is h =
     let first : x ≡ f a = is ∙ ap f (at ∙ heads c a cur all h) in
     rw next (ap (λ y. y ∷ cur) first ∙ ap (λ ys. f a ∷ ys) (tails c a cur all h))
@@ -36,6 +34,7 @@ replaced-more f (suc i) n (c ∷ cur) (a ∷ all) d x next lt at is h =
     let first = heads c (f a) cur (map f (take i all) ++ drop i all) h in
     let rest = tails c (f a) cur (map f (take i all) ++ drop i all) h in
     rw (next, first) (ap (λ xs. f a ∷ xs) (replaced-more f i (suc i) cur all d x refl (omega arith) at is rest))
+replaced-more f i n cur all d x next lt at is h = absurd (cc h)
 
 pub length-replaced : {X : Type 0} (f : X → X) (i : ℕ) (all : List X) → length (map f (take i all) ++ drop i all) ≡ length all
 length-replaced f zero [] = refl

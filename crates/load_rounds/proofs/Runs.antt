@@ -4,7 +4,7 @@ use Rattle.std.proofs.lemmas.Bool.{eq-eqb, eqb-true, eqb-false}
 use Rattle.std.proofs.lemmas.List.{length-map}
 use Rattle.std.proofs.lemmas.List.Elements.{All-nil, All-cons, All-head, All-tail}
 use Rattle.std.proofs.lemmas.List.Sorted.{All-permutation}
-use Rattle.std.specs.Prelude.{All, slice_get, ◌==◌, if◌then◌else◌, IfOk, OnOk, OnErr, IsPermutation}
+use Rattle.std.specs.Prelude.{All, slice_get, ◌==◌, if◌then◌else◌, IfOk, OnOk, IsPermutation}
 use Rattle.load_memory.specs.Keys.{KeyOf}
 use Rattle.load_memory.specs.Pairs.{MemoryOf, look, IsWith}
 use Rattle.load_memory.specs.Replies.{ReplyOf, pairs_of}
@@ -37,14 +37,6 @@ if-ok (Err e) f h = tt
 pub on-ok : {T E P Q : Type 0} (r : Result T E) → (P → Q) → OnOk r P → OnOk r Q
 on-ok (Ok x) f h = f h
 on-ok (Err e) f h = tt
-
-pub on-err-too : {T E P Q : Type 0} (r : Result T E) → (P → Q) → OnErr r P → OnErr r Q
-on-err-too (Ok x) f h = tt
-on-err-too (Err e) f h = f h
-
-pub ok-or-err : {T E P Q R : Type 0} (r : Result T E) → OnOk r P → OnErr r Q → (P → R) → (Q → R) → R
-ok-or-err (Ok x) h k f g = f h
-ok-or-err (Err e) h k f g = g k
 
 -- steps change no loader but for its log
 module _ {S : Type 0} (rules : List RuleOf) (p : Program) where
@@ -101,9 +93,6 @@ module _ {S : Type 0} where
   round-counted s new p loaders within enough ne entered =
       let one = made-one (round_orders (rules_of s) (front_in s p)) (front-orders s p loaders within enough ne) in
       ap (λ (t : StateOf S). t.rounds) entered ∙ ap (λ n. s.rounds + n) one
-
-  pub modes-size : (s : StateOf S) → length (session_modes s) ≡ length s.loaders
-  modes-size s = length-map (rules_of s) (λ (r : RuleOf). r.mode) ∙ length-map s.loaders rule_of
 
   -- a lost round, all of whose batches were entered
   pub lost-all : (b : StateOf S) (loads : List Load) → after_step b (Lost loads) ≡ after_step b (Lost (of_first (length b.loaders) loads))
@@ -197,12 +186,6 @@ module _ {S : Type 0} where
           rules = ap rules_of is.made.after ∙ steps-rules rules p was M0 is.log;
           sources = λ i x at. steps-sources rules p was M0 is.log i x (ap (λ (s : StateOf S). slice_get s.loaders i) (sym is.made.after) ∙ at);
         }
-
-    pub in-between : (begun now : StateOf S) (rounds : ℕ) → InRounds may begun now p rounds → IsBetween may p begun now rounds
-    in-between begun now rounds is = record { log = is.log; made = is.made; counted = is.counted }
-
-    pub between-loaders : (begun now : StateOf S) (rounds : ℕ) → IsBetween may p begun now rounds → length now.loaders ≡ length begun.loaders
-    between-loaders begun now rounds is = sym (length-map now.loaders rule_of) ∙ ap length (InRounds.rules (between-in begun now rounds is)) ∙ length-map begun.loaders rule_of
 
     -- want of memory between rounds
     pub between-stops : (begun now new : StateOf S) (rounds : ℕ) → IsBetween may p begun now rounds → (new ≡ now) ⊎ RoundLost now new (front_in now p) → StopsAnswering may begun new p

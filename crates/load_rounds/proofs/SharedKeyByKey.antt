@@ -26,13 +26,12 @@ module _ {S : Type 0} (old new : StateOf S) where
   texts-by : (log : List (List ReplyOf)) (Q : Reader) (n : ℕ) (rs : List RequestOf) (reports : List ReportOf) → AnswersMore (read (session_modes old) new.memory) Q → any_open (trees (items_from n rs) (read (session_modes old) new.memory)) ≡ false
       → AreShared old new log rs reports → AreTexts rs Q reports
   texts-by log Q n [] [] more closed h = tt
-  texts-by log Q n [] (t ∷ ts) more closed h = absurd h
-  texts-by log Q n (r ∷ rs) [] more closed h = absurd h
   texts-by log Q n (r ∷ rs) (t ∷ ts) more closed h =
       let R : Reader = read (session_modes old) new.memory in
       let own = or-left (is_open (tree r.program R)) (any_open (trees (items_from (suc n) rs) R)) closed in
       let text = h.0.answered in
       (record { answered = text.answered; executed = exec-stays r.program R Q more own.0 ∙ text.executed; report = text.report }, texts-by log Q (suc n) rs ts more own.1 h.1)
+  texts-by log Q n rs reports more closed h = absurd h
 
   -- two answers to one request with one log and one memory
   one-report : (log : List (List ReplyOf)) (r : RequestOf) (t u : ReportOf) → IsShared old new log r t → IsShared old new log r u → t ≡ u
@@ -44,11 +43,10 @@ module _ {S : Type 0} (old new : StateOf S) where
 
   all-one-report : (log : List (List ReplyOf)) (rs : List RequestOf) (ts us : List ReportOf) → AreShared old new log rs ts → AreShared old new log rs us → ts ≡ us
   all-one-report log [] [] [] h k = refl
-  all-one-report log [] [] (u ∷ us) h k = absurd k
   all-one-report log [] (t ∷ ts) us h k = absurd h
   all-one-report log (r ∷ rs) [] us h k = absurd h
-  all-one-report log (r ∷ rs) (t ∷ ts) [] h k = absurd k
   all-one-report log (r ∷ rs) (t ∷ ts) (u ∷ us) h k = rw (one-report log r t u h.0 k.0, all-one-report log rs ts us h.1 k.1) refl
+  all-one-report log rs ts us h k = absurd k
 
 module _ {S : Type 0} (may : S → List KeyOf → AnswerOf → Type 0) (item : S → KeyOf → ItemOf) (by_key : (s : S) (keys : List KeyOf) (answer : AnswerOf) → may s keys answer → answer ≡ given (map (item s) keys)) where
   shared-rounds : (old new : StateOf S) (rs : List RequestOf) (ts : List ReportOf) (h : SharedHeadline may old new rs ts) → AreRounds (key_by_key (item_over item old.loaders)) (rules_of old) (together rs) (without_failed old.memory) h.log new.memory

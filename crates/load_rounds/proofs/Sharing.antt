@@ -73,22 +73,20 @@ module _ {P E : Type 0} (program : P → Program) where
   module _ (text_of : P → AnsweredOf → List ℕ) (loaders : P → ℕ) (fits : P → E → MemoryOf → Type 0) where
     pub all-counted : (rules : List RuleOf) (M : Memory) (log : List (List ReplyOf)) (rounds : ℕ) (m : MemoryOf) (xs ys : List (PartOf P E)) → rounds ≡ length log → GoOn program text_of loaders fits rounds m xs ys → CountRounds program rules M log xs → CountRounds program rules M log ys
     all-counted rules M log rounds m [] [] is h counts = tt
-    all-counted rules M log rounds m [] (y ∷ ys) is h counts = absurd h
-    all-counted rules M log rounds m (x ∷ xs) [] is h counts = absurd h
     all-counted rules M log rounds m (x ∷ xs) (y ∷ ys) is h counts =
         let own = tells-counted rules M log (program x.plan) rounds (front m.modes (program x.plan) (look m.pairs)) x.report y.report is h.0.report counts.0 in
         (subst (λ plan. CountsRounds rules M log (program plan) y.report) (sym h.0.same) own, all-counted rules M log rounds m xs ys is h.1 counts.1)
+    all-counted rules M log rounds m xs ys is h counts = absurd h
 
     pub all-round-counted : (others : ℕ → List KeyOf → AnswerOf → Type 0) (rules : List RuleOf) (q : Program) (M mid : Memory) (log : List (List ReplyOf)) (r : List ReplyOf) (rounds : ℕ) (m : MemoryOf) (xs ys : List (PartOf P E))
         → AreRounds others rules q M log mid → m.modes ≡ modes_of rules → look m.pairs ≡ mid → GoOn program text_of loaders fits rounds m xs ys → CountRounds program rules M log ys → CountRounds program rules M (log ++ r ∷ []) ys
     all-round-counted others rules q M mid log r rounds m [] [] k modes same h counts = tt
-    all-round-counted others rules q M mid log r rounds m [] (y ∷ ys) k modes same h counts = absurd h
-    all-round-counted others rules q M mid log r rounds m (x ∷ xs) [] k modes same h counts = absurd h
     all-round-counted others rules q M mid log r rounds m (x ∷ xs) (y ∷ ys) k modes same h counts =
         let loads : front m.modes (program x.plan) (look m.pairs) ≡ front (modes_of rules) (program y.plan) mid =
         ap (λ ms. front ms (program x.plan) (look m.pairs)) modes ∙ ap (λ (N : Memory). front (modes_of rules) (program x.plan) N) same ∙ ap (λ plan. front (modes_of rules) (program plan) mid) (sym h.0.same) in
         let tells : TellsAt rounds (front (modes_of rules) (program y.plan) mid) x.report y.report = subst (λ ls. TellsAt rounds ls x.report y.report) loads h.0.report in
         (round-counted others rules q (program y.plan) M mid log r rounds x.report y.report k tells counts.0, all-round-counted others rules q M mid log r rounds m xs ys k modes same h.1 counts.1)
+    all-round-counted others rules q M mid log r rounds m xs ys k modes same h counts = absurd h
 
     -- the answer with the most rounds
     greatest-most : (rules : List RuleOf) (M : Memory) (log : List (List ReplyOf)) (ys : List (PartOf P E)) → CountRounds program rules M log ys → greatest (reports_in ys) ≤ length log

@@ -250,11 +250,10 @@ module _ {P E : Type 0} (program : P → Program) (text_of : P → AnsweredOf �
       one (Some report) h counted = let longest = h.longest in (report, refl, headline-one may old now (request_of (program plan) (text_of plan)) report h, omega (arith, longest, counted))
 
       go : (xs : List (PartOf P E)) → plans_in xs ≡ plan ∷ [] → IsFinished program text_of may old now xs run.rounds → (report : ReportOf) × (first_report xs ≡ Some report) × Headline may old now (program plan) (text_of plan) report.text report.rounds × (report.rounds ≡ run.rounds)
-      go [] e h = absurd (cc e)
-      go (x ∷ y ∷ zs) e h = absurd (cc e)
       go (x ∷ []) e h =
           let moved = subst (λ ps. (h : SharedHeadline may old now (requests program text_of ps) (given_to x.report ++ [])) × (length h.log ≡ run.rounds)) e (h.headline, h.counted) in
           one x.report moved.0 moved.1
+      go xs e h = absurd (cc e)
 
   pub stopped-one : IsRun program text_of may old now run → StopsAnswering may old now (program plan)
   stopped-one is =

@@ -3,21 +3,20 @@ use Rattle.std.proofs.Common.{◌≡◌, ℕ, ◌<◌, ◌≤◌, ◌+◌, Bool,
 use Rattle.std.proofs.Math.Path.{fun_ext}
 use Rattle.std.proofs.lemmas.List.{length-map}
 use Rattle.std.proofs.lemmas.List.Elements.{All-nil, All-cons}
-use Rattle.std.specs.Prelude.{All, slice_get, nat_lt, if◌then◌else◌, OnOk, OnErr}
+use Rattle.std.specs.Prelude.{All, slice_get, nat_lt, if◌then◌else◌, OnErr}
 use Rattle.load_memory.specs.Keys.{KeyOf, folded, mode_at}
-use Rattle.load_memory.specs.Pairs.{MemoryOf, look, IsWith, IsSameMap}
-use Rattle.load_memory.specs.Replies.{ReplyOf, pairs_of}
+use Rattle.load_memory.specs.Pairs.{MemoryOf, look, IsSameMap}
 use Rattle.load_memory.specs.declared.key.KeyMode.{KeyMode}
 use Rattle.load_memory.proofs.ReplyPairs.{mode-at}
-use Rattle.load_queue.specs.Loaders.{LoaderOf, AskedOf, stored_in, unasked}
+use Rattle.load_queue.specs.Loaders.{LoaderOf, AskedOf, unasked}
 use Rattle.execution.specs.Loads.{Load, Memory}
 use Rattle.execution.specs.Front.{keys_for}
-use Rattle.execution.specs.Rounds.{rule_of, modes_of, round_orders, after_round, stored}
-use Rattle.execution.specs.Sessions.{AskedLoads, Lost}
+use Rattle.execution.specs.Rounds.{rule_of, modes_of, round_orders, stored}
+use Rattle.execution.specs.Sessions.{Lost}
 use Rattle.load_rounds.specs.Sessions.{StateOf, logged_from, made, after_step, of_first, AreNumbered, IsSession}
 use Rattle.load_rounds.specs.Rounds.{orders_by, first_keys, Enters}
-use Rattle.load_rounds.proofs.Cutting.{rules-logged, logged-same, logged-past, orders-same, orders-past, first-some}
-use Rattle.load_rounds.proofs.Numbering.{enters-numbered, logged-numbered, made-one, marked-round, orders-loads, keys-first}
+use Rattle.load_rounds.proofs.Cutting.{rules-logged, logged-same, logged-past, orders-same, orders-past}
+use Rattle.load_rounds.proofs.Numbering.{enters-numbered, orders-loads, keys-first}
 
 pub cached : (modes own : List KeyMode) (loader : ℕ) (mode : KeyMode) (k key : KeyOf) → own ≡ modes → slice_get own loader ≡ Some mode → k ≡ folded mode key → k ≡ folded (mode_at modes loader) key
 cached modes own loader mode k key same at is = rw (mode-at modes loader mode (rw same at at)) is
@@ -62,21 +61,6 @@ module _ {S : Type 0} where
         numbered = enters-numbered round before after keys old new next h is.numbered;
       }
 
-  -- shows the same, once the round is marked
-  module _ (round before after : ℕ) (keys : ℕ → List KeyOf) (old cut new : List (LoaderOf S)) (memory later : MemoryOf) (next : round ≡ before + 1) (is : IsSession old memory before) (h : Enters round keys old cut before after) (marks : new ≡ map (λ l. stored_in l round) cut) where
-    pub marked-loaders : new ≡ logged_from 0 true round keys old
-    marked-loaders = marks ∙ ap (map (λ l. stored_in l round)) h.loaders ∙ marked-round round before 0 keys old (omega (arith, next)) is.numbered
-
-    pub marked-session : later.modes ≡ memory.modes → IsSession new later after
-    marked-session same =
-        let rules : map rule_of new ≡ map rule_of old = ap (map rule_of) marked-loaders ∙ rules-logged true round 0 keys old in
-        let counted = h.rounds in
-        record {
-          modes = same ∙ is.modes ∙ ap modes_of (sym rules);
-          limited = rw rules is.limited;
-          numbered = rw marked-loaders (logged-numbered true round before after 0 keys old (omega (arith, counted)) (λ ne. omega (arith, counted, next, made-one (orders_by 0 (map rule_of old) keys) ne)) is.numbered);
-        }
-
   module _ (keys : ℕ → List KeyOf) (loads : List Load) (old : List (LoaderOf S)) (wanted : (m : ℕ) → m < length old → keys m ≡ keys_for m loads) where
     pub wanted-orders : orders_by 0 (map rule_of old) keys ≡ round_orders (map rule_of old) loads
     wanted-orders = orders-same 0 keys (λ m. keys_for m loads) (map rule_of old) (λ m le lt. wanted m (omega (arith, lt, length-map old rule_of))) ∙ orders-loads 0 (map rule_of old) loads
@@ -90,15 +74,6 @@ module _ {S : Type 0} where
       go true e = wanted m lt
       go false e = refl
 
-    -- the round ran
-    pub state-ran : (round before after : ℕ) (cut new : List (LoaderOf S)) (memory later : MemoryOf) (replies : List ReplyOf) → round ≡ before + 1 → IsSession old memory before → Enters round keys old cut before after → new ≡ map (λ l. stored_in l round) cut
-        → IsWith memory.pairs (pairs_of memory.modes replies) later.pairs → state new (look later.pairs) after ≡ after_step (state old (look memory.pairs) before) (AskedLoads loads replies)
-    state-ran round before after cut new memory later replies next is h marks kept =
-        state-is new (logged_from 0 true (before + 1) (λ m. keys_for m loads) old) (look later.pairs) (after_round (map rule_of old) (look memory.pairs) replies) after (before + made (round_orders (map rule_of old) loads))
-        (marked-loaders round before after keys old cut new memory later next is h marks ∙ wanted-logged true round ∙ ap (λ n. logged_from 0 true n (λ m. keys_for m loads) old) next)
-        (same-memory (look later.pairs) (after_round (map rule_of old) (look memory.pairs) replies) (λ l k. rw (← is.modes) (kept l k)))
-        (h.rounds ∙ ap (λ os. before + made os) wanted-orders)
-
     -- the round was lost, with the batches of the first loaders entered
     pub state-lost : (round before after n : ℕ) (cut : List (LoaderOf S)) (memory later : MemoryOf) → round ≡ before + 1 → Enters round (first_keys n keys) old cut before after → IsSameMap later.pairs memory.pairs
         → state cut (look later.pairs) after ≡ after_step (state old (look memory.pairs) before) (Lost (of_first n loads))
@@ -110,13 +85,6 @@ module _ {S : Type 0} where
         (same-memory (look later.pairs) (look memory.pairs) same)
         (h.rounds ∙ ap (λ os. before + made os) orders)
 
-  -- all were entered
-  pub enters-first : (round before after : ℕ) (keys : ℕ → List KeyOf) (old new : List (LoaderOf S)) → Enters round keys old new before after → Enters round (first_keys (length old) keys) old new before after
-  enters-first round before after keys old new h =
-      let same = logged-same false round 0 keys (first_keys (length old) keys) old (λ m le lt. sym (first-some keys (length old) m (omega (arith, lt)))) in
-      let orders = orders-same 0 keys (first_keys (length old) keys) (map rule_of old) (λ m le lt. sym (first-some keys (length old) m (omega (arith, lt, length-map old rule_of)))) in
-      record { loaders = h.loaders ∙ same; rounds = h.rounds ∙ ap (λ os. before + made os) orders }
-
   -- nothing was entered
   pub enters-nothing : (round before : ℕ) (keys : ℕ → List KeyOf) (old : List (LoaderOf S)) → Enters round (first_keys 0 keys) old old before before
   enters-nothing round before keys old = record {
@@ -127,7 +95,3 @@ module _ {S : Type 0} where
 pub on-err : {T E P : Type 0} (r : Result T E) → P → OnErr r P
 on-err (Ok x) h = tt
 on-err (Err e) h = h
-
-pub when-ok : {T E P : Type 0} (r : Result T E) → P → OnOk r P
-when-ok (Ok x) h = h
-when-ok (Err e) h = tt

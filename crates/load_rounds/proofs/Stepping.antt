@@ -12,9 +12,9 @@ use Rattle.execution.specs.Loads.{Load, Memory}
 use Rattle.execution.specs.Program.{Program}
 use Rattle.execution.specs.Front.{keys_for}
 use Rattle.execution.specs.Rounds.{RuleOf, after_round, without_failed}
-use Rattle.execution.specs.Sessions.{Step, Forgot, AskedLoads, Lost, Primed, Cleared, ClearedAll, Restarted}
+use Rattle.execution.specs.Sessions.{Step, Forgot, AskedLoads, Lost, Restarted}
 use Rattle.load_rounds.specs.Sessions.{StateOf, rules_of, entry, logged_from, of_first, after_step, after_steps}
-use Rattle.load_rounds.specs.Calls.{RoundRan, RoundLost, AsksOnce}
+use Rattle.load_rounds.specs.Calls.{RoundRan, RoundLost}
 use Rattle.load_rounds.specs.Headline.{asked_steps, MakesRounds}
 use Rattle.load_rounds.specs.Histories.{AreAsking}
 use Rattle.load_rounds.proofs.Cutting.{rules-logged}
@@ -27,13 +27,10 @@ SameSources {S} old cur = (i : ℕ) (x : LoaderOf S) → slice_get cur i ≡ Som
 
 module _ {S : Type 0} where
   step-rules : (s : StateOf S) (step : Step) → rules_of (after_step s step) ≡ rules_of s
-  step-rules s Forgot = refl
   step-rules s (AskedLoads loads replies) = rules-logged true (s.rounds + 1) 0 (λ n. keys_for n loads) s.loaders
   step-rules s (Lost loads) = rules-logged false (s.rounds + 1) 0 (λ n. keys_for n loads) s.loaders
-  step-rules s (Primed pair) = refl
-  step-rules s (Cleared cell) = refl
-  step-rules s (ClearedAll loader) = refl
   step-rules s Restarted = rules-unasked s.loaders
+  step-rules s step = refl
 
   pub steps-rules : (s : StateOf S) (steps : List Step) → rules_of (after_steps s steps) ≡ rules_of s
   steps-rules s [] = refl
@@ -48,13 +45,10 @@ module _ {S : Type 0} where
   unasked-made (l ∷ ls) = ap (λ xs. as_made l ∷ xs) (unasked-made ls)
 
   step-made : (s : StateOf S) (step : Step) → map as_made (after_step s step).loaders ≡ map as_made s.loaders
-  step-made s Forgot = refl
   step-made s (AskedLoads loads replies) = logged-made true (s.rounds + 1) 0 (λ n. keys_for n loads) s.loaders
   step-made s (Lost loads) = logged-made false (s.rounds + 1) 0 (λ n. keys_for n loads) s.loaders
-  step-made s (Primed pair) = refl
-  step-made s (Cleared cell) = refl
-  step-made s (ClearedAll loader) = refl
   step-made s Restarted = unasked-made s.loaders
+  step-made s step = refl
 
   pub steps-made : (s : StateOf S) (steps : List Step) → map as_made (after_steps s steps).loaders ≡ map as_made s.loaders
   steps-made s [] = refl
@@ -69,13 +63,10 @@ module _ {S : Type 0} where
   unasked-source (l ∷ ls) (suc i) x at = unasked-source ls i x at
 
   step-sources : (s : StateOf S) (step : Step) → SameSources s.loaders (after_step s step).loaders
-  step-sources s Forgot i x at = (x, at, refl)
   step-sources s (AskedLoads loads replies) i x at = source-at true (s.rounds + 1) (λ n. keys_for n loads) 0 s.loaders i x at
   step-sources s (Lost loads) i x at = source-at false (s.rounds + 1) (λ n. keys_for n loads) 0 s.loaders i x at
-  step-sources s (Primed pair) i x at = (x, at, refl)
-  step-sources s (Cleared cell) i x at = (x, at, refl)
-  step-sources s (ClearedAll loader) i x at = (x, at, refl)
   step-sources s Restarted i x at = unasked-source s.loaders i x at
+  step-sources s step i x at = (x, at, refl)
 
   pub steps-sources : (s : StateOf S) (steps : List Step) → SameSources s.loaders (after_steps s steps).loaders
   steps-sources s [] i x at = (x, at, refl)
@@ -93,20 +84,18 @@ module _ {S : Type 0} where
   -- a session keeps its loaders
   pub record-many : (xs ys : List (LoaderOf S)) → AreOnRecord xs ys → length ys ≡ length xs
   record-many [] [] h = refl
-  record-many [] (y ∷ ys) h = absurd h
-  record-many (x ∷ xs) [] h = absurd h
   record-many (x ∷ xs) (y ∷ ys) h = ap suc (record-many xs ys h.1)
+  record-many xs ys h = absurd h
 
   one-then : (a b c : LoaderOf S) → IsOnRecord a b → IsOnRecord b c → IsOnRecord a c
   one-then a b c h k = record { same = k.same ∙ h.same; made = h.made + k.made; orders = omega (arith, h.orders, k.orders); entries = omega (arith, h.entries, k.entries) }
 
   pub record-then : (xs ys zs : List (LoaderOf S)) → AreOnRecord xs ys → AreOnRecord ys zs → AreOnRecord xs zs
   record-then [] [] [] h k = tt
-  record-then [] [] (z ∷ zs) h k = absurd k
   record-then [] (y ∷ ys) zs h k = absurd h
   record-then (x ∷ xs) [] zs h k = absurd h
-  record-then (x ∷ xs) (y ∷ ys) [] h k = absurd k
   record-then (x ∷ xs) (y ∷ ys) (z ∷ zs) h k = (one-then x y z h.0 k.0, record-then xs ys zs h.1 k.1)
+  record-then xs ys zs h k = absurd k
 
   pub record-logged : (stored : Bool) (round n : ℕ) (keys : ℕ → List KeyOf) (ls : List (LoaderOf S)) → AreOnRecord ls (logged_from n stored round keys ls)
   record-logged stored round n keys [] = tt
@@ -123,11 +112,7 @@ module _ {S : Type 0} where
   record-asking s (Lost loads ∷ steps) h =
       let t = after_step s (Lost loads) in
       record-then s.loaders t.loaders (after_steps t steps).loaders (record-logged false (s.rounds + 1) 0 (λ n. keys_for n loads) s.loaders) (record-asking t steps h)
-  record-asking s (Forgot ∷ steps) h = absurd h
-  record-asking s (Primed pair ∷ steps) h = absurd h
-  record-asking s (Cleared cell ∷ steps) h = absurd h
-  record-asking s (ClearedAll loader ∷ steps) h = absurd h
-  record-asking s (Restarted ∷ steps) h = absurd h
+  record-asking s steps h = absurd h
 
 pub asking-rounds : (rules : List RuleOf) (p : Program) (M : Memory) (log : List (List ReplyOf)) → AreAsking (asked_steps rules p M log)
 asking-rounds rules p M [] = tt
@@ -136,13 +121,6 @@ asking-rounds rules p M (r ∷ rs) = asking-rounds rules p (after_round rules M 
 module _ {S : Type 0} (may : S → List KeyOf → AnswerOf → Type 0) where
   pub ran-rules : (old new : StateOf S) (loads : List Load) → RoundRan may old new loads → rules_of new ≡ rules_of old
   ran-rules old new loads h = ap rules_of h.after ∙ rules-logged true (old.rounds + 1) 0 (λ n. keys_for n loads) old.loaders
-
-  pub ran-recorded : (old new : StateOf S) (loads : List Load) → RoundRan may old new loads → AreOnRecord old.loaders new.loaders
-  ran-recorded old new loads h = rw h.after (record-logged true (old.rounds + 1) 0 (λ n. keys_for n loads) old.loaders)
-
-  pub once-recorded : (old new : StateOf S) (loads : List Load) → AsksOnce may old new loads → AreOnRecord old.loaders new.loaders
-  once-recorded old new [] h = rw h (record-same old.loaders)
-  once-recorded old new (l ∷ ls) h = ran-recorded old new (l ∷ ls) h
 
   pub made-recorded : (old new : StateOf S) (p : Program) (log : List (List ReplyOf)) → MakesRounds may old new p log → AreOnRecord old.loaders new.loaders
   made-recorded old new p log h =

@@ -1,5 +1,5 @@
 -- No key twice: a cell that was asked is known until it is cleared or its failed batch is forgotten, and what is known isn't asked.
-use Rattle.std.proofs.Common.{◌≡◌, ◌||◌, ℕ, zero, suc, Bool, true, false, List, [], ◌∷◌, ◌++◌, map, length, drop, inl, inr, ◌⊎◌, sym, ◌∙◌, ap, refl, Option, Some, None}
+use Rattle.std.proofs.Common.{◌≡◌, ℕ, zero, suc, Bool, true, false, List, [], ◌∷◌, ◌++◌, map, length, drop, inl, inr, ◌⊎◌, sym, ◌∙◌, ap, refl, Option, Some, None}
 use Rattle.std.specs.Prelude.{slice_get}
 use Rattle.std.specs.List.{list_any}
 use Rattle.load_memory.specs.Keys.{KeyOf}
@@ -14,64 +14,52 @@ use Rattle.execution.proofs.Same.{one-either}
 use Rattle.execution.proofs.ReplyLaws.{append-apart}
 use Rattle.execution.proofs.TwiceLaws.{absent, asked-outcome}
 use Rattle.load_rounds.specs.Sessions.{StateOf, rules_of, session_modes, after_step}
-use Rattle.load_rounds.specs.Histories.{Call, Loading, StoppedLoading, Priming, Clearing, ClearingAll, Forgetting, Executing, StoppedExecuting, ExecutingTogether, Restarting, clears_at, AreAsking, IsMadeOf, AreMadeOf, entered_cells, log_in, log_of, gained, stored_gained, gained_cells, IsEntered, IsFailedAt, Leads, IsCall, AreCalls}
+use Rattle.load_rounds.specs.Histories.{Call, Priming, Clearing, ClearingAll, Forgetting, Restarting, clears_at, AreAsking, IsMadeOf, AreMadeOf, entered_cells, log_in, log_of, gained, stored_gained, gained_cells, IsEntered, IsFailedAt, Leads, IsCall, AreCalls}
+use Rattle.load_rounds.proofs.GoingOn.{or-left}
 use Rattle.load_rounds.proofs.Stepping.{steps-rules}
 use Rattle.load_rounds.proofs.Histories.{memory_after, memory-append, are-after, leads-rules, leads-memory, call-leads, calls-lead}
 use Rattle.load_rounds.proofs.Gaining.{step_cells, all_cells, AllGoOn, gained-cells, asked-apart, asked-orders, lost-cells, AskedIn, asked-in}
 
-either-false : (a b : Bool) → (a || b) ≡ false → (a ≡ false) × (b ≡ false)
-either-false true b h = absurd (cc h)
-either-false false b h = (refl, h)
-
 -- nothing is cleared
 none-append : (c : Cell) (xs ys : List Step) → list_any (clears c) xs ≡ false → list_any (clears c) ys ≡ false → list_any (clears c) (xs ++ ys) ≡ false
 none-append c [] ys h k = k
-none-append c (x ∷ xs) ys h k = let b = either-false (clears c x) (list_any (clears c) xs) h in rw b.0 (none-append c xs ys b.1 k)
+none-append c (x ∷ xs) ys h k = let b = or-left (clears c x) (list_any (clears c) xs) h in rw b.0 (none-append c xs ys b.1 k)
 
 asking-clears : (c : Cell) (steps : List Step) → AreAsking steps → list_any (clears c) steps ≡ false
 asking-clears c [] h = refl
 asking-clears c (AskedLoads loads replies ∷ steps) h = asking-clears c steps h
 asking-clears c (Lost loads ∷ steps) h = asking-clears c steps h
-asking-clears c (Forgot ∷ steps) h = absurd h
-asking-clears c (Primed pair ∷ steps) h = absurd h
-asking-clears c (Cleared cell ∷ steps) h = absurd h
-asking-clears c (ClearedAll loader ∷ steps) h = absurd h
-asking-clears c (Restarted ∷ steps) h = absurd h
+asking-clears c steps h = absurd h
 
 call-clears : (c : Cell) (call : Call) (own : List Step) → IsMadeOf call own → clears_at c call ≡ false → list_any (clears c) own ≡ false
-call-clears c (Loading loader keys outcomes) own h k = asking-clears c own h
-call-clears c (StoppedLoading loader keys) own h k = asking-clears c own h
 call-clears c (Priming pair) own h k = rw h refl
 call-clears c (Clearing cell) own h k = rw (h, k) refl
 call-clears c (ClearingAll loader) own h k = rw (h, k) refl
 call-clears c Forgetting own h k = rw h refl
-call-clears c (Executing p text_of text rounds) own h k = asking-clears c own h
-call-clears c (StoppedExecuting p) own h k = asking-clears c own h
-call-clears c (ExecutingTogether rs reports) own h k = asking-clears c own h
 call-clears c Restarting own h k = absurd (cc k)
+call-clears c call own h k = asking-clears c own h
 
 calls-clear : (c : Cell) (calls : List Call) (steps : List Step) → AreMadeOf calls steps → list_any (clears_at c) calls ≡ false → list_any (clears c) steps ≡ false
 calls-clear c [] steps h k = rw h refl
 calls-clear c (call ∷ calls) steps h k =
-    let b = either-false (clears_at c call) (list_any (clears_at c) calls) k in
+    let b = or-left (clears_at c call) (list_any (clears_at c) calls) k in
     rw h.2 (none-append c h.0 h.1 (call-clears c call h.0 h.3 b.0) (calls-clear c calls h.1 h.4 b.1))
 
 -- an item that is known stays known
 module _ (rules : List RuleOf) (c : Cell) where
   kept-step : (item : ItemOf) (M : Memory) (step : Step) → M c.0 c.1 ≡ Some (known item) → clears c step ≡ false → after rules M step c.0 c.1 ≡ Some (known item)
   kept-step item M Forgot e h = ap unless_failed e
-  kept-step item M (AskedLoads loads replies) e h = rw e refl
   kept-step item M (Lost loads) e h = e
-  kept-step item M (Primed pair) e h = rw e refl
   kept-step item M (Cleared d) e h = rw h e
   kept-step item M (ClearedAll loader) e h = rw h e
   kept-step item M Restarted e h = absurd (cc h)
+  kept-step item M step e h = rw e refl
 
   -- an item until its key is cleared
   kept : (item : ItemOf) (M : Memory) (steps : List Step) → M c.0 c.1 ≡ Some (known item) → list_any (clears c) steps ≡ false → memory_after rules M steps c.0 c.1 ≡ Some (known item)
   kept item M [] e h = e
   kept item M (step ∷ steps) e h =
-      let b = either-false (clears c step) (list_any (clears c) steps) h in
+      let b = or-left (clears c step) (list_any (clears c) steps) h in
       kept item (after rules M step) steps (kept-step item M step e b.0) b.1
 
   -- anything while keys are asked
@@ -79,21 +67,13 @@ module _ (rules : List RuleOf) (c : Cell) where
   asking-keeps o M [] h e = e
   asking-keeps o M (AskedLoads loads replies ∷ steps) h e = asking-keeps o (after rules M (AskedLoads loads replies)) steps h (rw e refl)
   asking-keeps o M (Lost loads ∷ steps) h e = asking-keeps o M steps h e
-  asking-keeps o M (Forgot ∷ steps) h e = absurd h
-  asking-keeps o M (Primed pair ∷ steps) h e = absurd h
-  asking-keeps o M (Cleared cell ∷ steps) h e = absurd h
-  asking-keeps o M (ClearedAll loader ∷ steps) h e = absurd h
-  asking-keeps o M (Restarted ∷ steps) h e = absurd h
+  asking-keeps o M steps h e = absurd h
 
 asking-parts : (xs ys : List Step) → AreAsking (xs ++ ys) → AreAsking xs × AreAsking ys
 asking-parts [] ys h = (tt, h)
 asking-parts (AskedLoads loads replies ∷ xs) ys h = asking-parts xs ys h
 asking-parts (Lost loads ∷ xs) ys h = asking-parts xs ys h
-asking-parts (Forgot ∷ xs) ys h = absurd h
-asking-parts (Primed pair ∷ xs) ys h = absurd h
-asking-parts (Cleared cell ∷ xs) ys h = absurd h
-asking-parts (ClearedAll loader ∷ xs) ys h = absurd h
-asking-parts (Restarted ∷ xs) ys h = absurd h
+asking-parts xs ys h = absurd h
 
 not-one : (step : Step) (before rest : List Step) (loads : List Load) (replies : List ReplyOf) → (AskedLoads loads replies ≡ step → ⊥) → step ∷ [] ≡ before ++ AskedLoads loads replies ∷ rest → ⊥
 not-one step [] rest loads replies ne e = ne (cc e)
@@ -106,27 +86,19 @@ not-none (b ∷ bs) rest loads replies e = cc e
 
 -- a call that asks makes rounds alone
 asks-alone : (call : Call) (own before rest : List Step) (loads : List Load) (replies : List ReplyOf) → IsMadeOf call own → own ≡ before ++ AskedLoads loads replies ∷ rest → AreAsking own
-asks-alone (Loading loader keys outcomes) own before rest loads replies h e = h
-asks-alone (StoppedLoading loader keys) own before rest loads replies h e = h
 asks-alone (Priming pair) own before rest loads replies h e = absurd (not-one (Primed pair) before rest loads replies (λ s. cc s) (sym h ∙ e))
 asks-alone (Clearing cell) own before rest loads replies h e = absurd (not-one (Cleared cell) before rest loads replies (λ s. cc s) (sym h ∙ e))
 asks-alone (ClearingAll loader) own before rest loads replies h e = absurd (not-one (ClearedAll loader) before rest loads replies (λ s. cc s) (sym h ∙ e))
 asks-alone Forgetting own before rest loads replies h e = absurd (not-none before rest loads replies (sym h ∙ e))
-asks-alone (Executing p text_of text rounds) own before rest loads replies h e = h
-asks-alone (StoppedExecuting p) own before rest loads replies h e = h
-asks-alone (ExecutingTogether rs reports) own before rest loads replies h e = h
 asks-alone Restarting own before rest loads replies h e = absurd (not-one Restarted before rest loads replies (λ s. cc s) (sym h ∙ e))
+asks-alone call own before rest loads replies h e = h
 
 -- rounds alone leave the entries of the logs
 asking-go-on : (steps : List Step) → AreAsking steps → AllGoOn steps
 asking-go-on [] h = tt
 asking-go-on (AskedLoads loads replies ∷ steps) h = (tt, asking-go-on steps h)
 asking-go-on (Lost loads ∷ steps) h = (tt, asking-go-on steps h)
-asking-go-on (Forgot ∷ steps) h = absurd h
-asking-go-on (Primed pair ∷ steps) h = absurd h
-asking-go-on (Cleared cell ∷ steps) h = absurd h
-asking-go-on (ClearedAll loader ∷ steps) h = absurd h
-asking-go-on (Restarted ∷ steps) h = absurd h
+asking-go-on steps h = absurd h
 
 module _ {S : Type 0} (may : S → List KeyOf → AnswerOf → Type 0) where
   drop-none : (n : ℕ) (es : List AskedOf) → es ≡ [] → drop n es ≡ []
@@ -135,9 +107,8 @@ module _ {S : Type 0} (may : S → List KeyOf → AnswerOf → Type 0) where
   drop-none n (x ∷ es) e = absurd (cc e)
 
   none-in : (ls : List (LoaderOf S)) (n : ℕ) → log_in (slice_get (map unasked ls) n) ≡ []
-  none-in [] n = refl
-  none-in (l ∷ ls) zero = refl
   none-in (l ∷ ls) (suc n) = none-in ls n
+  none-in ls n = refl
 
   -- a session that starts again gains no entry
   restart-gains : (old new : StateOf S) (n : ℕ) → IsCall may Restarting old new → gained_cells n old new ≡ []
@@ -148,16 +119,12 @@ module _ {S : Type 0} (may : S → List KeyOf → AnswerOf → Type 0) where
 
   -- a call whose entries ask something leaves those that were there
   call-goes-on : (call : Call) (old new : StateOf S) (c : Cell) → IsCall may call old new → (own : List Step) → IsMadeOf call own → IsEntered c old new → AllGoOn own
-  call-goes-on (Loading loader keys outcomes) old new c h own made one = asking-go-on own made
-  call-goes-on (StoppedLoading loader keys) old new c h own made one = asking-go-on own made
   call-goes-on (Priming pair) old new c h own made one = rw made (tt, tt)
   call-goes-on (Clearing cell) old new c h own made one = rw made (tt, tt)
   call-goes-on (ClearingAll loader) old new c h own made one = rw made (tt, tt)
   call-goes-on Forgetting old new c h own made one = rw made tt
-  call-goes-on (Executing p text_of text rounds) old new c h own made one = asking-go-on own made
-  call-goes-on (StoppedExecuting p) old new c h own made one = asking-go-on own made
-  call-goes-on (ExecutingTogether rs reports) old new c h own made one = asking-go-on own made
   call-goes-on Restarting old new c h own made one = let none = rw (restart-gains old new c.0 h) at one in absurd none
+  call-goes-on call old new c h own made one = asking-go-on own made
 
 -- the round of a call that asks a cell: what came before it in the call, and after it
 record Found {S : Type 0} (may : S → List KeyOf → AnswerOf → Type 0) (old new : StateOf S) (c : Cell) : Type 0 where
@@ -286,11 +253,7 @@ module _ {S : Type 0} (may : ℕ → List KeyOf → AnswerOf → Type 0) (rules 
     where
       lost-fresh : (s : StateOf S) (loads : List Load) (steps : List Step) → AreFresh (after_step s (Lost loads)) steps → AreFresh s (Lost loads ∷ steps)
       lost-fresh s loads steps later = rw (lost-cells (modes_of rules) n s loads) later
-  asking-fresh s (Forgot ∷ steps) asking same h = absurd asking
-  asking-fresh s (Primed pair ∷ steps) asking same h = absurd asking
-  asking-fresh s (Cleared cell ∷ steps) asking same h = absurd asking
-  asking-fresh s (ClearedAll loader ∷ steps) asking same h = absurd asking
-  asking-fresh s (Restarted ∷ steps) asking same h = absurd asking
+  asking-fresh s steps asking same h = absurd asking
 
 module _ {S : Type 0} (may : S → List KeyOf → AnswerOf → Type 0) where
   pub together : (call : Call) (old new : StateOf S) (n : ℕ) → AreLimited (rules_of old) → IsCall may call old new → AreApart (entered_cells (session_modes old) n (stored_gained n old new))
@@ -306,13 +269,9 @@ module _ {S : Type 0} (may : S → List KeyOf → AnswerOf → Type 0) where
 
       go : (call : Call) (own : List Step) → Leads may old (Forgot ∷ own) new → IsMadeOf call own → AreSteps (may_at may old.loaders) (rules_of old) (after (rules_of old) old.memory Forgot) own → IsCall may call old new
           → AreApart (entered_cells (session_modes old) n (stored_gained n old new))
-      go (Loading loader keys outcomes) own leads made h is = fresh own leads made h
-      go (StoppedLoading loader keys) own leads made h is = fresh own leads made h
-      go (Executing p text_of text rounds) own leads made h is = fresh own leads made h
-      go (StoppedExecuting p) own leads made h is = fresh own leads made h
-      go (ExecutingTogether rs reports) own leads made h is = fresh own leads made h
       go Restarting own leads made h is = rw (restart-gains may old new n is) tt
       go (Priming pair) own leads made h is = rw (cells own leads (rw made (tt, tt)), made) tt
       go (Clearing cell) own leads made h is = rw (cells own leads (rw made (tt, tt)), made) tt
       go (ClearingAll loader) own leads made h is = rw (cells own leads (rw made (tt, tt)), made) tt
       go Forgetting own leads made h is = rw (cells own leads (rw made tt), made) tt
+      go call own leads made h is = fresh own leads made h

@@ -2,9 +2,8 @@ use Rattle.std.proofs.Common.{◌≡◌, ◌<◌, ◌+◌, suc, length, is_none,
 use Rattle.load_memory.specs.Pairs.{look}
 use Rattle.execution.specs.Front.{front, wanting, modes_wanted}
 use Rattle.load_rounds.specs.Executions.{plans_in, fronts}
-use Rattle.load_rounds.proofs.GoingOn.{none-go-on, all-go-on, go-on-length, next-fits, next-enough, first-plans, one-goes-on, one-front, wanting-modes, unreported-more}
+use Rattle.load_rounds.proofs.GoingOn.{none-go-on, all-go-on, go-on-length, next-fits, next-enough, first-plans, one-goes-on, one-front, wanting-modes, unreported-more, plans-set}
 use Rattle.load_rounds.proofs.Lacking.{wanting-append}
-use Rattle.load_rounds.proofs.Taking.{plans-set}
 use Rattle.load_rounds.proofs.plan_execution.go_on_all.Goals as goal
 
 pub loop-at-init : goal.loop-at-init

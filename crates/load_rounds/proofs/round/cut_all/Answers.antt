@@ -1,5 +1,5 @@
-use Rattle.std.proofs.Common.{◌≡◌, ◌≢◌, ◌<◌, ◌+◌, ◌++◌, ℕ, [], map, length, ap, ◌∙◌, sym, arith, false, Result, Ok, Err, ◌⊎◌, inl, inr, ◌≤◌, refl}
-use Rattle.std.specs.Prelude.{OnErr, vec_len}
+use Rattle.std.proofs.Common.{◌≡◌, ◌≢◌, ◌<◌, ◌+◌, ◌++◌, ℕ, [], map, length, ap, ◌∙◌, sym, arith, false, ◌⊎◌, inl, inr, ◌≤◌, refl}
+use Rattle.std.specs.Prelude.{vec_len}
 use Rattle.std.proofs.lemmas.Bool.{eqb-true, eqb-false}
 use Rattle.std.proofs.lemmas.List.{length-map, map-append}
 use Rattle.std.proofs.lemmas.List.Elements.{All-nil, All-append}
@@ -12,13 +12,10 @@ use Rattle.load_queue.proofs.IdentityLaws.{cut-over}
 use Rattle.load_queue.specs.Wanted.{keys_wanted}
 use Rattle.execution.specs.Rounds.{rule_of}
 use Rattle.load_rounds.specs.Rounds.{orders_by, first_keys}
+use Rattle.load_rounds.proofs.States.{on-err}
 use Rattle.load_rounds.proofs.Cutting.{asks-cut, identities-logged, cut-here, orders-past, logged-past, length-logged, enters-kept, enters-cut, more-orders, orders-skipped, enters-skipped, enters-all, orders-same, first-some}
 use Rattle.load_rounds.proofs.round.cut_all.Goals as goal
 use Rattle.load_rounds.proofs.round.cut_all.Goals.{then-not-is_empty, else-not-is_empty}
-
-on-err : {T E P : Type 0} (r : Result T E) → P → OnErr r P
-on-err (Ok x) h = tt
-on-err (Err e) h = h
 
 pub loop-loader-init : goal.loop-loader-init
 loop-loader-init g c =

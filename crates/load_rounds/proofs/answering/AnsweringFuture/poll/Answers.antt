@@ -3,12 +3,10 @@ use Rattle.load_rounds.specs.Sessions.{state_of}
 use Rattle.load_rounds.specs.Headline.{Headline}
 use Rattle.load_rounds.specs.SharedRounds.{ReportOf, report_of}
 use Rattle.load_rounds.specs.Answerings.{far_of}
+use Rattle.load_rounds.proofs.KeyByKey.{some-same}
 use Rattle.load_rounds.proofs.Polls.{poll-ran}
 use Rattle.load_rounds.proofs.Stages.{answered-one, stopped-one}
 use Rattle.load_rounds.proofs.answering.AnsweringFuture.poll.Goals as goal
-
-some-is : {X : Type 0} (x y : X) → Some x ≡ Some y → x ≡ y
-some-is x y e = cc e
 
 pub unreachable-requires : goal.unreachable-requires
 unreachable-requires g c =
@@ -26,11 +24,7 @@ unreachable-requires g c =
 
 pub returns-in-Ok-true-clause-again : goal.returns-in-Ok-true-clause-again
 returns-in-Ok-true-clause-again g c =
-    let may = g.S.LocalSource.may_tell in
-    let plan = c.self.inside.plan.now in
     let run = c.begin-session.result.1 in
-    let later = c.turn.new.self in
-    let now = state_of c.turn.new.session in
     let start = rw c.replace-far.ensures.value at c.begin-session.ensures in
     let plans = c.turn.ensures.kept.plans ∙ start.can.plans in
     let turned = rw c.in-Ok-true.field-0-test at c.in-Ok-true.ensures.turned in
@@ -47,7 +41,6 @@ returns-in-Ok-true-clause-polled g c =
     let plan = c.self.inside.plan.now in
     let run = c.begin-session.result.1 in
     let later = c.turn.new.self in
-    let now = state_of c.turn.new.session in
     let start = rw c.replace-far.ensures.value at c.begin-session.ensures in
     let plans = c.turn.ensures.kept.plans ∙ start.can.plans in
     let turned = rw c.in-Ok-true.field-0-test at c.in-Ok-true.ensures.turned in
@@ -71,7 +64,7 @@ returns-in-Some-clause-value g c =
     let turned = rw c.in-Ok-false.field-0-test at c.in-Ok-false.ensures.turned in
     rw (← c.self.view_is) (λ old underway.
     let done = answered-one g.P.Execute.program g.P.Execute.text_of g.P.Execute.loaders g.P.Execute.fits may old now plan later plans turned.3 (c.in-Ok-false.ensures.run old (start.since old underway)) in
-    let same : report_of c.in-Some.answer ≡ done.0 = some-is (report_of c.in-Some.answer) done.0 (rw c.in-Some.is at c.into_answer.ensures ∙ done.1) in
+    let same : report_of c.in-Some.answer ≡ done.0 = some-same (report_of c.in-Some.answer) done.0 (rw c.in-Some.is at c.into_answer.ensures ∙ done.1) in
     (subst (λ (t : ReportOf). Headline may old now (g.P.Execute.program plan) (g.P.Execute.text_of plan) t.text t.rounds) (sym same) done.2, tt))
 
 pub returns-in-Some-clause-polled : goal.returns-in-Some-clause-polled
@@ -85,7 +78,7 @@ returns-in-Some-clause-polled g c =
     let plans = c.turn.ensures.kept.plans ∙ start.can.plans in
     let turned = rw c.in-Ok-false.field-0-test at c.in-Ok-false.ensures.turned in
     let done = answered-one g.P.Execute.program g.P.Execute.text_of g.P.Execute.loaders g.P.Execute.fits may start.can.old now plan later plans turned.3 (c.in-Ok-false.ensures.run start.can.old start.can.is) in
-    let same : report_of c.in-Some.answer ≡ done.0 = some-is (report_of c.in-Some.answer) done.0 (rw c.in-Some.is at c.into_answer.ensures ∙ done.1) in
+    let same : report_of c.in-Some.answer ≡ done.0 = some-same (report_of c.in-Some.answer) done.0 (rw c.in-Some.is at c.into_answer.ensures ∙ done.1) in
     rw (← c.self.view_is) (record {
       plan = refl;
       round = tt;

@@ -2,12 +2,10 @@ use Rattle.std.proofs.Common.{◌≡◌, ◌∙◌, Some, None, sym, subst}
 use Rattle.load_rounds.specs.Sessions.{state_of}
 use Rattle.load_rounds.specs.Headline.{Headline}
 use Rattle.load_rounds.specs.SharedRounds.{ReportOf, report_of}
+use Rattle.load_rounds.proofs.KeyByKey.{some-same}
 use Rattle.load_rounds.proofs.Stages.{answered-one, stopped-one}
 use Rattle.load_rounds.proofs.States.{on-err}
 use Rattle.load_rounds.proofs.session.Session.answer.Goals as goal
-
-some-is : {X : Type 0} (x y : X) → Some x ≡ Some y → x ≡ y
-some-is x y e = cc e
 
 pub returns-in_err-run-clause-stopped : goal.returns-in_err-run-clause-stopped
 returns-in_err-run-clause-stopped g c =
@@ -30,5 +28,5 @@ returns-clause-answer g c =
     let plan = c.args.plan.now in
     let begun = c.begin-rounds.ensures.begun in
     let done = answered-one g.P.Execute.program g.P.Execute.text_of g.P.Execute.loaders g.P.Execute.fits g.S.LocalSource.may_tell old now plan c.run.new.self (c.run.ensures.kept.plans ∙ begun.same) c.in_ok-run.ensures.finished (c.run.ensures.run old begun.is) in
-    let same : report_of c.in-Some.answer ≡ done.0 = some-is (report_of c.in-Some.answer) done.0 (rw c.in-Some.is at c.into_answer.ensures ∙ done.1) in
+    let same : report_of c.in-Some.answer ≡ done.0 = some-same (report_of c.in-Some.answer) done.0 (rw c.in-Some.is at c.into_answer.ensures ∙ done.1) in
     subst (λ (t : ReportOf). Headline g.S.LocalSource.may_tell old now (g.P.Execute.program plan) (g.P.Execute.text_of plan) t.text t.rounds) (sym same) done.2
