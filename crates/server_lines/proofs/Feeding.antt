@@ -152,28 +152,20 @@ abbrev Stuck : DevicesOf → Type 0
 Stuck d = HasFault IsStuck d.writer_old d.writer_new
 
 at_other : (e : ServeFault) (P W Q V : Type 0) → (e ≡ fault.WriteFault → ⊥) → AtFault e P P W (λ _. P) → (P → Q) → AtFault e Q Q V (λ _. Q)
-at_other fault.LineTooLong P W Q V other h k = k h
-at_other fault.ReadFault P W Q V other h k = k h
 at_other fault.WriteFault P W Q V other h k = absurd (other refl)
-at_other fault.NoMemory P W Q V other h k = k h
 at_other fault.BadCount P W Q V other h k = absurd h
-at_other fault.TraceFault P W Q V other h k = k h
+at_other e P W Q V other h k = k h
 
 steady_at : (e : ServeFault) (P W : Type 0) → (e ≡ fault.WriteFault → ⊥) → AtFault e P P W (λ _. P) → P
-steady_at fault.LineTooLong P W other h = h
-steady_at fault.ReadFault P W other h = h
 steady_at fault.WriteFault P W other h = absurd (other refl)
-steady_at fault.NoMemory P W other h = h
 steady_at fault.BadCount P W other h = absurd h
-steady_at fault.TraceFault P W other h = h
+steady_at e P W other h = h
 
 any_read : (e : ServeFault) (P Q : Type 0) → AtFault e P Q (P ⊎ Q) (λ _. P) → P ⊎ Q
-any_read fault.LineTooLong P Q h = inl h
 any_read fault.ReadFault P Q h = inr h
 any_read fault.WriteFault P Q h = h
-any_read fault.NoMemory P Q h = inl h
 any_read fault.BadCount P Q h = absurd h
-any_read fault.TraceFault P Q h = inl h
+any_read e P Q h = inl h
 
 module _ {F : Type 0} (A : AnsweringOf F) where
   pub are_append : (f g h : F) (ls ms : List (List ℕ)) (x y : List ℕ) → AreAnswers A f ls x g → AreAnswers A g ms y h → AreAnswers A f (ls ++ ms) (x ++ y) h
@@ -322,8 +314,6 @@ module _ {F : Type 0} (A : AnsweringOf F) where
       → AreAnswers A f lines x mid → Sends a p b q x
       → AtFault e ⊥ ⊥ (WithAnswers A mid (last_of last) g (λ out. IsCut b c (q ++ out))) (λ k. (last ≢ []) × A.stops k mid last g × Sends b q c r [])
       → Fails A f g (flat_map ended lines ++ last) (Sends a p c r) (λ t. IsCut a c (p ++ t)) left e
-  fails_last fault.LineTooLong f mid g a b c p q r lines last x left each is end are sent h = absurd h
-  fails_last fault.ReadFault f mid g a b c p q r lines last x left each is end are sent h = absurd h
   fails_last fault.WriteFault f mid g a b c p q r lines last x left each is end are sent (y, ys, k) =
       inr record {
         end = end;
@@ -336,40 +326,30 @@ module _ {F : Type 0} (A : AnsweringOf F) where
         record { lines = lines; rest = last; output = x; state = mid; splits = record { whole = refl; each = each }; answers = are },
         (inr (last, next_last last (IsAtEnd left) is some end, stops), sends_nothing a b c p q r x sent k, behind_line last is),
       )
-  fails_last fault.BadCount f mid g a b c p q r lines last x left each is end are sent h = absurd h
   fails_last fault.TraceFault f mid g a b c p q r lines last x left each is end are sent (some, stops, k) =
       inl (
         record { lines = lines; rest = last; output = x; state = mid; splits = record { whole = refl; each = each }; answers = are },
         ((last, next_last last (IsAtEnd left) is some end, stops), sends_nothing a b c p q r x sent k, behind_line last is),
       )
+  fails_last e f mid g a b c p q r lines last x left each is end are sent h = absurd h
 
   -- says what was pending went out after another fault than the writer's
   closed_at : (e : ServeFault) (f g : F) (a b c left : Option (List ℕ)) (p text : List ℕ) (Cut : List ℕ → Type 0) → IsNoWriteFault e
       → Appends b c p → Fails A f g text (Sends a [] b p) Cut left e → Fails A f g text (Appends a c) (IsCut a c) left e
-  closed_at fault.LineTooLong f g a b c left p text Cut other h (inl (s, k)) = inl (s, (k.0, sends_close a b c p s.output k.1 h, k.2))
-  closed_at fault.LineTooLong f g a b c left p text Cut other h (inr k) = absurd k
-  closed_at fault.ReadFault f g a b c left p text Cut other h (inl (s, k)) = inl (s, (k.0, sends_close a b c p s.output k.1 h, k.2))
-  closed_at fault.ReadFault f g a b c left p text Cut other h (inr k) = absurd k
   closed_at fault.WriteFault f g a b c left p text Cut other h k = absurd other
-  closed_at fault.NoMemory f g a b c left p text Cut other h (inl (s, k)) = inl (s, (k.0, sends_close a b c p s.output k.1 h, k.2))
-  closed_at fault.NoMemory f g a b c left p text Cut other h (inr k) = absurd k
   closed_at fault.BadCount f g a b c left p text Cut other h k = absurd other
-  closed_at fault.TraceFault f g a b c left p text Cut other h (inl (s, k)) = inl (s, (k.0, sends_close a b c p s.output k.1 h, k.2))
-  closed_at fault.TraceFault f g a b c left p text Cut other h (inr k) = absurd k
+  closed_at e f g a b c left p text Cut other h (inl (s, k)) = inl (s, (k.0, sends_close a b c p s.output k.1 h, k.2))
+  closed_at e f g a b c left p text Cut other h (inr k) = absurd k
 
   -- or didn't go out whole
   cut_at : (e : ServeFault) (f g : F) (a b c left : Option (List ℕ)) (p text : List ℕ) (Cut : List ℕ → Type 0) → IsNoWriteFault e
       → IsCut b c p → Fails A f g text (Sends a [] b p) Cut left e → Fails A f g text (Appends a c) (IsCut a c) left fault.WriteFault
-  cut_at fault.LineTooLong f g a b c left p text Cut other h (inl (s, k)) = inl (s, (inl k.0, cut_close a b c p s.output k.1 h))
-  cut_at fault.LineTooLong f g a b c left p text Cut other h (inr k) = absurd k
-  cut_at fault.ReadFault f g a b c left p text Cut other h (inl (s, k)) = inl (s, (inl k.0, cut_close a b c p s.output k.1 h))
-  cut_at fault.ReadFault f g a b c left p text Cut other h (inr k) = absurd k
   cut_at fault.WriteFault f g a b c left p text Cut other h k = absurd other
-  cut_at fault.NoMemory f g a b c left p text Cut other h (inl (s, k)) = inl (s, (stopped_may at.NoMemory s.state g s.rest (IsAtEnd left) k.0, cut_close a b c p s.output k.1 h))
-  cut_at fault.NoMemory f g a b c left p text Cut other h (inr k) = absurd k
   cut_at fault.BadCount f g a b c left p text Cut other h k = absurd other
+  cut_at fault.NoMemory f g a b c left p text Cut other h (inl (s, k)) = inl (s, (stopped_may at.NoMemory s.state g s.rest (IsAtEnd left) k.0, cut_close a b c p s.output k.1 h))
   cut_at fault.TraceFault f g a b c left p text Cut other h (inl (s, k)) = inl (s, (stopped_may at.TraceFault s.state g s.rest (IsAtEnd left) k.0, cut_close a b c p s.output k.1 h))
-  cut_at fault.TraceFault f g a b c left p text Cut other h (inr k) = absurd k
+  cut_at e f g a b c left p text Cut other h (inl (s, k)) = inl (s, (inl k.0, cut_close a b c p s.output k.1 h))
+  cut_at e f g a b c left p text Cut other h (inr k) = absurd k
 
   -- nothing more was written where the writer failed
   writer_failed : (f g : F) (left : Option (List ℕ)) (text : List ℕ) (Sent More Cut : List ℕ → Type 0) → Fails A f g text Sent Cut left fault.WriteFault → Fails A f g text More Cut left fault.WriteFault

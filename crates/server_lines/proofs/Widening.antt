@@ -75,23 +75,18 @@ module _ {F G : Type 0} (A : AnsweringOf F) (B : AnsweringOf G) (view : F → G)
           → AtFault e ((view g ≡ view s.state) × Sent s.output × StartsLong s.rest) ((view g ≡ view s.state) × Sent s.output × Read s.rest)
           (MayStop B (view s.state) s.rest AtEnd (view g) × Cut s.output) (λ e. IsStopped B e (view s.state) s.rest AtEnd (view g) × Sent s.output × IsUnanswered s.rest)
           × Holds g
-      cases fault.LineTooLong k = ((ap view k.0, k.1, k.2), subst Holds (sym k.0) kept)
-      cases fault.ReadFault k = ((ap view k.0, k.1, k.2), subst Holds (sym k.0) kept)
       cases fault.WriteFault k = let may = may_widened s.state s.rest AtEnd g kept k.0 in ((may.0, k.1), may.1)
       cases fault.NoMemory k = let is = is_widened at.NoMemory s.state s.rest AtEnd g kept k.0 in ((is.0, k.1, k.2), is.1)
       cases fault.BadCount k = absurd k
       cases fault.TraceFault k = let is = is_widened at.TraceFault s.state s.rest AtEnd g kept k.0 in ((is.0, k.1, k.2), is.1)
+      cases e k = ((ap view k.0, k.1, k.2), subst Holds (sym k.0) kept)
 
   at_end_widened : (e : ServeFault) (f g : F) (text : List ℕ) (Cut : List ℕ → Type 0) (left : Option (List ℕ)) → Holds f
       → AtFault e ⊥ ⊥ (FailsAtEnd A f g text Cut left) (λ _. ⊥) → AtFault e ⊥ ⊥ (FailsAtEnd B (view f) (view g) text Cut left) (λ _. ⊥) × Holds g
-  at_end_widened fault.LineTooLong f g text Cut left holds h = absurd h
-  at_end_widened fault.ReadFault f g text Cut left holds h = absurd h
   at_end_widened fault.WriteFault f g text Cut left holds h =
       let are = are_widened (input_lines text) f h.output g holds h.answers in
       (record { end = h.end; output = h.output; answers = are.0; cut = h.cut }, are.1)
-  at_end_widened fault.NoMemory f g text Cut left holds h = absurd h
-  at_end_widened fault.BadCount f g text Cut left holds h = absurd h
-  at_end_widened fault.TraceFault f g text Cut left holds h = absurd h
+  at_end_widened e f g text Cut left holds h = absurd h
 
   fails_widened : (e : ServeFault) (f g : F) (text : List ℕ) (Sent Cut : List ℕ → Type 0) (left : Option (List ℕ)) → Holds f
       → Fails A f g text Sent Cut left e → Fails B (view f) (view g) text Sent Cut left e × Holds g
