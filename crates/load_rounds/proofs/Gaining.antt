@@ -79,13 +79,8 @@ module _ (modes : List KeyMode) where
 
 -- the step leaves the entries of the logs
 abbrev pub GoesOn : Step → Type 0
-GoesOn Forgot = Unit {0}
-GoesOn (AskedLoads loads replies) = Unit {0}
-GoesOn (Lost loads) = Unit {0}
-GoesOn (Primed pair) = Unit {0}
-GoesOn (Cleared cell) = Unit {0}
-GoesOn (ClearedAll loader) = Unit {0}
 GoesOn Restarted = ⊥
+GoesOn step = Unit {0}
 
 abbrev pub AllGoOn : List Step → Type 0
 AllGoOn [] = Unit {0}
@@ -100,11 +95,7 @@ module _ {S : Type 0} where
   abbrev step_entries : StateOf S → ℕ → Step → List AskedOf
   step_entries s n (AskedLoads loads replies) = new_entries (slice_get s.loaders n) true (s.rounds + 1) (keys_for n loads)
   step_entries s n (Lost loads) = new_entries (slice_get s.loaders n) false (s.rounds + 1) (keys_for n loads)
-  step_entries s n Forgot = []
-  step_entries s n (Primed pair) = []
-  step_entries s n (Cleared cell) = []
-  step_entries s n (ClearedAll loader) = []
-  step_entries s n Restarted = []
+  step_entries s n step = []
 
   abbrev all_entries : StateOf S → ℕ → List Step → List AskedOf
   all_entries s n [] = []
@@ -227,8 +218,4 @@ module _ {S : Type 0} (modes : List KeyMode) (n : ℕ) where
       go step (inr i) more same = later step (more i) same
       go (AskedLoads loads replies) (inl i) more same = record { before = []; loads = loads; replies = replies; rest = steps; is = refl; ordered = asked-orders s loads replies c limited i }
       go (Lost loads) (inl i) more same = absurd (lost-none s loads c i)
-      go Forgot (inl i) more same = absurd i
-      go (Primed pair) (inl i) more same = absurd i
-      go (Cleared cell) (inl i) more same = absurd i
-      go (ClearedAll loader) (inl i) more same = absurd i
-      go Restarted (inl i) more same = absurd i
+      go step (inl i) more same = absurd i

@@ -102,12 +102,7 @@ module _ {S : Type 0} where
     where
       one : (s : StateOf S) (step : Step) → (after_step s step).memory ≡ after (rules_of s) s.memory step
       one s Forgot = refl
-      one s (AskedLoads loads replies) = refl
-      one s (Lost loads) = refl
-      one s (Primed pair) = refl
-      one s (Cleared cell) = refl
-      one s (ClearedAll loader) = refl
-      one s Restarted = refl
+      one s step = refl
 
   steps-append : (s : StateOf S) (xs ys : List Step) → after_steps s (xs ++ ys) ≡ after_steps (after_steps s xs) ys
   steps-append s [] ys = refl
