@@ -85,24 +85,19 @@ asking-primes pair steps h i = h
 primed-is : (p q : PairOf) → Primed p ≡ Primed q → p ≡ q
 primed-is p q e = cc e
 
+not-primed : (pair : PairOf) (step : Step) → (Primed pair ≡ step → ⊥) → IsOneOf (Primed pair) (step ∷ []) → ⊥
+not-primed pair step other (inl e) = other e
+not-primed pair step other (inr j) = j
+
 call-primes : (pair : PairOf) (call : Call) (own : List Step) → IsMadeOf call own → IsOneOf (Primed pair) own → Priming pair ≡ call
 call-primes pair (Priming p) own h i = go (rw h at i) where
   go : IsOneOf (Primed pair) (Primed p ∷ []) → Priming pair ≡ Priming p
   go (inl e) = ap Priming (primed-is pair p e)
   go (inr j) = absurd j
-call-primes pair (Clearing cell) own h i = go (rw h at i) where
-  go : IsOneOf (Primed pair) (Cleared cell ∷ []) → Priming pair ≡ Clearing cell
-  go (inl e) = absurd (cc e)
-  go (inr j) = absurd j
-call-primes pair (ClearingAll n) own h i = go (rw h at i) where
-  go : IsOneOf (Primed pair) (ClearedAll n ∷ []) → Priming pair ≡ ClearingAll n
-  go (inl e) = absurd (cc e)
-  go (inr j) = absurd j
+call-primes pair (Clearing cell) own h i = absurd (not-primed pair (Cleared cell) (λ e. cc e) (rw h at i))
+call-primes pair (ClearingAll n) own h i = absurd (not-primed pair (ClearedAll n) (λ e. cc e) (rw h at i))
 call-primes pair Forgetting own h i = let none = rw h at i in absurd none
-call-primes pair Restarting own h i = go (rw h at i) where
-  go : IsOneOf (Primed pair) (Restarted ∷ []) → Priming pair ≡ Restarting
-  go (inl e) = absurd (cc e)
-  go (inr j) = absurd j
+call-primes pair Restarting own h i = absurd (not-primed pair Restarted (λ e. cc e) (rw h at i))
 call-primes pair call own h i = absurd (asking-primes pair own h i)
 
 pub calls-prime : (pair : PairOf) (calls : List Call) (steps : List Step) → AreMadeOf calls steps → IsOneOf (Primed pair) steps → IsOneOf (Priming pair) calls
