@@ -1,17 +1,21 @@
 -- Steps of the loops over lines.
 use Rattle.std.proofs.Common.{subst, inl, inr, ne_eqb, cond, ◌≡◌, ◌≢◌, ◌⊎◌, ℕ, ◌+◌, ◌<◌, ◌≤◌, List, [], ◌∷◌, ◌++◌, length, take, refl, sym, ap, ◌∙◌, append_assoc, append-nil, arith, length-append}
-use Rattle.std.specs.Prelude.{Option, Some, None, Ok, Err}
+use Rattle.std.specs.Prelude.{Option, Some, None, Result, Ok, Err, String, string_bytes}
+use Rattle.std.specs.Fn.{CalledAt}
+use denote.Param.Members.{Mut}
+use denote.Ref.{Bor}
+use Rattle.std.specs.declared.alloc.Global.{Global}
 use Rattle.std.specs.Io.KnownBytes.{Appends, Consumes, Keeps, IsAtEnd}
 use Rattle.std.specs.List.{All, flat_map}
 use Rattle.std.proofs.lemmas.List.{flat_map_more}
 use Rattle.std.proofs.lemmas.Grind.{common_steps}
 use Rattle.std.proofs.lemmas.List.Concat.{flat_map-append}
 use Rattle.std.proofs.lemmas.List.Elements.{All-nil, All-cons, All-head, All-tail, All-append, All-push}
-use Rattle.server_lines.specs.Answering.{AnsweringOf, AreAnswers, FrontOf, IsNext, IsStopped, MayStop, StopsOne, StopsNext, WithAnswer, WithAnswers}
+use Rattle.server_lines.specs.Answering.{AnsweringOf, AreAnswers, FrontOf, IsNext, IsStopped, MayStop, Stops, StopsNext, WithAnswer, WithAnswers, by_calls}
 use Rattle.server_lines.specs.Lines.{HasNoLineFeed, IsLine, Splits, ended, line_feed, limit, input_lines, last_of, on_first}
 use Rattle.server_lines.specs.Output.{Sends, IsCut}
 use Rattle.server_lines.specs.Devices.{CountsOf, DevicesOf, HasFault, IsFlushed, IsReadOut, IsSteady, IsStuck}
-use Rattle.server_lines.specs.Serving.{block_size, IsUnanswered, StartsLong, AtFault, Stopped, IsAnswered, Fails, ReadsAll, StopsAt, CountsServing, Serves}
+use Rattle.server_lines.specs.Serving.{block_size, IsGiven, IsUnanswered, StartsLong, AtFault, Stopped, IsAnswered, Fails, ReadsAll, StopsAt, CountsServing, Serves}
 use Rattle.server_lines.specs.declared.fault.ServeFault.{ServeFault}
 use Rattle.server_lines.specs.declared.fault.ServeFault.TheVariants as fault
 use Rattle.server_lines.specs.declared.fault.LineFault.{LineFault}
@@ -74,6 +78,10 @@ lines_split (line ∷ lines) last h k =
 last_each : (last : List ℕ) → IsLine last → All IsLine (last_of last)
 last_each [] h = All-nil IsLine
 last_each (b ∷ bs) h = All-cons IsLine (b ∷ bs) [] h (All-nil IsLine)
+
+pub one_last : (last : List ℕ) → (length last ≡ 0 → ⊥) → 1 ≡ length (last_of last)
+one_last [] some = absurd (some refl)
+one_last (b ∷ bs) some = refl
 
 -- a text with a line feed isn't a line
 feed_in : (xs after : List ℕ) → HasNoLineFeed (xs ++ line_feed ∷ after) → ⊥
@@ -167,6 +175,19 @@ any_read fault.WriteFault P Q h = h
 any_read fault.BadCount P Q h = absurd h
 any_read e P Q h = inl h
 
+-- what a call gave answers its line
+module _ {F : Type 0} (m : Mut F (Bor (List ℕ) × Unit {0}) (Result (String Global) LineFault)) where
+  pub gives_called : (f g : F) (line : List ℕ) (given : Result (String Global) LineFault) (P : List ℕ → Type 0) → CalledAt m f line given g → IsGiven given P → WithAnswer (by_calls m) f line g P
+  gives_called f g line (Ok text) P called h = (string_bytes text, record { given = text; called = called; bytes = refl }, h)
+  gives_called f g line (Err e) P called h = absurd h
+
+  pub fails_called : (e : ServeFault) (f g : F) (line : List ℕ) (given : Result (String Global) LineFault) (Cut : List ℕ → Type 0) (Kept : Type 0) → CalledAt m f line given g
+      → AtFault e ⊥ ⊥ (IsGiven given Cut) (λ k. (given ≡ Err k) × Kept) → AtFault e ⊥ ⊥ (WithAnswer (by_calls m) f line g Cut) (λ k. Stops m k f line g × Kept)
+  fails_called fault.WriteFault f g line given Cut Kept called h = gives_called f g line given Cut called h
+  fails_called fault.NoMemory f g line given Cut Kept called (is, kept) = (subst (λ r. CalledAt m f line r g) is called, kept)
+  fails_called fault.TraceFault f g line given Cut Kept called (is, kept) = (subst (λ r. CalledAt m f line r g) is called, kept)
+  fails_called e f g line given Cut Kept called h = absurd h
+
 module _ {F : Type 0} (A : AnsweringOf F) where
   pub are_append : (f g h : F) (ls ms : List (List ℕ)) (x y : List ℕ) → AreAnswers A f ls x g → AreAnswers A g ms y h → AreAnswers A f (ls ++ ms) (x ++ y) h
   are_append f g h [] ms x y (e, s) k = subst (λ t. AreAnswers A f ms (t ++ y) h) (sym e) (subst (λ t. AreAnswers A t ms y h) s k)
@@ -178,34 +199,54 @@ module _ {F : Type 0} (A : AnsweringOf F) where
   pub are_more : (f g h : F) (ls : List (List ℕ)) (l x t : List ℕ) → AreAnswers A f ls x g → A.gives g l t h → AreAnswers A f (ls ++ l ∷ []) (x ++ ended t) h
   are_more f g h ls l x t is a = are_append f g h ls (l ∷ []) x (ended t) is (are_one g h l t a)
 
-  -- says where the next line met a fault
-  pub stopped_at : (e : ServeFault) (f mid g : F) (a b c : Option (List ℕ)) (p q r : List ℕ) (text held line after rest x : List ℕ) (lines : List (List ℕ)) (Read : List ℕ → Type 0) (AtEnd : Type 0)
+  -- the last line, where there is one
+  pub last_gives : (f g : F) (last : List ℕ) (P : List ℕ → Type 0) → (length last ≡ 0 → ⊥) → WithAnswer A f last g P → WithAnswers A f (last_of last) g P
+  last_gives f g [] P some h = absurd (some refl)
+  last_gives f g (b ∷ bs) P some (t, a, h) = (ended t, are_one f g (b ∷ bs) t a, h)
+
+  pub last_stops : (e : ServeFault) (f g : F) (last : List ℕ) (Cut : List ℕ → Type 0) (Kept : Type 0) → (length last ≡ 0 → ⊥)
+      → AtFault e ⊥ ⊥ (WithAnswer A f last g Cut) (λ k. A.stops k f last g × Kept) → AtFault e ⊥ ⊥ (WithAnswers A f (last_of last) g Cut) (λ k. (last ≢ []) × A.stops k f last g × Kept)
+  last_stops fault.WriteFault f g last Cut Kept some h = last_gives f g last Cut some h
+  last_stops fault.NoMemory f g last Cut Kept some (stops, kept) = (λ none. some (ap length none), stops, kept)
+  last_stops fault.TraceFault f g last Cut Kept some (stops, kept) = (λ none. some (ap length none), stops, kept)
+  last_stops e f g last Cut Kept some h = absurd h
+
+  -- says where the next line is too long, or wasn't asked for
+  pub stopped_before : (e : ServeFault) (f mid : F) (a b : Option (List ℕ)) (p q : List ℕ) (text held line after rest x : List ℕ) (lines : List (List ℕ)) (Cut Read : List ℕ → Type 0) (AtEnd : Type 0)
       → length rest ≤ block_size → rest ≡ line ++ line_feed ∷ after → text ≡ flat_map ended lines ++ (held ++ rest) → All IsLine lines → IsLine held → HasNoLineFeed line
       → AreAnswers A f lines x mid → Sends a p b q x
-      → AtFault e
-      ((g ≡ mid) × Sends b q c r [] × (limit < length (held ++ line)))
-      ⊥
-      ((length (held ++ line) ≤ limit) × WithAnswer A mid (held ++ line) g (λ out. IsCut b c (q ++ out)))
-      (λ k. (length (held ++ line) ≤ limit) × StopsOne A k mid (held ++ line) g × Sends b q c r [])
-      → Stopped A f g text (Sends a p c r) (λ t. IsCut a c (p ++ t)) Read AtEnd e
-  stopped_at fault.LineTooLong f mid g a b c p q r text held line after rest x lines Read AtEnd few cut whole each is one are sent h = (
+      → AtFault e (limit < length (held ++ line)) ⊥ ⊥ (λ k. k ≡ at.NoMemory)
+      → Stopped A f mid text (Sends a p b q) Cut Read AtEnd e
+  stopped_before fault.LineTooLong f mid a b p q text held line after rest x lines Cut Read AtEnd few cut whole each is one are sent h = (
     record { lines = lines; rest = held ++ rest; output = x; state = mid; splits = record { whole = whole; each = each }; answers = are },
     (
-      h.0,
-      sends_nothing a b c p q r x sent h.1,
+      refl,
+      sent,
       (
         held ++ line,
         line_feed ∷ after,
         record {
           front = ap (λ l. held ++ l) cut ∙ sym (append_assoc held line (line_feed ∷ after));
           one = All-append (λ b. b ≢ line_feed) held line is.one one;
-          long = h.2;
+          long = h;
         },
       ),
     ),
   )
-  stopped_at fault.ReadFault f mid g a b c p q r text held line after rest x lines Read AtEnd few cut whole each is one are sent h = absurd h
-  stopped_at fault.WriteFault f mid g a b c p q r text held line after rest x lines Read AtEnd few cut whole each is one are sent (short, (t, answer, k)) = (
+  stopped_before fault.NoMemory f mid a b p q text held line after rest x lines Cut Read AtEnd few cut whole each is one are sent h = (
+    record { lines = lines; rest = held ++ rest; output = x; state = mid; splits = record { whole = whole; each = each }; answers = are },
+    (inl refl, sent, behind held rest is few),
+  )
+  stopped_before fault.TraceFault f mid a b p q text held line after rest x lines Cut Read AtEnd few cut whole each is one are sent h = absurd (cc h)
+  stopped_before e f mid a b p q text held line after rest x lines Cut Read AtEnd few cut whole each is one are sent h = absurd h
+
+  -- says where a fault kept the next line from its answer, or the writer failed in that
+  pub stopped_at : (e : ServeFault) (f mid g : F) (a b c : Option (List ℕ)) (p q r : List ℕ) (text held line after rest x : List ℕ) (lines : List (List ℕ)) (Read : List ℕ → Type 0) (AtEnd : Type 0)
+      → length rest ≤ block_size → rest ≡ line ++ line_feed ∷ after → text ≡ flat_map ended lines ++ (held ++ rest) → All IsLine lines → IsLine held → HasNoLineFeed line
+      → AreAnswers A f lines x mid → Sends a p b q x → length (held ++ line) ≤ limit
+      → AtFault e ⊥ ⊥ (WithAnswer A mid (held ++ line) g (λ out. IsCut b c (q ++ out))) (λ k. A.stops k mid (held ++ line) g × Sends b q c r [])
+      → Stopped A f g text (Sends a p c r) (λ t. IsCut a c (p ++ t)) Read AtEnd e
+  stopped_at fault.WriteFault f mid g a b c p q r text held line after rest x lines Read AtEnd few cut whole each is one are sent short (t, answer, k) = (
     record {
       lines = lines ++ (held ++ line) ∷ [];
       rest = after;
@@ -219,19 +260,15 @@ module _ {F : Type 0} (A : AnsweringOf F) where
     },
     (inl refl, cut_sends a b c p q x (ended t) sent k),
   )
-  stopped_at fault.NoMemory f mid g a b c p q r text held line after rest x lines Read AtEnd few cut whole each is one are sent (short, stop, k) = (
+  stopped_at fault.NoMemory f mid g a b c p q r text held line after rest x lines Read AtEnd few cut whole each is one are sent short (stops, k) = (
     record { lines = lines; rest = held ++ rest; output = x; state = mid; splits = record { whole = whole; each = each }; answers = are },
-    (may stop, sends_nothing a b c p q r x sent k, behind held rest is few),
+    (inr (held ++ line, next_line held line after rest AtEnd cut is one short, stops), sends_nothing a b c p q r x sent k, behind held rest is few),
   )
-    where
-      may : (g ≡ mid) ⊎ A.stops at.NoMemory mid (held ++ line) g → IsStopped A at.NoMemory mid (held ++ rest) AtEnd g
-      may (inl same) = inl same
-      may (inr stops) = inr (held ++ line, next_line held line after rest AtEnd cut is one short, stops)
-  stopped_at fault.BadCount f mid g a b c p q r text held line after rest x lines Read AtEnd few cut whole each is one are sent h = absurd h
-  stopped_at fault.TraceFault f mid g a b c p q r text held line after rest x lines Read AtEnd few cut whole each is one are sent (short, stops, k) = (
+  stopped_at fault.TraceFault f mid g a b c p q r text held line after rest x lines Read AtEnd few cut whole each is one are sent short (stops, k) = (
     record { lines = lines; rest = held ++ rest; output = x; state = mid; splits = record { whole = whole; each = each }; answers = are },
     ((held ++ line, next_line held line after rest AtEnd cut is one short, stops), sends_nothing a b c p q r x sent k, behind held rest is few),
   )
+  stopped_at e f mid g a b c p q r text held line after rest x lines Read AtEnd few cut whole each is one are sent short h = absurd h
 
   stops_next : (e : LineFault) (s g : F) (rest : List ℕ) (AtEnd : Type 0) → StopsNext A e s rest ⊥ g → StopsNext A e s rest AtEnd g
   stops_next e s g rest AtEnd (line, next, stops) = (line, record { first = next.first; whole = λ none. absurd (next.whole none); short = next.short }, stops)

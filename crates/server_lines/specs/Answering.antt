@@ -72,11 +72,6 @@ pub record IsNext (rest line : List ℕ) (AtEnd : Type 0) : Type 0 where
   pub whole : HasNoLineFeed rest → AtEnd
   pub short : length line ≤ limit
 
--- a fault keeps the line from its answer, and left g; memory may run out before the line is asked for
-abbrev pub StopsOne : {F : Type 0} → AnsweringOf F → LineFault → F → List ℕ → F → Type 0
-StopsOne A NoMemory f line g = (g ≡ f) ⊎ A.stops NoMemory f line g
-StopsOne A TraceFault f line g = A.stops TraceFault f line g
-
 -- a fault keeps the next line from its answer, and left g
 abbrev pub StopsNext : {F : Type 0} → AnsweringOf F → LineFault → F → List ℕ → Type 0 → F → Type 0
 StopsNext A fault f rest AtEnd g = (line : List ℕ) × IsNext rest line AtEnd × A.stops fault f line g

@@ -1,6 +1,6 @@
 -- Definitions of what serving reads and writes.
 -- The promise of serving is one record (Serves), so a caller that serves by it hands on all of it by one lemma.
-use Rattle.std.specs.Prelude.{◌≡◌, ◌≢◌, ◌<◌, ◌≤◌, ◌+◌, ◌⊎◌, ℕ, List, [], ◌++◌, length, Option, Result, IfOk, IfErr, OnOk, MatchResult, String}
+use Rattle.std.specs.Prelude.{◌≡◌, ◌≢◌, ◌<◌, ◌≤◌, ◌+◌, ◌⊎◌, ℕ, List, [], ◌++◌, length, Option, Result, IfOk, IfErr, OnOk, MatchResult, Err, String, string_bytes}
 use Rattle.std.specs.List.{All}
 use Rattle.std.specs.Io.KnownBytes.{Appends, Consumes, IsAtEnd}
 use Rattle.std.specs.Global.{Vec}
@@ -12,9 +12,9 @@ use Rattle.server_lines.specs.declared.fault.ServeFault.{ServeFault}
 use Rattle.server_lines.specs.declared.fault.ServeFault.TheVariants as fault
 use Rattle.server_lines.specs.declared.fault.LineFault.{LineFault}
 use Rattle.server_lines.specs.declared.fault.LineFault.TheVariants.{NoMemory, TraceFault}
-use Rattle.server_lines.specs.Answering.{AnsweringOf, by_calls, FrontOf, IsOutput, IsStopped, MayStop, StopsOne, WithAnswer, WithAnswers}
+use Rattle.server_lines.specs.Answering.{AnsweringOf, by_calls, FrontOf, IsOutput, IsStopped, MayStop, WithAnswers}
 use Rattle.server_lines.specs.Devices.{bound, CountsOf, DevicesOf, HasFault, IsFlushed, IsReadOut, IsSteady, IsStuck}
-use Rattle.server_lines.specs.Lines.{limit, HasNoLineFeed, IsLine, IsLong, Splits, input_lines, last_of}
+use Rattle.server_lines.specs.Lines.{limit, ended, HasNoLineFeed, IsLine, IsLong, Splits, input_lines, last_of}
 use Rattle.server_lines.specs.Output.{Sends, SendsBy, CutsBy, IsCut}
 
 -- says what holds at each fault; workers aren't counted while lines are served
@@ -99,14 +99,18 @@ WriterFlushed counts result = MatchResult result (λ _. IsFlushed counts)
 
 -- ---- lines and blocks, by a counted writer with what is pending before and later
 
--- the writer failed in what was pending and the answer of the line, or a fault kept the line from its answer
-abbrev pub FailsAnswer : {F D : Type 0} → AnsweringOf F → F → F → List ℕ → (D → Option (List ℕ))
-    → CountedDevice D → Vec ℕ → CountedDevice D → Vec ℕ → ServeFault → Type 0
-FailsAnswer A f g line contents old pending new later fault =
-    AtFault fault ⊥ ⊥ (WithAnswer A f line g (CutsBy contents old pending new))
-    (λ e. A.stops e f line g × SendsBy contents old pending new later [])
+-- a call gave an answer, and of it and its line feed this holds
+abbrev pub IsGiven : Result (String Global) LineFault → (List ℕ → Type 0) → Type 0
+IsGiven given P = MatchResult given (λ text. P (ended (string_bytes text))) (λ _. ⊥)
 
--- says the same of the last line, where there is one
+-- the writer failed in what was pending and the answer that a call gave, or the call gave a fault
+abbrev pub FailsAnswer : {D : Type 0} → Result (String Global) LineFault → (D → Option (List ℕ))
+    → CountedDevice D → Vec ℕ → CountedDevice D → Vec ℕ → ServeFault → Type 0
+FailsAnswer given contents old pending new later fault =
+    AtFault fault ⊥ ⊥ (IsGiven given (CutsBy contents old pending new))
+    (λ e. (given ≡ Err e) × SendsBy contents old pending new later [])
+
+-- the writer failed in what was pending and the answer of the last line, or a fault kept that from its answer
 abbrev pub FailsLast : {F D : Type 0} → AnsweringOf F → F → F → Vec ℕ → (D → Option (List ℕ))
     → CountedDevice D → Vec ℕ → CountedDevice D → Vec ℕ → ServeFault → Type 0
 FailsLast A f g last contents old pending new later fault =
@@ -114,24 +118,10 @@ FailsLast A f g last contents old pending new later fault =
     (λ e. (last.items ≢ []) × A.stops e f last.items g
     × SendsBy contents old pending new later [])
 
--- the line that was held with its end isn't too long, its answer was sent, and nothing is held
-abbrev pub Ends : {F D : Type 0} → AnsweringOf F → F → F → Vec ℕ → List ℕ → Vec ℕ
-    → (D → Option (List ℕ)) → CountedDevice D → Vec ℕ → CountedDevice D → Vec ℕ → Type 0
-Ends A f g held end left contents old pending new later =
-    (left.items ≡ []) × (length (held.items ++ end) ≤ limit)
-    × WithAnswer A f (held.items ++ end) g (SendsBy contents old pending new later)
-
--- that line is too long, or its answer wasn't sent; where memory ran out it may not have been asked for
-abbrev pub FailsLine : {F D : Type 0} → AnsweringOf F → F → F → Vec ℕ → List ℕ
-    → (D → Option (List ℕ)) → CountedDevice D → Vec ℕ
-    → CountedDevice D → Vec ℕ → ServeFault → Type 0
-FailsLine A f g held end contents old pending new later fault = AtFault fault
-    ((g ≡ f) × SendsBy contents old pending new later [] × (limit < length (held.items ++ end)))
-    ⊥
-    ((length (held.items ++ end) ≤ limit)
-    × WithAnswer A f (held.items ++ end) g (CutsBy contents old pending new))
-    (λ e. (length (held.items ++ end) ≤ limit) × StopsOne A e f (held.items ++ end) g
-    × SendsBy contents old pending new later [])
+-- the line is too long, or memory ran out before it was asked for
+abbrev pub FailsWhole : List ℕ → ServeFault → Type 0
+FailsWhole line fault =
+    AtFault fault (limit < length line) ⊥ ⊥ (λ e. e ≡ NoMemory)
 
 -- of what was held and the block this many lines end, their answers were sent, and the rest is held
 abbrev pub Feeds : {F D : Type 0} → AnsweringOf F → F → F → Vec ℕ → List ℕ → Vec ℕ

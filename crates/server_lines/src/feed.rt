@@ -1,56 +1,36 @@
 //! Lines out of the blocks that are read.
 
-ghost use Rattle.std.specs.Prelude.{◌≡◌, ◌++◌, ◌<◌, ◌≤◌, ◌+◌, ◌-◌, ◌^◌, length, OnOk, IfOk, IfErr};
+ghost use Rattle.std.specs.Prelude.{◌≡◌, ◌++◌, ◌<◌, ◌≤◌, ◌+◌, ◌-◌, ◌^◌, length, IfOk, IfErr};
 ghost use Rattle.server_lines.specs.Answering.{by_calls};
 ghost use Rattle.server_lines.specs.Devices.{counts_of};
 ghost use Rattle.server_lines.specs.Lines.{limit};
-ghost use Rattle.server_lines.specs.Serving.{Ends, EndsAll, FailsLast, FailsLine, FeedsBlock, IsNextBlock, StopsFeeding, WriterCounts};
+ghost use Rattle.server_lines.specs.Serving.{EndsAll, FailsLast, FailsWhole, FeedsBlock, IsNextBlock, StopsFeeding, WriterCounts};
 
 use crate::device::CountedDevice;
 use crate::fault::{LineFault, ServeFault};
 use crate::lines::cut_line;
-use crate::output::answer_line;
+use crate::output::put_answer;
 use std::io::Write;
 
 /// The most bytes of a line, without its line feed.
 const LIMIT: usize = 4_194_304;
 
-// Answers the line that `held` and `line` are together. Nothing is held then.
-fn finish_line<F: FnMut(&[u8]) -> Result<String, LineFault>, W: Write>(
-    answer: &mut F,
-    writer: &mut CountedDevice<W>,
-    pending: &mut Vec<u8>,
-    held: &mut Vec<u8>,
-    line: &[u8],
-) -> Result<(), ServeFault>
-    requires callable { F.IsAlwaysCallable answer.old }
-    requires held { length held.old.items ≤ limit }
-    ensures ok { OnOk result (Ends (by_calls F.FnMut) answer.old answer.new held.old
-        line.now held.new W.contents writer.old pending.old writer.new pending.new) }
-    ensures err { IfErr result (FailsLine (by_calls F.FnMut) answer.old answer.new held.old line.now
-        W.contents writer.old pending.old writer.new pending.new) }
-    ensures faults { WriterCounts (counts_of writer.old)
-        (counts_of writer.new) result }
-    ensures callable { F.IsAlwaysCallable answer.new }
+// The line that `held` and `line` are together. A line of which nothing was held isn't copied.
+fn whole_line<'a>(held: &'a mut Vec<u8>, line: &'a [u8]) -> Result<&'a [u8], ServeFault>
+    requires { length held.old.items ≤ limit }
+    ensures ok { IfOk result (λ whole. (whole.now ≡ held.old.items ++ line.now)
+        × (length (held.old.items ++ line.now) ≤ limit)) }
+    ensures err { IfErr result (FailsWhole (held.old.items ++ line.now)) }
 {
     if line.len() > LIMIT - held.len() {
         return Err(ServeFault::LineTooLong);
     }
     if held.is_empty() {
-        return match answer_line(answer, writer, pending, line) {
-            Ok(()) => Ok(()),
-            Err(fault) => Err(fault),
-        };
+        return Ok(line);
     }
-    if held.extend_from_slice(line).is_err() {
-        return Err(ServeFault::NoMemory);
-    }
-    match answer_line(answer, writer, pending, held) {
-        Ok(()) => {
-            held.clear();
-            Ok(())
-        }
-        Err(fault) => Err(fault),
+    match held.extend_from_slice(line) {
+        Ok(()) => Ok(held.as_slice()),
+        Err(_) => Err(ServeFault::NoMemory),
     }
 }
 
@@ -75,13 +55,11 @@ pub fn feed<F: FnMut(&[u8]) -> Result<String, LineFault>, W: Write>(
     let mut rest = block;
     let mut count = 0;
     while let Some((line, after)) = cut_line(rest) {
-        match finish_line(answer, writer, pending, held, line) {
-            Ok(()) => {
-                rest = after;
-                count += 1;
-            }
-            Err(fault) => return Err(fault),
-        }
+        let whole = whole_line(held, line)?;
+        put_answer(writer, pending, answer(whole))?;
+        held.clear();
+        rest = after;
+        count += 1;
     }
     if rest.len() > LIMIT - held.len() {
         return Err(ServeFault::LineTooLong);
@@ -113,7 +91,7 @@ pub fn finish<F: FnMut(&[u8]) -> Result<String, LineFault>, W: Write>(
     if held.is_empty() {
         return Ok(count);
     }
-    match answer_line(answer, writer, pending, held) {
+    match put_answer(writer, pending, answer(held)) {
         Ok(()) => Ok(count + 1),
         Err(fault) => Err(fault),
     }

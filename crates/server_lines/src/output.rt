@@ -5,11 +5,10 @@
 
 ghost use Rattle.std.specs.Prelude.{◌≡◌, ℕ, List, [], ◌∷◌, ◌++◌, ◌<◌, ◌+◌, OnOk, OnErr, IfOk, IfErr, string_bytes, true, false, if◌then◌else◌};
 ghost use Rattle.std.specs.Io.KnownBytes.{Appends};
-ghost use Rattle.server_lines.specs.Answering.{WithAnswer, by_calls};
 ghost use Rattle.server_lines.specs.Devices.{device_of, counts_of, CountsFaults, IsFlushed, IsStuck};
 ghost use Rattle.server_lines.specs.Lines.{ended};
 ghost use Rattle.server_lines.specs.Output.{SendsBy, CutsBy, IsCut};
-ghost use Rattle.server_lines.specs.Serving.{FailsAnswer, WriterCounts};
+ghost use Rattle.server_lines.specs.Serving.{FailsAnswer, IsGiven, WriterCounts};
 
 use crate::device::{CountedDevice, DeviceFault};
 use crate::fault::{LineFault, ServeFault};
@@ -91,27 +90,24 @@ fn put_line<W: Write>(
     }
 }
 
-/// Answers one line.
+/// Writes the answer that a call gave of a line.
 ///
 /// # Errors
 ///
-/// `WriteFault`, `NoMemory` and `TraceFault`. After the last two nothing of the answer was written.
-pub fn answer_line<F: FnMut(&[u8]) -> Result<String, LineFault>, W: Write>(
-    answer: &mut F,
+/// `WriteFault`; and `NoMemory` and `TraceFault` where the call gave them. After these two nothing of an answer was written.
+pub fn put_answer<W: Write>(
     writer: &mut CountedDevice<W>,
     pending: &mut Vec<u8>,
-    line: &[u8],
+    given: Result<String, LineFault>,
 ) -> Result<(), ServeFault>
-    requires { F.IsAlwaysCallable answer.old }
-    ensures ok { OnOk result (WithAnswer (by_calls F.FnMut) answer.old line.now answer.new
-        (SendsBy W.contents writer.old pending.old writer.new pending.new)) }
-    ensures err { IfErr result (FailsAnswer (by_calls F.FnMut) answer.old answer.new line.now
-        W.contents writer.old pending.old writer.new pending.new) }
+    ensures ok { OnOk result
+        (IsGiven given (SendsBy W.contents writer.old pending.old writer.new pending.new)) }
+    ensures err { IfErr result
+        (FailsAnswer given W.contents writer.old pending.old writer.new pending.new) }
     ensures faults { WriterCounts (counts_of writer.old)
         (counts_of writer.new) result }
-    ensures callable { F.IsAlwaysCallable answer.new }
 {
-    match answer(line) {
+    match given {
         Ok(text) => match put_line(writer, pending, text.as_bytes()) {
             Ok(()) => Ok(()),
             Err(_) => Err(ServeFault::WriteFault),
