@@ -1,66 +1,45 @@
 -- Bindings that are read of a text bind each field of each object type, and name no loader that they don't define.
 use Rattle.std.proofs.Common.{◌≡◌, ◌∙◌, sym, ap, subst, refl, ℕ, ◌+◌, ◌<◌, ◌≤◌, Bool, true, false, not, ◌&&◌, ◌||◌, List, [], ◌∷◌, ◌++◌, length, length-append, Option, Some, None, inl, inr, arith, if◌then◌else◌}
-use Rattle.std.specs.Prelude.{option_map, option_and_then, find, is_some, bytes_eq}
+use Rattle.std.specs.Prelude.{option_map, option_and_then, find, is_some}
 use Rattle.std.specs.Option.{option_map_or}
-use Rattle.std.proofs.lemmas.Bool.{and_from}
+use Rattle.std.proofs.lemmas.Bool.{cond_both}
 use Rattle.std.proofs.lemmas.Slice.Eq.{bytes_eq-Decides}
 use Rattle.bindings_syntax.specs.Statements as source
-use Rattle.bindings_syntax.specs.Statements.{ByOf, KeyOf, from_argument, from_column, from_all, from_pair, FormOf, to_column, to_one, to_many, to_each, to_via, StatementOf, loader_line, field_line}
+use Rattle.bindings_syntax.specs.Statements.{KeyOf, from_argument, from_column, from_all, from_pair, FormOf, to_column, to_one, to_many, to_each, to_via, StatementOf, loader_line, field_line}
 use Rattle.bindings_syntax.specs.Reading.{NumberedOf, BindingsTextOf, bindings_text}
-use Rattle.schema_syntax.specs.Tree.{Name, Field, Definition, Schema, Object, Interface, Union, Enum}
+use Rattle.schema_syntax.specs.Tree.{Name, Field, Definition, Object}
 use Rattle.gq_schema.specs.declared.kind.TypeKind.{TypeKind}
-use Rattle.gq_schema.specs.declared.kind.TypeKind.TheVariants as kind
 use Rattle.gq_schema.specs.Kinds.{is_object}
 use Rattle.gq_schema.specs.Types.{is_built_in, defines, type_in, kind_of, is_field, field_in}
-use Rattle.gq_bindings.specs.Types.{is_object_type, is_root_type, is_leaf_type, is_composite_type, is_composite_list, is_key_type, is_key_list, takes}
-use Rattle.gq_bindings.specs.Tree.{LoaderOf, StepOf, BindingOf, by_column, by_one, by_many, by_each, by_via, BoundFieldOf, BindingsOf, is_loader, binds, binding_in, loader_from, loader_in}
-use Rattle.gq_bindings.specs.Forms.{is_by_one, is_by_two, keyed_loader, paired_loader, whole_loader, part_fits, asked_loader, later_step, later_steps, via_loaders, form_binding, field_binding}
-use Rattle.gq_bindings.specs.Reading.{Reading, accepted, refused, with_loader, with_field, after_statement, or_refused, and_then, after_statements, settled_field, settled_fields, settled, at_end, nothing, reading_of, bindings_of}
+use Rattle.gq_bindings.specs.Types.{is_object_type, is_root_type, is_leaf_type}
+use Rattle.gq_bindings.specs.Tree.{LoaderOf, StepOf, BindingOf, by_column, by_one, by_many, by_each, by_via, BoundFieldOf, BindingsOf, binds, binding_in, loader_from, loader_in}
+use Rattle.gq_bindings.specs.Forms.{keyed_loader, paired_loader, whole_loader, asked_loader, later_step, later_steps, form_binding, field_binding}
+use Rattle.gq_bindings.specs.Reading.{Reading, accepted, with_loader, with_field, after_statement, or_refused, and_then, after_statements, settled_field, settled_fields, settled, at_end, nothing, reading_of, bindings_of}
 use Rattle.execution.specs.Loads.{IsOneOf}
 use Rattle.plan_laws.specs.Met.{StepsThere, AreThere, IsBound}
 use Rattle.plan_laws.proofs.Options.{if-given, if-not-given, map-given, then-given, some-of, found-one}
 
 -- ---- numbers of loaders
 
-first-same : (p q : ℕ × LoaderOf) → Some p ≡ Some q → p.0 ≡ q.0
-first-same p q e = let same : p ≡ q = cc in ap (λ (r : ℕ × LoaderOf). r.0) same
-
-from-there : (n : ℕ) (ls : List LoaderOf) (q : List ℕ) (k : ℕ) (l : LoaderOf) → loader_from n ls q ≡ Some (k, l) → k < n + length ls
-from-there n [] q k l h = absurd (cc h)
-from-there n (x ∷ ls) q k l h = go (is_loader q x) h (λ e. from-there (n + 1) ls q k l e)
-  where
-    go : (b : Bool) → (if b then Some (n, x) else loader_from (n + 1) ls q) ≡ Some (k, l) → (loader_from (n + 1) ls q ≡ Some (k, l) → k < (n + 1) + length ls) → k < n + length (x ∷ ls)
-    go true e rest = let same : n ≡ k = first-same (n, x) (k, l) e in omega (arith, same)
-    go false e rest = let r = rest e in omega (arith, r)
+from-there : (n : ℕ) (ls : List LoaderOf) (q : List ℕ) (l : ℕ × LoaderOf) → loader_from n ls q ≡ Some l → l.0 < n + length ls
+from-there n [] q l h = absurd (cc h)
+from-there n (x ∷ ls) q l h = let rest = from-there (n + 1) ls q l in grind arith
 
 module _ (ls : List LoaderOf) where
-  by-there : (fits : Option ByOf → Bool) (name : List ℕ) (k : ℕ) → option_and_then (λ (l : ℕ × LoaderOf). if fits l.1.by then Some l.0 else None) (loader_in ls name) ≡ Some k → k < length ls
-  by-there fits name k h =
-      let t = then-given (λ (l : ℕ × LoaderOf). if fits l.1.by then Some l.0 else None) (loader_in ls name) k h in
-      let g = if-given (fits t.0.1.by) (Some t.0.0) k t.2 in
-      let same : t.0.0 ≡ k = cc in
-      let under = from-there 0 ls name t.0.0 t.0.1 t.1 in
-      omega (arith, under, same)
-
   keyed-there : (name : List ℕ) (k : ℕ) → keyed_loader ls name ≡ Some k → k < length ls
-  keyed-there name k h = by-there is_by_one name k h
+  keyed-there name k h = grind (arith, from-there 0 ls name)
 
   paired-there : (name : List ℕ) (k : ℕ) → paired_loader ls name ≡ Some k → k < length ls
-  paired-there name k h = by-there is_by_two name k h
+  paired-there name k h = grind (arith, from-there 0 ls name)
 
   whole-there : (name : List ℕ) (k : ℕ) → whole_loader ls name ≡ Some k → k < length ls
-  whole-there name k h =
-      let t = then-given (λ (l : ℕ × LoaderOf). if is_some l.1.by then None else Some l.0) (loader_in ls name) k h in
-      let g = if-not-given (is_some t.0.1.by) (Some t.0.0) k t.2 in
-      let same : t.0.0 ≡ k = cc in
-      let under = from-there 0 ls name t.0.0 t.0.1 t.1 in
-      omega (arith, under, same)
+  whole-there name k h = grind (arith, from-there 0 ls name)
 
   asked-there : (of_root : Bool) (field : Field) (name : List ℕ) (key : KeyOf) (k : ℕ) → asked_loader ls of_root field name key ≡ Some k → k < length ls
-  asked-there of_root field name (from_argument a) k h = keyed-there name k (if-given (takes is_key_type field a) (keyed_loader ls name) k h).1
-  asked-there of_root field name (from_column c) k h = keyed-there name k (if-not-given of_root (keyed_loader ls name) k h).1
+  asked-there of_root field name (from_argument a) k h = keyed-there name k (grind arith)
+  asked-there of_root field name (from_column c) k h = keyed-there name k (grind arith)
   asked-there of_root field name from_all k h = whole-there name k h
-  asked-there of_root field name (from_pair one two) k h = paired-there name k (if-given (part_fits of_root field one && part_fits of_root field two) (paired_loader ls name) k h).1
+  asked-there of_root field name (from_pair one two) k h = paired-there name k (grind arith)
 
   abbrev step-at : source.StepOf → ℕ → StepOf
   step-at s n = record { loader = n; column = s.1 }
@@ -83,20 +62,16 @@ module _ (ls : List LoaderOf) where
       let same : by_column c ≡ b = cc in
       subst (AreThere (length ls)) same tt
   form-there defs of_root field (to_one l key) b h =
-      let g = if-given (is_composite_type defs field.of_type) (option_map (λ (n : ℕ). by_one n key) (asked_loader ls of_root field l key)) b h in
-      let m = map-given (λ (n : ℕ). by_one n key) (asked_loader ls of_root field l key) b g.1 in
+      let m = map-given (λ (n : ℕ). by_one n key) (asked_loader ls of_root field l key) b (grind arith) in
       subst (AreThere (length ls)) m.2 (asked-there of_root field l key m.0 m.1)
   form-there defs of_root field (to_many l key) b h =
-      let g = if-given (is_composite_list defs field.of_type) (option_map (λ (n : ℕ). by_many n key) (asked_loader ls of_root field l key)) b h in
-      let m = map-given (λ (n : ℕ). by_many n key) (asked_loader ls of_root field l key) b g.1 in
+      let m = map-given (λ (n : ℕ). by_many n key) (asked_loader ls of_root field l key) b (grind arith) in
       subst (AreThere (length ls)) m.2 (asked-there of_root field l key m.0 m.1)
   form-there defs of_root field (to_each l a) b h =
-      let g = if-given (is_composite_list defs field.of_type && takes is_key_list field a) (option_map (λ (n : ℕ). by_each n a) (keyed_loader ls l)) b h in
-      let m = map-given (λ (n : ℕ). by_each n a) (keyed_loader ls l) b g.1 in
+      let m = map-given (λ (n : ℕ). by_each n a) (keyed_loader ls l) b (grind arith) in
       subst (AreThere (length ls)) m.2 (keyed-there l m.0 m.1)
   form-there defs of_root field (to_via l key steps) b h =
-      let g = if-given (is_composite_list defs field.of_type) (via_loaders ls (asked_loader ls of_root field l key) key steps) b h in
-      let t = then-given (λ (n : ℕ). option_map (λ (ss : List StepOf). by_via n key ss) (later_steps ls steps)) (asked_loader ls of_root field l key) b g.1 in
+      let t = then-given (λ (n : ℕ). option_map (λ (ss : List StepOf). by_via n key ss) (later_steps ls steps)) (asked_loader ls of_root field l key) b (grind arith) in
       let u = map-given (λ (ss : List StepOf). by_via t.0 key ss) (later_steps ls steps) b t.2 in
       subst (AreThere (length ls)) u.2 (asked-there of_root field l key t.0 t.1, steps-there steps u.0 u.1)
 
@@ -112,10 +87,8 @@ steps-more n m (s ∷ ss) le h = let a = h.0 in (omega (arith, le, a), steps-mor
 
 there-more : (n m : ℕ) (b : BindingOf) → n ≤ m → AreThere n b → AreThere m b
 there-more n m (by_column column) le h = tt
-there-more n m (by_one loader key) le h = omega (arith, le, h)
-there-more n m (by_many loader key) le h = omega (arith, le, h)
-there-more n m (by_each loader argument) le h = omega (arith, le, h)
 there-more n m (by_via loader key steps) le h = let a = h.0 in (omega (arith, le, a), steps-more n m steps le h.1)
+there-more n m b le h = omega (arith, le, h)
 
 all-more : (n m : ℕ) (fs : List BoundFieldOf) → n ≤ m → AllThere n fs → AllThere m fs
 all-more n m [] le h = tt
@@ -132,25 +105,20 @@ AreWhole b = AllThere (length b.loaders) b.fields
 statement-whole : (defs : List Definition) (b c : BindingsOf) (s : StatementOf) → after_statement defs b s ≡ Some c → AreWhole b → AreWhole c
 statement-whole defs b c (loader_line name table by) h whole =
     let l : LoaderOf = record { name = name; table = table; by = by } in
-    let g = if-not-given (is_some (loader_in b.loaders name)) (Some (with_loader b (record { name = name; table = table; by = by }))) c h in
+    let g = if-not-given (is_some (loader_in b.loaders name)) _ c h in
     let same : with_loader b (record { name = name; table = table; by = by }) ≡ c = cc in
-    let longer : length (b.loaders ++ l ∷ []) ≡ length b.loaders + 1 = length-append b.loaders (l ∷ []) in
-    subst AreWhole same (all-more (length b.loaders) (length (b.loaders ++ l ∷ [])) b.fields (omega (arith, longer)) whole)
+    subst AreWhole same (all-more (length b.loaders) (length (b.loaders ++ l ∷ [])) b.fields (omega (arith, length-append b.loaders (l ∷ []))) whole)
 statement-whole defs b c (field_line ty name form) h whole =
-    let g = if-not-given (is_some (binding_in b.fields ty name)) (option_map (with_field b ty name) (field_binding defs b.loaders ty name form)) c h in
-    let m = map-given (with_field b ty name) (field_binding defs b.loaders ty name form) c g.1 in
-    let i = if-given (is_object_type defs ty) (option_and_then (λ (field : Field). form_binding defs b.loaders (is_root_type defs ty) field form) (field_in defs ty name)) m.0 m.1 in
-    let t = then-given (λ (field : Field). form_binding defs b.loaders (is_root_type defs ty) field form) (field_in defs ty name) m.0 i.1 in
+    let m = map-given (with_field b ty name) (field_binding defs b.loaders ty name form) c (if-not-given (is_some (binding_in b.fields ty name)) _ c h).1 in
+    let t = then-given (λ (field : Field). form_binding defs b.loaders (is_root_type defs ty) field form) (field_in defs ty name) m.0 (if-given (is_object_type defs ty) _ m.0 m.1).1 in
     subst AreWhole m.2 (all-last (length b.loaders) b.fields (record { type_name = ty; field_name = name; binding = m.0 }) whole (form-there b.loaders defs (is_root_type defs ty) t.0 form m.0 t.2))
 
 -- reading went on from some bindings
 then-accepted : (r : Reading) (next : BindingsOf → Reading) (c : BindingsOf) → and_then r next ≡ accepted c → (b : BindingsOf) × (r ≡ accepted b) × (next b ≡ accepted c)
-then-accepted (accepted b) next c h = (b, refl, h)
-then-accepted (refused line) next c h = absurd (cc h)
+then-accepted r next c h = grind arith
 
 or-accepted : (line : ℕ) (o : Option BindingsOf) (c : BindingsOf) → or_refused line o ≡ accepted c → o ≡ Some c
-or-accepted line None c h = absurd (cc h)
-or-accepted line (Some b) c h = let same : b ≡ c = cc in ap (λ (d : BindingsOf). Some d) same
+or-accepted line o c h = grind arith
 
 statements-whole : (defs : List Definition) (b c : BindingsOf) (ss : List NumberedOf) → after_statements defs b ss ≡ accepted c → AreWhole b → AreWhole c
 statements-whole defs b c [] h whole = let same : b ≡ c = cc in subst AreWhole same whole
@@ -169,24 +137,11 @@ Keeps b c = (ty name : List ℕ) → is_bound b ty name ≡ true → is_bound c 
 
 find-more : (ty name : List ℕ) (fs gs : List BoundFieldOf) → is_some (binding_in fs ty name) ≡ true → is_some (binding_in (fs ++ gs) ty name) ≡ true
 find-more ty name [] gs h = absurd (cc h)
-find-more ty name (f ∷ fs) gs h = go (binds ty name f) h (find-more ty name fs gs)
-  where
-    go : (b : Bool) → is_some (option_map (λ (x : BoundFieldOf). x.binding) (if b then Some f else find (binds ty name) fs)) ≡ true
-        → (is_some (binding_in fs ty name) ≡ true → is_some (binding_in (fs ++ gs) ty name) ≡ true)
-        → is_some (option_map (λ (x : BoundFieldOf). x.binding) (if b then Some f else find (binds ty name) (fs ++ gs))) ≡ true
-    go true e rest = refl
-    go false e rest = rest e
+find-more ty name (f ∷ fs) gs h = let rest = find-more ty name fs gs in grind arith
 
 find-last : (ty name : List ℕ) (fs : List BoundFieldOf) (binding : BindingOf) → is_some (binding_in (fs ++ record { type_name = ty; field_name = name; binding = binding } ∷ []) ty name) ≡ true
-find-last ty name [] binding =
-    let own : binds ty name (record { type_name = ty; field_name = name; binding = binding }) ≡ true = and_from (bytes_eq ty ty) (bytes_eq name name) ((bytes_eq-Decides ty ty).1 refl) ((bytes_eq-Decides name name).1 refl) in
-    rw own refl
-find-last ty name (f ∷ fs) binding = go (binds ty name f) (find-last ty name fs binding)
-  where
-    go : (b : Bool) → is_some (binding_in (fs ++ record { type_name = ty; field_name = name; binding = binding } ∷ []) ty name) ≡ true
-        → is_some (option_map (λ (x : BoundFieldOf). x.binding) (if b then Some f else find (binds ty name) (fs ++ record { type_name = ty; field_name = name; binding = binding } ∷ []))) ≡ true
-    go true e = refl
-    go false e = e
+find-last ty name [] binding = rw ((bytes_eq-Decides ty ty).1 refl, (bytes_eq-Decides name name).1 refl) refl
+find-last ty name (f ∷ fs) binding = let rest = find-last ty name fs binding in grind arith
 
 -- says what one more field leaves
 record Settles (b c : BindingsOf) : Type 0 where
@@ -254,10 +209,7 @@ types-settle defs b c (Object n is fs ∷ ds) h =
         | inr j ↦ r.1 m js gs j
       ],
     )
-types-settle defs b c (Schema p n ∷ ds) h = let r = types-settle defs b c ds h in (r.0, λ m js gs i. elim i [ inl e ↦ absurd (cc e) | inr j ↦ r.1 m js gs j ])
-types-settle defs b c (Interface n fs ∷ ds) h = let r = types-settle defs b c ds h in (r.0, λ m js gs i. elim i [ inl e ↦ absurd (cc e) | inr j ↦ r.1 m js gs j ])
-types-settle defs b c (Union n ms ∷ ds) h = let r = types-settle defs b c ds h in (r.0, λ m js gs i. elim i [ inl e ↦ absurd (cc e) | inr j ↦ r.1 m js gs j ])
-types-settle defs b c (Enum n vs ∷ ds) h = let r = types-settle defs b c ds h in (r.0, λ m js gs i. elim i [ inl e ↦ absurd (cc e) | inr j ↦ r.1 m js gs j ])
+types-settle defs b c (d ∷ ds) h = let r = types-settle defs b c ds h in (r.0, λ m js gs i. elim i [ inl e ↦ absurd (cc e) | inr j ↦ r.1 m js gs j ])
 
 -- ---- bindings that are read
 
@@ -275,11 +227,9 @@ read-settles defs text c h =
 -- a binding that is found names loaders that are there
 pub binding-there : (n : ℕ) (fs : List BoundFieldOf) (ty name : List ℕ) (binding : BindingOf) → AllThere n fs → binding_in fs ty name ≡ Some binding → AreThere n binding
 binding-there n [] ty name binding all h = absurd (cc h)
-binding-there n (f ∷ fs) ty name binding all h = go (binds ty name f) h (binding-there n fs ty name binding all.1)
-  where
-    go : (b : Bool) → option_map (λ (x : BoundFieldOf). x.binding) (if b then Some f else find (binds ty name) fs) ≡ Some binding → (binding_in fs ty name ≡ Some binding → AreThere n binding) → AreThere n binding
-    go true e rest = let same : f.binding ≡ binding = cc in subst (AreThere n) same all.0
-    go false e rest = rest e
+binding-there n (f ∷ fs) ty name binding all h =
+    cond_both (binds ty name f) _ _ (λ o. option_map (λ (x : BoundFieldOf). x.binding) o ≡ Some binding → AreThere n binding) (λ _ k. let same : f.binding ≡ binding = cc in subst (AreThere n) same all.0)
+    (λ _ k. binding-there n fs ty name binding all.1 k) h
 
 pub read-there : (defs : List Definition) (text : List ℕ) (b : BindingsOf) (ty name : List ℕ) (binding : BindingOf) → bindings_of defs text ≡ accepted b → binding_in b.fields ty name ≡ Some binding → AreThere (length b.loaders) binding
 read-there defs text b ty name binding h e = binding-there (length b.loaders) b.fields ty name binding (read-settles defs (bindings_text text) b h).0 e
@@ -298,19 +248,11 @@ abbrev is_object_kind : Option TypeKind → Bool
 is_object_kind k = option_map_or is_object k false
 
 pub object-of : (defs : List Definition) (ty : List ℕ) → is_object_type defs ty ≡ true → IsObjectOf defs ty
-object-of defs ty h = go (is_built_in ty) refl h
+object-of defs ty h = kinds (type_in defs ty) refl (grind arith) (grind arith)
   where
     kinds : (d : Option Definition) → type_in defs ty ≡ d → is_built_in ty ≡ false → is_object_kind (option_and_then kind_of d) ≡ true → IsObjectOf defs ty
-    kinds None e b k = absurd (cc k)
-    kinds (Some (Schema p n)) e b k = absurd (cc k)
     kinds (Some (Object n is fs)) e b k = record { name = n; interfaces = is; fields = fs; found = e; built = b }
-    kinds (Some (Interface n fs)) e b k = absurd (cc k)
-    kinds (Some (Union n ms)) e b k = absurd (cc k)
-    kinds (Some (Enum n vs)) e b k = absurd (cc k)
-
-    go : (b : Bool) → is_built_in ty ≡ b → is_object_kind (if b then Some kind.Scalar else option_and_then kind_of (type_in defs ty)) ≡ true → IsObjectOf defs ty
-    go true e k = absurd (cc k)
-    go false e k = kinds (type_in defs ty) refl e k
+    kinds d e b k = absurd (cc k)
 
 -- a field of an object type is bound
 pub read-bound : (defs : List Definition) (text : List ℕ) (b : BindingsOf) (ty name : List ℕ) (d : Field) → bindings_of defs text ≡ accepted b → is_object_type defs ty ≡ true → field_in defs ty name ≡ Some d → IsBound b ty name

@@ -25,14 +25,10 @@ module _ (defs : List Definition) (o : Owner) where
 
     pub many-among : (parent : Option (List ℕ)) (ss : Selections) → many (selections_among defs o parent ss) ≡ count_among ss
     many-among parent no_selection = refl
-    many-among parent (and_selection s ss) =
-        let a = many-from parent s in
-        let b = many-among parent ss in
-        let c = many-append (selections_from defs o parent s) (selections_among defs o parent ss) in
-        omega (arith, a, b, c)
+    many-among parent (and_selection s ss) = omega (arith, many-from parent s, many-among parent ss, many-append (selections_from defs o parent s) (selections_among defs o parent ss))
 
     pub many-from : (parent : Option (List ℕ)) (s : Selection) → many (selections_from defs o parent s) ≡ count_from s
-    many-from parent (Field p alias name as' ds b) = let a = many-below (inside_field defs (known_field defs parent name)) b in omega (arith, a)
+    many-from parent (Field p alias name as' ds b) = omega (arith, many-below (inside_field defs (known_field defs parent name)) b)
     many-from parent (Spread p name ds) = refl
     many-from parent (Inline p c ds s) = many-in (inside_inline defs parent c) s
 
@@ -44,22 +40,12 @@ module _ (defs : List Definition) where
   pub many-operations : (i : ℕ) (os : List Operation) → many (operation_selections defs i os) ≡ count_operations os
   many-operations i [] = refl
   many-operations i (o ∷ os) =
-      let a = many-in defs (owner.Operation i) (inside_operation defs) o.selection_set in
-      let b = many-operations (i + 1) os in
-      let c = many-append (selections_in defs (owner.Operation i) (inside_operation defs) o.selection_set) (operation_selections defs (i + 1) os) in
-      omega (arith, a, b, c)
+      omega (arith, many-in defs (owner.Operation i) (inside_operation defs) o.selection_set, many-operations (i + 1) os, many-append (selections_in defs (owner.Operation i) (inside_operation defs) o.selection_set) (operation_selections defs (i + 1) os))
 
   many-fragments : (i : ℕ) (fs : List Fragment) → many (fragment_selections defs i fs) ≡ count_fragments fs
   many-fragments i [] = refl
   many-fragments i (f ∷ fs) =
-      let a = many-in defs (owner.Fragment i) (inside_condition defs f.condition) f.selection_set in
-      let b = many-fragments (i + 1) fs in
-      let c = many-append (selections_in defs (owner.Fragment i) (inside_condition defs f.condition) f.selection_set) (fragment_selections defs (i + 1) fs) in
-      omega (arith, a, b, c)
+      omega (arith, many-in defs (owner.Fragment i) (inside_condition defs f.condition) f.selection_set, many-fragments (i + 1) fs, many-append (selections_in defs (owner.Fragment i) (inside_condition defs f.condition) f.selection_set) (fragment_selections defs (i + 1) fs))
 
   pub many-document : (d : Document) → count_operations d.operations + count_fragments d.fragments ≤ length (parts_of defs d).fields
-  many-document d =
-      let a = many-operations 0 d.operations in
-      let b = many-fragments 0 d.fragments in
-      let c = many-append (operation_selections defs 0 d.operations) (fragment_selections defs 0 d.fragments) in
-      omega (arith, a, b, c)
+  many-document d = omega (arith, many-operations 0 d.operations, many-fragments 0 d.fragments, many-append (operation_selections defs 0 d.operations) (fragment_selections defs 0 d.fragments))

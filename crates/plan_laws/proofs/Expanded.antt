@@ -1,9 +1,9 @@
 -- No path expands more fragments than there are, where no fragment reaches itself: each spreads
 -- only fragments that reach fewer.
-use Rattle.std.proofs.Common.{◌≡◌, ◌∙◌, ap, subst, refl, ℕ, zero, suc, ◌+◌, ◌<◌, ◌≤◌, Bool, true, false, List, [], ◌∷◌, ◌++◌, length, Option, Some, None, find, arith, eq-eqb, if◌then◌else◌}
-use Rattle.std.specs.Prelude.{◌||◌, ◌==◌, max, nat_lt, slice_get, filter_map}
+use Rattle.std.proofs.Common.{◌≡◌, ◌∙◌, ap, refl, ℕ, zero, suc, ◌+◌, ◌<◌, Bool, true, false, List, [], ◌∷◌, ◌++◌, length, Option, Some, None, find, arith, eq-eqb, if◌then◌else◌}
+use Rattle.std.specs.Prelude.{◌||◌, ◌==◌, nat_lt, slice_get, filter_map}
 use Rattle.std.specs.Option.{option_map_or}
-use Rattle.std.proofs.lemmas.Bool.{both_ways, lt-ltb}
+use Rattle.std.proofs.lemmas.Bool.{lt-ltb, or_right}
 use Rattle.std.proofs.lemmas.List.Folds.{list_any-append}
 use Rattle.std.proofs.lemmas.List.Elements.{filter_map-append}
 use Rattle.gq_schema.specs.Places.{place_from}
@@ -20,62 +20,10 @@ use Rattle.rules_spreads.specs.Graphs.{GraphOf, fragment_number, target_of, targ
 use Rattle.rules_spreads.specs.Reach.{is_among, spreads, reaches, is_cyclic, are_known, Reaches, start, along}
 use Rattle.rules_spreads.specs.Levels.{levels_in, levels_among, levels_from, levels_below, levels_named, levels_expanded}
 use Rattle.plan_laws.proofs.Leveled.{AreLevels}
+use Rattle.plan_laws.proofs.Options.{by_option}
+use Rattle.plan_laws.proofs.Totals.{total, total-less, total-most, bit, bit-more, bit-less, bit-most}
 use Rattle.rules_spreads.proofs.ReachLaws.{through_sound, reaches_complete}
 use Rattle.rules_spreads.proofs.RowLaws.{length-rows_from, graph-known}
-
--- ---- what holds of each name that is spread
-
-abbrev mutual
-  EachIn : (List ℕ → Type 0) → SelectionSet → Type 0
-  EachIn R (set_at p ss) = EachAmong R ss
-
-  EachAmong : (List ℕ → Type 0) → Selections → Type 0
-  EachAmong R no_selection = Unit {0}
-  EachAmong R (and_selection s ss) = EachFrom R s × EachAmong R ss
-
-  EachFrom : (List ℕ → Type 0) → Selection → Type 0
-  EachFrom R (Field p alias name as' ds b) = EachBelow R b
-  EachFrom R (Spread p name ds) = R name
-  EachFrom R (Inline p c ds s) = EachIn R s
-
-  EachBelow : (List ℕ → Type 0) → Below → Type 0
-  EachBelow R nothing_below = Unit {0}
-  EachBelow R (below s) = EachIn R s
-
-mutual
-  map-in : (R S : List ℕ → Type 0) → ((name : List ℕ) → R name → S name) → (s : SelectionSet) → EachIn R s → EachIn S s
-  map-in R S f (set_at p ss) h = map-among R S f ss h
-
-  map-among : (R S : List ℕ → Type 0) → ((name : List ℕ) → R name → S name) → (ss : Selections) → EachAmong R ss → EachAmong S ss
-  map-among R S f no_selection h = tt
-  map-among R S f (and_selection s ss) h = (map-from R S f s h.0, map-among R S f ss h.1)
-
-  map-from : (R S : List ℕ → Type 0) → ((name : List ℕ) → R name → S name) → (s : Selection) → EachFrom R s → EachFrom S s
-  map-from R S f (Field p alias name as' ds b) h = map-below R S f b h
-  map-from R S f (Spread p name ds) h = f name h
-  map-from R S f (Inline p c ds s) h = map-in R S f s h
-
-  map-below : (R S : List ℕ → Type 0) → ((name : List ℕ) → R name → S name) → (b : Below) → EachBelow R b → EachBelow S b
-  map-below R S f nothing_below h = tt
-  map-below R S f (below s) h = map-in R S f s h
-
--- levels are the same where those of each name are
-mutual
-  same-in : (a b : List ℕ → ℕ) (s : SelectionSet) → EachIn (λ name. a name ≡ b name) s → levels_in a s ≡ levels_in b s
-  same-in a b (set_at p ss) h = same-among a b ss h
-
-  same-among : (a b : List ℕ → ℕ) (ss : Selections) → EachAmong (λ name. a name ≡ b name) ss → levels_among a ss ≡ levels_among b ss
-  same-among a b no_selection h = refl
-  same-among a b (and_selection s ss) h = ap (λ n. max n (levels_among a ss)) (same-from a b s h.0) ∙ ap (λ n. max (levels_from b s) n) (same-among a b ss h.1)
-
-  same-from : (a b : List ℕ → ℕ) (s : Selection) → EachFrom (λ name. a name ≡ b name) s → levels_from a s ≡ levels_from b s
-  same-from a b (Field p alias name as' ds i) h = ap (λ n. n + 1) (same-below a b i h)
-  same-from a b (Spread p name ds) h = h
-  same-from a b (Inline p c ds s) h = same-in a b s h
-
-  same-below : (a b : List ℕ → ℕ) (i : Below) → EachBelow (λ name. a name ≡ b name) i → levels_below a i ≡ levels_below b i
-  same-below a b nothing_below h = refl
-  same-below a b (below s) h = same-in a b s h
 
 -- ---- places of fragments
 
@@ -91,11 +39,7 @@ found-place test n (g ∷ fs) f h = go (test g) (λ k. found-place test (n + 1) 
 
 place-below : (test : Fragment → Bool) (n : ℕ) (fs : List Fragment) (k : ℕ) → place_from n test fs ≡ Some k → k < n + length fs
 place-below test n [] k h = absurd (cc h)
-place-below test n (g ∷ fs) k h = go (test g) (λ e. place-below test (n + 1) fs k e) h
-  where
-    go : (b : Bool) → (place_from (n + 1) test fs ≡ Some k → k < (n + 1) + length fs) → (if b then Some n else place_from (n + 1) test fs) ≡ Some k → k < n + length (g ∷ fs)
-    go true rest e = let same : n ≡ k = cc in omega arith
-    go false rest e = let r = rest e in omega (arith, r)
+place-below test n (g ∷ fs) k h = let rest = place-below test (n + 1) fs k in grind arith
 
 -- ---- what a fragment's selections tell the graph
 
@@ -118,14 +62,7 @@ module _ (fragments : List Fragment) (j : ℕ) where
   has-left k xs ys h = has-either k xs ys ∙ ap (λ b. b || is_among k (targets ys)) h
 
   has-right : (k : ℕ) (xs ys : List SelectionPart) → Has k ys → Has k (xs ++ ys)
-  has-right k xs ys h = has-either k xs ys ∙ ap (λ b. is_among k (targets xs) || b) h ∙ go (is_among k (targets xs))
-    where
-      go : (b : Bool) → (b || true) ≡ true
-      go true = refl
-      go false = refl
-
-  abbrev Known : (ℕ → Type 0) → List ℕ → Type 0
-  Known Q name = (k : ℕ) → fragment_place fragments name ≡ Some k → Q k
+  has-right k xs ys h = has-either k xs ys ∙ or_right (is_among k (targets xs)) (is_among k (targets ys)) h
 
   own-spread : (part : SelectionPart) (p : _) (name : List ℕ) (ds : _) (k : ℕ) → part.owner ≡ owner.Fragment j → part.selection ≡ Spread p name ds → fragment_place fragments name ≡ Some k → Has k (part ∷ [])
   own-spread part p name ds k own is place =
@@ -135,25 +72,32 @@ module _ (fragments : List Fragment) (j : ℕ) where
       let here : (k == k) ≡ true = eq-eqb k k refl in
       rw (is, own, same, place, known, here) refl
 
-  mutual
-    each-in : (Q : ℕ → Type 0) (defs : List Definition) (parent : Option (List ℕ)) (s : SelectionSet) → ((k : ℕ) → Has k (selections_in defs (owner.Fragment j) parent s) → Q k) → EachIn (Known Q) s
-    each-in Q defs parent (set_at p ss) h = each-among Q defs parent ss h
+  -- fragments have the same levels in two ways where those that they spread do
+  module _ (defs : List Definition) (a b : ℕ → ℕ) where
+    abbrev Agree : List SelectionPart → Type 0
+    Agree parts = (k : ℕ) → k < length fragments → Has k parts → a k ≡ b k
 
-    each-among : (Q : ℕ → Type 0) (defs : List Definition) (parent : Option (List ℕ)) (ss : Selections) → ((k : ℕ) → Has k (selections_among defs (owner.Fragment j) parent ss) → Q k) → EachAmong (Known Q) ss
-    each-among Q defs parent no_selection h = tt
-    each-among Q defs parent (and_selection s ss) h = (
-      each-from Q defs parent s (λ k i. h k (has-left k (selections_from defs (owner.Fragment j) parent s) (selections_among defs (owner.Fragment j) parent ss) i)),
-      each-among Q defs parent ss (λ k i. h k (has-right k (selections_from defs (owner.Fragment j) parent s) (selections_among defs (owner.Fragment j) parent ss) i)),
-    )
+    mutual
+      same-in : (parent : Option (List ℕ)) (s : SelectionSet) → Agree (selections_in defs (owner.Fragment j) parent s) → levels_in (levels_named a fragments) s ≡ levels_in (levels_named b fragments) s
+      same-in parent (set_at p ss) h = same-among parent ss h
 
-    each-from : (Q : ℕ → Type 0) (defs : List Definition) (parent : Option (List ℕ)) (s : Selection) → ((k : ℕ) → Has k (selections_from defs (owner.Fragment j) parent s) → Q k) → EachFrom (Known Q) s
-    each-from Q defs parent (Field p alias name as' ds b) h = each-below Q defs (inside_field defs (known_field defs parent name)) b (λ k i. h k i)
-    each-from Q defs parent (Spread p name ds) h = λ k e. h k (own-spread (record { owner = owner.Fragment j; parent = parent; definition = None; inside = None; selection = Spread p name ds }) p name ds k refl refl e)
-    each-from Q defs parent (Inline p c ds s) h = each-in Q defs (inside_inline defs parent c) s (λ k i. h k i)
+      same-among : (parent : Option (List ℕ)) (ss : Selections) → Agree (selections_among defs (owner.Fragment j) parent ss) → levels_among (levels_named a fragments) ss ≡ levels_among (levels_named b fragments) ss
+      same-among parent no_selection h = refl
+      same-among parent (and_selection s ss) h =
+          let one = same-from parent s (λ k l i. h k l (has-left k (selections_from defs (owner.Fragment j) parent s) (selections_among defs (owner.Fragment j) parent ss) i)) in
+          let rest = same-among parent ss (λ k l i. h k l (has-right k (selections_from defs (owner.Fragment j) parent s) (selections_among defs (owner.Fragment j) parent ss) i)) in
+          cc
 
-    each-below : (Q : ℕ → Type 0) (defs : List Definition) (inside : Option (List ℕ)) (b : Below) → ((k : ℕ) → Has k (selections_below defs (owner.Fragment j) inside b) → Q k) → EachBelow (Known Q) b
-    each-below Q defs inside nothing_below h = tt
-    each-below Q defs inside (below s) h = each-in Q defs inside s h
+      same-from : (parent : Option (List ℕ)) (s : Selection) → Agree (selections_from defs (owner.Fragment j) parent s) → levels_from (levels_named a fragments) s ≡ levels_from (levels_named b fragments) s
+      same-from parent (Field p alias name as' ds b') h = ap (λ n. n + 1) (same-below (inside_field defs (known_field defs parent name)) b' (λ k l i. h k l i))
+      same-from parent (Spread p name ds) h = by_option (λ o. option_map_or a o 0 ≡ option_map_or b o 0) (fragment_place fragments name) (λ _. refl) (λ k e.
+          let l = place-below (is_fragment name) 0 fragments k e in
+          h k (omega (arith, l)) (own-spread (record { owner = owner.Fragment j; parent = parent; definition = None; inside = None; selection = Spread p name ds }) p name ds k refl refl e))
+      same-from parent (Inline p c ds s) h = same-in (inside_inline defs parent c) s (λ k l i. h k l i)
+
+      same-below : (inside : Option (List ℕ)) (i : Below) → Agree (selections_below defs (owner.Fragment j) inside i) → levels_below (levels_named a fragments) i ≡ levels_below (levels_named b fragments) i
+      same-below inside nothing_below h = refl
+      same-below inside (below s) h = same-in inside s h
 
   -- the selections of a fragment are among those of the document
   among-fragments : (defs : List Definition) (k i : ℕ) (fs : List Fragment) (x : ℕ) (f : Fragment) → slice_get fs x ≡ Some f → j ≡ i + x → Has k (selections_in defs (owner.Fragment j) (inside_condition defs f.condition) f.selection_set) → Has k (fragment_selections defs i fs)
@@ -172,74 +116,8 @@ row-there count number ss i (suc many) (suc x) lt = let e : (i + 1) + x ≡ i + 
 
 -- ---- how many fragments each reaches
 
-abbrev count_below : ℕ → (ℕ → Bool) → ℕ
-count_below zero p = 0
-count_below (suc n) p = (if p n then 1 else 0) + count_below n p
-
-count-more : (n : ℕ) (p q : ℕ → Bool) → ((k : ℕ) → p k ≡ true → q k ≡ true) → count_below n p ≤ count_below n q
-count-more zero p q h = omega arith
-count-more (suc n) p q h = go (p n) (q n) (h n) (count-more n p q h)
-  where
-    go : (a b : Bool) → (a ≡ true → b ≡ true) → count_below n p ≤ count_below n q → (if a then 1 else 0) + count_below n p ≤ (if b then 1 else 0) + count_below n q
-    go true true i le = omega arith
-    go true false i le = absurd (both_ways false refl (i refl))
-    go false true i le = omega arith
-    go false false i le = omega arith
-
-count-less : (n m : ℕ) (p q : ℕ → Bool) → ((k : ℕ) → p k ≡ true → q k ≡ true) → m < n → p m ≡ false → q m ≡ true → count_below n p < count_below n q
-count-less zero m p q h lt out into = absurd (omega (arith, lt))
-count-less (suc n) m p q h lt out into = go (m == n) refl (λ l. count-less n m p q h l out into)
-  where
-    more : count_below n p ≤ count_below n q
-    more = count-more n p q h
-
-    step : (a b : Bool) → (a ≡ true → b ≡ true) → count_below n p < count_below n q → (if a then 1 else 0) + count_below n p < (if b then 1 else 0) + count_below n q
-    step true true i l = omega arith
-    step true false i l = absurd (both_ways false refl (i refl))
-    step false true i l = omega arith
-    step false false i l = omega arith
-
-    go : (b : Bool) → (m == n) ≡ b → (m < n → count_below n p < count_below n q) → count_below (suc n) p < count_below (suc n) q
-    go true e rest =
-        let same : m ≡ n = grind arith in
-        let P : ℕ → Type 0 = λ x. p x ≡ false in
-        let Q : ℕ → Type 0 = λ x. q x ≡ true in
-        let a : p n ≡ false = subst P same out in
-        let b : q n ≡ true = subst Q same into in
-        let le : count_below n p ≤ count_below n q = more in
-        rw (a, b) (omega arith)
-    go false e rest = let l : m < n = grind arith in step (p n) (q n) (h n) (rest l)
-
-count-most : (n : ℕ) (p : ℕ → Bool) → count_below n p ≤ n
-count-most zero p = omega arith
-count-most (suc n) p = go (p n) (count-most n p)
-  where
-    go : (b : Bool) → count_below n p ≤ n → (if b then 1 else 0) + count_below n p ≤ suc n
-    go true le = omega arith
-    go false le = omega arith
-
-count-out : (n m : ℕ) (p : ℕ → Bool) → m < n → p m ≡ false → count_below n p < n
-count-out zero m p lt out = absurd (omega (arith, lt))
-count-out (suc n) m p lt out = go (m == n) refl (λ l. count-out n m p l out)
-  where
-    most : count_below n p ≤ n
-    most = count-most n p
-
-    step : (b : Bool) → count_below n p < n → (if b then 1 else 0) + count_below n p < suc n
-    step true l = omega arith
-    step false l = omega arith
-
-    go : (b : Bool) → (m == n) ≡ b → (m < n → count_below n p < n) → count_below (suc n) p < suc n
-    go true e rest =
-        let same : m ≡ n = grind arith in
-        let P : ℕ → Type 0 = λ x. p x ≡ false in
-        let a : p n ≡ false = subst P same out in
-        let le : count_below n p ≤ n = most in
-        rw a (omega arith)
-    go false e rest = let l : m < n = grind arith in step (p n) (rest l)
-
 abbrev reached : GraphOf → ℕ → ℕ
-reached g j = count_below (length g.fragments) (λ k. reaches g (owner.Fragment j) k)
+reached g j = total (length g.fragments) (λ k. bit (reaches g (owner.Fragment j) k))
 
 before : (g : GraphOf) (o : Owner) (k m : ℕ) → spreads g o k ≡ true → Reaches g (owner.Fragment k) m → Reaches g o m
 before g o k m h (start i) = along (start h) i
@@ -248,16 +126,13 @@ before g o k m h (along r i) = along (before g o k _ h r) i
 -- a fragment reaches more than those that it spreads, where they don't reach themselves
 reaches-less : (g : GraphOf) (j k : ℕ) → are_known g ≡ true → k < length g.fragments → is_cyclic g k ≡ false → spreads g (owner.Fragment j) k ≡ true → reached g k < reached g j
 reaches-less g j k known lt cycle h =
-    count-less (length g.fragments) k (λ m. reaches g (owner.Fragment k) m) (λ m. reaches g (owner.Fragment j) m)
-    (λ m r. reaches_complete g (owner.Fragment j) m known (before g (owner.Fragment j) k m h (through_sound (length g.fragments) g (owner.Fragment k) m r)))
-    lt cycle (reaches_complete g (owner.Fragment j) k known (start h))
+    total-less (length g.fragments) k (λ m. bit (reaches g (owner.Fragment k) m)) (λ m. bit (reaches g (owner.Fragment j) m))
+    (λ m. bit-more _ _ (λ r. reaches_complete g (owner.Fragment j) m known (before g (owner.Fragment j) k m h (through_sound (length g.fragments) g (owner.Fragment k) m r))))
+    lt (bit-less _ _ cycle (reaches_complete g (owner.Fragment j) k known (start h)))
 
 -- ---- levels are settled
 
 module _ (defs : List Definition) (d : Document) (free : (k : ℕ) → k < length d.fragments → is_cyclic (graph_of (parts_of defs d)) k ≡ false) where
-  abbrev graph : GraphOf
-  graph = graph_of (parts_of defs d)
-
   graph-length : length (graph_of (parts_of defs d)).fragments ≡ length d.fragments
   graph-length = length-rows_from (length d.fragments) fragment_number (parts_of defs d).spreads 0 (length d.fragments)
 
@@ -273,24 +148,10 @@ module _ (defs : List Definition) (d : Document) (free : (k : ℕ) → k < lengt
 
   settled : (n j : ℕ) → j < length d.fragments → reached (graph_of (parts_of defs d)) j < n → levels_expanded n d.fragments j ≡ levels_expanded (suc n) d.fragments j
   settled zero j lt r = absurd (omega (arith, r))
-  settled (suc n) j lt r = go (slice_get d.fragments j) refl (λ k l s. settled n k l (let less = reaches-less (graph_of (parts_of defs d)) j k known (rw graph-length l) (free k l) s in omega (arith, less, r)))
-    where
-      go : (o : Option Fragment) → slice_get d.fragments j ≡ o
-          → ((k : ℕ) → k < length d.fragments → spreads (graph_of (parts_of defs d)) (owner.Fragment j) k ≡ true → levels_expanded n d.fragments k ≡ levels_expanded (suc n) d.fragments k)
-          → option_map_or (λ (f : Fragment). levels_in (levels_named (levels_expanded n d.fragments) d.fragments) f.selection_set) o 0
-          ≡ option_map_or (λ (f : Fragment). levels_in (levels_named (levels_expanded (suc n) d.fragments) d.fragments) f.selection_set) o 0
-      go None e ih = refl
-      go (Some f) e ih = same-in (levels_named (levels_expanded n d.fragments) d.fragments) (levels_named (levels_expanded (suc n) d.fragments) d.fragments) f.selection_set
-          (map-in (Known d.fragments j (λ k. (l : k < length d.fragments) → levels_expanded n d.fragments k ≡ levels_expanded (suc n) d.fragments k)) (λ name. levels_named (levels_expanded n d.fragments) d.fragments name ≡ levels_named (levels_expanded (suc n) d.fragments) d.fragments name)
-          by-name f.selection_set
-          (each-in d.fragments j (λ k. (l : k < length d.fragments) → levels_expanded n d.fragments k ≡ levels_expanded (suc n) d.fragments k) defs (inside_condition defs f.condition) f.selection_set (λ k h l. ih k l (spreads-there j k f lt e h))))
-        where
-          by-name : (name : List ℕ) → Known d.fragments j (λ k. (l : k < length d.fragments) → levels_expanded n d.fragments k ≡ levels_expanded (suc n) d.fragments k) name → levels_named (levels_expanded n d.fragments) d.fragments name ≡ levels_named (levels_expanded (suc n) d.fragments) d.fragments name
-          by-name name h = pick (fragment_place d.fragments name) refl
-            where
-              pick : (o : Option ℕ) → fragment_place d.fragments name ≡ o → option_map_or (levels_expanded n d.fragments) o 0 ≡ option_map_or (levels_expanded (suc n) d.fragments) o 0
-              pick None i = refl
-              pick (Some k) i = let l = place-below (is_fragment name) 0 d.fragments k i in h k i (omega (arith, l))
+  settled (suc n) j lt r = by_option (λ o. option_map_or (λ (f : Fragment). levels_in (levels_named (levels_expanded n d.fragments) d.fragments) f.selection_set) o 0
+      ≡ option_map_or (λ (f : Fragment). levels_in (levels_named (levels_expanded (suc n) d.fragments) d.fragments) f.selection_set) o 0) (slice_get d.fragments j) (λ _. refl) (λ f e.
+      same-in d.fragments j defs (levels_expanded n d.fragments) (levels_expanded (suc n) d.fragments) (inside_condition defs f.condition) f.selection_set (λ k l h.
+      settled n k l (let less = reaches-less (graph_of (parts_of defs d)) j k known (rw graph-length l) (free k l) (spreads-there j k f lt e h) in omega (arith, less, r))))
 
   -- the levels of fragments are at least those of what they select
   pub levels-hold : AreLevels d.fragments (levels_named (levels_expanded (length d.fragments) d.fragments) d.fragments)
@@ -300,8 +161,10 @@ module _ (defs : List Definition) (d : Document) (free : (k : ℕ) → k < lengt
       let place : fragment_place d.fragments name ≡ Some at.0 = at.1 ∙ ap (λ m. Some m) e in
       let below = place-below (is_fragment name) 0 d.fragments at.0 place in
       let lt : at.0 < length d.fragments = omega (arith, below) in
-      let few = count-out (length (graph_of (parts_of defs d)).fragments) at.0 (λ k. reaches (graph_of (parts_of defs d)) (owner.Fragment at.0) k) (rw graph-length lt) (free at.0 lt) in
-      let same = settled (length d.fragments) at.0 lt (omega (arith, few, graph-length)) in
+      let n = length (graph_of (parts_of defs d)).fragments in
+      let few = total-less (length (graph_of (parts_of defs d)).fragments) at.0 (λ k. bit (reaches (graph_of (parts_of defs d)) (owner.Fragment at.0) k)) (λ k. 1) (λ k. bit-most _) (rw graph-length lt) (bit-less _ true (free at.0 lt) refl) in
+      let most = total-most (length (graph_of (parts_of defs d)).fragments) 1 (λ k. 1) (λ k. omega arith) in
+      let same = settled (length d.fragments) at.0 lt (omega (arith, few, most, graph-length)) in
       let own : levels_expanded (suc (length d.fragments)) d.fragments at.0 ≡ levels_in (levels_named (levels_expanded (length d.fragments) d.fragments) d.fragments) f.selection_set =
       ap (λ (o : Option Fragment). option_map_or (λ (g : Fragment). levels_in (levels_named (levels_expanded (length d.fragments) d.fragments) d.fragments) g.selection_set) o 0) at.2 in
       let there : levels_named (levels_expanded (length d.fragments) d.fragments) d.fragments name ≡ levels_expanded (length d.fragments) d.fragments at.0 = ap (λ (o : Option ℕ). option_map_or (levels_expanded (length d.fragments) d.fragments) o 0) place in

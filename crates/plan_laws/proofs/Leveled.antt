@@ -2,21 +2,23 @@
 use Rattle.std.proofs.Common.{◌≡◌, ◌∙◌, sym, ap, refl, ℕ, zero, suc, ◌<◌, ◌≤◌, Bool, true, false, List, [], ◌∷◌, ◌++◌, map, length, Option, Some, None, arith, if◌then◌else◌}
 use Rattle.std.specs.Prelude.{◌||◌, not, nat_lt, bytes_eq, codes}
 use Rattle.std.proofs.Math.Path.{fun_ext}
+use Rattle.std.proofs.lemmas.Bool.{cond_both}
 use Rattle.gq_parser.specs.Tree.{TypeTree, Selection, Field, Spread, Inline, Below, nothing_below, below, SelectionSet, set_at, Selections, no_selection, and_selection, Fragment}
 use Rattle.schema_syntax.specs.Tree.{Definition, Field as DefinedField}
-use Rattle.gq_schema.specs.Inputs.{Input, Items, Int, Text, Boolean, Null as NullInput}
+use Rattle.gq_schema.specs.Inputs.{Input, Items}
 use Rattle.gq_schema.specs.Types.{field_in, root_in}
-use Rattle.gq_bindings.specs.Tree.{StepOf, BindingOf, by_column, by_one, by_many, by_each, by_via, binding_in}
+use Rattle.gq_bindings.specs.Tree.{StepOf, BindingOf, by_one, by_many, by_each, by_via, binding_in}
 use Rattle.load_memory.specs.Rows.{RowOf}
-use Rattle.execution.specs.Program.{Value, Null, Text as LeafText, Program, Programs, Under, With, ObjectOf}
+use Rattle.execution.specs.Program.{Null, Program, Programs, Under, With, ObjectOf}
 use Rattle.gq_check.specs.Plans.{PlanOf, fragment_in}
 use Rattle.rules_spreads.specs.Levels.{levels_in, levels_among, levels_from, levels_below}
 use Rattle.plan_program.specs.Chosen.{is_left_out, applies}
 use Rattle.plan_program.specs.Groups.{FieldOf, GroupOf, Collected, Entering, nothing_collected, with_field, chosen_field, has_entered, collect_one, collect_set, collect_all, enter_fragment, entering, collect_from, collect, collect_subfields, selections_in, selections_below}
 use Rattle.plan_program.specs.Arguments.{ArgumentsOf, ValueOf, all_values, null_argument, arguments_of}
-use Rattle.plan_program.specs.FieldValues.{KeyFrom, of_column, ChildrenOf, ValueFrom, known as settled, cell, first_row, all_rows, each_row, joined_rows, PreparedOf, key_from, with_loader, have_loaders, with_steps, with_key, each_asked, input_named, bound_asked, sets_below, children_of, with_arguments, defined_asked, field_asked, first_asked, prepared, all_prepared, position_of}
+use Rattle.plan_program.specs.FieldValues.{KeyFrom, of_column, ChildrenOf, ValueFrom, known as settled, first_row, all_rows, each_row, joined_rows, PreparedOf, key_from, have_loaders, with_steps, with_key, each_asked, input_named, bound_asked, sets_below, children_of, with_arguments, defined_asked, first_asked, prepared, all_prepared}
 use Rattle.plan_program.specs.PlanPrograms.{TypeOf, object_type, type_fault, type_of_row, list_of, fields_of, Objects, typed_object, row_object, read_from, read_if, first_of, first_object, all_objects, joined_object, joined_objects, asked_program, prepared_program, object_program, most_levels, plan_program}
 use Rattle.plan_laws.specs.Levels.{program_with}
+use Rattle.plan_laws.proofs.Options.{by_option}
 
 -- The number of a fragment's name is at least that of the fields on any path down from the fragment, where the fragments
 -- that it spreads have theirs.
@@ -30,49 +32,36 @@ IfAny (f ∷ fs) P = P
 
 -- says what holds of what is selected below what is asked
 abbrev OverFields : (List Below → Type 0) → ValueFrom → Type 0
-OverFields P (settled own) = Unit {0}
-OverFields P (cell column t) = Unit {0}
 OverFields P (first_row loader key b) = P b.below
 OverFields P (all_rows loader key b) = P b.below
 OverFields P (each_row loader keys b) = P b.below
 OverFields P (joined_rows loader key steps b) = P b.below
+OverFields P asked = Unit {0}
 
 -- ---- what a group asks has what the group's fields select below it
 
 module _ (plan : PlanOf) (P : List Below → Type 0) where
-  loader-over : (loader : ℕ) (asked : ValueFrom) → OverFields P asked → OverFields P (with_loader plan loader asked)
-  loader-over loader asked h = go (nat_lt loader (length plan.bindings.loaders))
-    where
-      go : (b : Bool) → OverFields P (if b then asked else settled Null)
-      go true = h
-      go false = tt
-
-  steps-over : (steps : List StepOf) (asked : ValueFrom) → OverFields P asked → OverFields P (with_steps plan steps asked)
-  steps-over steps asked h = go (have_loaders steps (length plan.bindings.loaders))
-    where
-      go : (b : Bool) → OverFields P (if b then asked else settled Null)
-      go true = h
-      go false = tt
+  -- an answer that is null by itself asks for nothing
+  over-if : (b : Bool) (asked : ValueFrom) → OverFields P asked → OverFields P (if b then asked else settled Null)
+  over-if true asked h = h
+  over-if false asked h = tt
 
   key-over : (key : Option KeyFrom) (asked : KeyFrom → ValueFrom) → ((k : KeyFrom) → OverFields P (asked k)) → OverFields P (with_key key asked)
   key-over None asked h = tt
   key-over (Some k) asked h = h k
 
   each-over : (loader : ℕ) (b : ChildrenOf) (input : Option Input) → P b.below → OverFields P (each_asked loader b input)
-  each-over loader b None h = tt
   each-over loader b (Some (Items is)) h = h
-  each-over loader b (Some (Int z)) h = tt
-  each-over loader b (Some (Text t)) h = tt
-  each-over loader b (Some (Boolean x)) h = tt
-  each-over loader b (Some NullInput) h = tt
+  each-over loader b input h = tt
 
   bound-over : (t : TypeTree) (b : ChildrenOf) (values : List ValueOf) (binding : Option BindingOf) → P b.below → OverFields P (bound_asked plan t b values binding)
-  bound-over t b values None h = tt
-  bound-over t b values (Some (by_column column)) h = tt
-  bound-over t b values (Some (by_one loader key)) h = loader-over loader _ (key-over (key_from values key) _ (λ k. h))
-  bound-over t b values (Some (by_many loader key)) h = loader-over loader _ (key-over (key_from values key) _ (λ k. h))
-  bound-over t b values (Some (by_each loader name)) h = loader-over loader _ (each-over loader b (input_named name values) h)
-  bound-over t b values (Some (by_via loader key steps)) h = loader-over loader _ (steps-over steps _ (key-over (key_from values key) _ (λ k. h)))
+  bound-over t b values (Some (by_one loader key)) h = over-if _ _ (key-over (key_from values key) _ (λ k. h))
+  bound-over t b values (Some (by_many loader key)) h = over-if _ _ (key-over (key_from values key) _ (λ k. h))
+  bound-over t b values (Some (by_each loader name)) h = over-if _ _ (each-over loader b (input_named name values) h)
+  bound-over t b values (Some (by_via loader key steps)) h =
+      over-if (nat_lt loader (length plan.bindings.loaders)) (with_steps plan steps (with_key (key_from values key) (λ k. joined_rows loader k steps b)))
+      (over-if (have_loaders steps (length plan.bindings.loaders)) (with_key (key_from values key) (λ k. joined_rows loader k steps b)) (key-over (key_from values key) _ (λ k. h)))
+  bound-over t b values binding h = tt
 
   arguments-over : (a : ArgumentsOf) (asked : List ValueOf → ValueFrom) → ((vs : List ValueOf) → OverFields P (asked vs)) → OverFields P (with_arguments a asked)
   arguments-over (null_argument name) asked h = tt
@@ -82,16 +71,9 @@ module _ (plan : PlanOf) (P : List Below → Type 0) where
   defined-over ty f g None h = tt
   defined-over ty f g (Some d) h = arguments-over (arguments_of plan ty g) _ (λ vs. bound-over d.of_type (children_of d.of_type f.place g.fields) vs (binding_in plan.bindings.fields ty f.name) h)
 
-  field-over : (ty : List ℕ) (f : FieldOf) (g : GroupOf) → P (sets_below g.fields) → OverFields P (field_asked plan ty f g).asked
-  field-over ty f g h = go (bytes_eq f.name (codes "__typename"))
-    where
-      go : (b : Bool) → OverFields P (if b then record { position = position_of g.key f.place true; asked = settled (Value (LeafText ty)) } else defined_asked plan ty f g (field_in plan.definitions ty f.name)).asked
-      go true = tt
-      go false = defined-over ty f g (field_in plan.definitions ty f.name) h
-
   first-over : (ty : List ℕ) (g : GroupOf) (fs : List FieldOf) → IfAny fs (P (sets_below g.fields)) → OverFields P (first_asked plan ty g fs).asked
   first-over ty g [] h = tt
-  first-over ty g (f ∷ fs) h = field-over ty f g h
+  first-over ty g (f ∷ fs) h = cond_both (bytes_eq f.name (codes "__typename")) _ _ (λ (p : PreparedOf). OverFields P p.asked) (λ _. tt) (λ _. defined-over ty f g (field_in plan.definitions ty f.name) h)
 
 -- ---- two ways of making objects that are alike over what is selected
 
@@ -124,12 +106,11 @@ module _ (defs : List Definition) (objects other : Objects) where
   joined-alike b steps h = fun_ext (λ rs. ap (λ (f : RowOf → Program). list_of b (map f rs)) (object-alike b steps h))
 
   asked-alike : (row : RowOf) (a : ValueFrom) → OverFields (AlikeOver objects other) a → asked_program defs objects row a ≡ asked_program defs other row a
-  asked-alike row (settled own) h = refl
-  asked-alike row (cell column t) h = refl
   asked-alike row (first_row loader key b) h = ap (λ (next : List RowOf → Program). read_from loader key row next) (firsts-alike b h)
   asked-alike row (all_rows loader key b) h = ap (λ (next : List RowOf → Program). read_from loader key row next) (alls-alike b h)
   asked-alike row (each_row loader keys b) h = ap (λ (next : List RowOf → Program). list_of b (map (read_if loader next) keys)) (firsts-alike b h)
   asked-alike row (joined_rows loader key steps b) h = ap (λ (next : List RowOf → Program). read_from loader key row next) (joined-alike b steps h)
+  asked-alike row a h = refl
 
 -- groups, each with fields below which they are alike
 abbrev GroupsAlike : Objects → Objects → List GroupOf → Type 0
@@ -168,52 +149,33 @@ module _ (plan : PlanOf) (spread : List ℕ → ℕ) where
 
   with-within : (most : ℕ) (gs : List GroupOf) (f : FieldOf) → GroupsWithin most gs → levels_below spread f.below < most → GroupsWithin most (with_field gs f)
   with-within most [] f h k = ((k, tt), tt)
-  with-within most (g ∷ gs) f h k = go (bytes_eq f.key g.key) (with-within most gs f h.1 k)
-    where
-      go : (b : Bool) → GroupsWithin most (with_field gs f) → GroupsWithin most (if b then record { key = g.key; fields = g.fields ++ f ∷ [] } ∷ gs else g ∷ with_field gs f)
-      go true r = (within-last most g.fields f h.0 k, h.1)
-      go false r = (h.0, r)
+  with-within most (g ∷ gs) f h k = cond_both (bytes_eq f.key g.key) _ _ (GroupsWithin most) (λ _. (within-last most g.fields f h.0 k, h.1)) (λ _. (h.0, with-within most gs f h.1 k))
+
+  abbrev IsWithin : ℕ → Collected → Type 0
+  IsWithin most c = GroupsWithin most c.groups
 
   abbrev StaysWithin : ℕ → Entering → Type 0
-  StaysWithin most enter = (so_far : Collected) (name : List ℕ) → spread name ≤ most → GroupsWithin most so_far.groups → GroupsWithin most (enter so_far name).groups
+  StaysWithin most enter = (so_far : Collected) (name : List ℕ) → spread name ≤ most → IsWithin most so_far → IsWithin most (enter so_far name)
 
-  mutual
-    within-one : (most : ℕ) (ty : List ℕ) (enter : Entering) → StaysWithin most enter → (so_far : Collected) (s : Selection) → levels_from spread s ≤ most → GroupsWithin most so_far.groups → GroupsWithin most (collect_one plan ty enter so_far s).groups
-    within-one most ty enter stays so_far (Field place alias name given ds b) le h = go (is_left_out plan ds)
-      where
-        go : (x : Bool) → GroupsWithin most (if x then so_far else record { groups = with_field so_far.groups (chosen_field place alias name given b); entered = so_far.entered }).groups
-        go true = h
-        go false = with-within most so_far.groups (chosen_field place alias name given b) h (omega (arith, le))
-    within-one most ty enter stays so_far (Spread place name ds) le h = go (is_left_out plan ds || has_entered so_far name)
-      where
-        go : (x : Bool) → GroupsWithin most (if x then so_far else enter (record { groups = so_far.groups; entered = so_far.entered ++ name ∷ [] }) name).groups
-        go true = h
-        go false = stays (record { groups = so_far.groups; entered = so_far.entered ++ name ∷ [] }) name le h
-    within-one most ty enter stays so_far (Inline place condition ds set) le h = go (is_left_out plan ds || not (applies plan condition ty)) (within-set most ty enter stays so_far set le h)
-      where
-        go : (x : Bool) → GroupsWithin most (collect_set plan ty enter so_far set).groups → GroupsWithin most (if x then so_far else collect_set plan ty enter so_far set).groups
-        go true i = h
-        go false i = i
+  module _ (most : ℕ) (ty : List ℕ) (enter : Entering) (stays : StaysWithin most enter) where
+    mutual
+      within-one : (so_far : Collected) (s : Selection) → levels_from spread s ≤ most → IsWithin most so_far → IsWithin most (collect_one plan ty enter so_far s)
+      within-one so_far (Field place alias name given ds b) le h = cond_both (is_left_out plan ds) _ _ (IsWithin most) (λ _. h) (λ _. with-within most so_far.groups (chosen_field place alias name given b) h (omega (arith, le)))
+      within-one so_far (Spread place name ds) le h = cond_both (is_left_out plan ds || has_entered so_far name) _ _ (IsWithin most) (λ _. h) (λ _. stays _ name le h)
+      within-one so_far (Inline place condition ds set) le h = cond_both (is_left_out plan ds || not (applies plan condition ty)) _ _ (IsWithin most) (λ _. h) (λ _. within-set so_far set le h)
 
-    within-set : (most : ℕ) (ty : List ℕ) (enter : Entering) → StaysWithin most enter → (so_far : Collected) (s : SelectionSet) → levels_in spread s ≤ most → GroupsWithin most so_far.groups → GroupsWithin most (collect_set plan ty enter so_far s).groups
-    within-set most ty enter stays so_far (set_at place ss) le h = within-all most ty enter stays so_far ss le h
+      within-set : (so_far : Collected) (s : SelectionSet) → levels_in spread s ≤ most → IsWithin most so_far → IsWithin most (collect_set plan ty enter so_far s)
+      within-set so_far (set_at place ss) le h = within-all so_far ss le h
 
-    within-all : (most : ℕ) (ty : List ℕ) (enter : Entering) → StaysWithin most enter → (so_far : Collected) (ss : Selections) → levels_among spread ss ≤ most → GroupsWithin most so_far.groups → GroupsWithin most (collect_all plan ty enter so_far ss).groups
-    within-all most ty enter stays so_far no_selection le h = h
-    within-all most ty enter stays so_far (and_selection s ss) le h = within-all most ty enter stays (collect_one plan ty enter so_far s) ss (omega (arith, le)) (within-one most ty enter stays so_far s (omega (arith, le)) h)
+      within-all : (so_far : Collected) (ss : Selections) → levels_among spread ss ≤ most → IsWithin most so_far → IsWithin most (collect_all plan ty enter so_far ss)
+      within-all so_far no_selection le h = h
+      within-all so_far (and_selection s ss) le h = within-all (collect_one plan ty enter so_far s) ss (omega (arith, le)) (within-one so_far s (omega (arith, le)) h)
 
   module _ (levels : AreLevels plan.fragments spread) where
     stays : (most : ℕ) (ty : List ℕ) (left : ℕ) → StaysWithin most (entering plan ty left)
     stays most ty zero so_far name le h = h
-    stays most ty (suc left) so_far name le h = go (fragment_in plan.fragments name) refl (stays most ty left)
-      where
-        go : (o : Option Fragment) → fragment_in plan.fragments name ≡ o → StaysWithin most (entering plan ty left) → GroupsWithin most (enter_fragment plan ty (entering plan ty left) so_far o).groups
-        go None e ih = h
-        go (Some f) e ih = inner (applies plan (Some f.condition) ty) (within-set most ty (entering plan ty left) ih so_far f.selection_set (let l = levels name f e in omega (arith, l, le)) h)
-          where
-            inner : (x : Bool) → GroupsWithin most (collect_set plan ty (entering plan ty left) so_far f.selection_set).groups → GroupsWithin most (if x then collect_set plan ty (entering plan ty left) so_far f.selection_set else so_far).groups
-            inner true i = i
-            inner false i = h
+    stays most ty (suc left) so_far name le h = by_option (λ o. IsWithin most (enter_fragment plan ty (entering plan ty left) so_far o)) (fragment_in plan.fragments name) (λ _. h) (λ f e.
+        cond_both (applies plan (Some f.condition) ty) _ _ (IsWithin most) (λ _. within-set most ty (entering plan ty left) (stays most ty left) so_far f.selection_set (let l = levels name f e in omega (arith, l, le)) h) (λ _. h))
 
     from-within : (most : ℕ) (ty : List ℕ) (so_far : Collected) (b : Below) → levels_below spread b ≤ most → GroupsWithin most so_far.groups → GroupsWithin most (collect_from plan ty so_far (selections_below b)).groups
     from-within most ty so_far nothing_below le h = h

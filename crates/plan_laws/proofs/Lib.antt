@@ -1,3 +1,5 @@
+pub mod Each
+pub mod Totals
 pub mod Entered
 pub mod Leveled
 pub mod Expanded

@@ -1,15 +1,13 @@
 -- Each field that execution can meet has a definition in the type of its object: a group holds fields of the document that stand in
 -- sets of types that the object is of, and fields that stand together have one name.
-use Rattle.std.proofs.Common.{◌≡◌, ◌≢◌, ◌∙◌, sym, ap, subst, refl, ℕ, zero, suc, ◌+◌, Bool, true, false, not, ◌||◌, ◌==◌, ◌⊎◌, List, [], ◌∷◌, ◌++◌, length, Option, Some, None, inl, inr, if◌then◌else◌}
+use Rattle.std.proofs.Common.{◌≡◌, ◌≢◌, ◌∙◌, sym, ap, subst, refl, ℕ, zero, suc, ◌+◌, Bool, true, false, not, ◌||◌, ◌==◌, ◌⊎◌, List, [], ◌∷◌, ◌++◌, length, Option, Some, None, inl, inr, arith}
 use Rattle.std.specs.Prelude.{slice_get, bytes_eq, codes}
-use Rattle.std.specs.Option.{option_map_or, option_and_then}
-use Rattle.std.proofs.lemmas.Bool.{or_left, or_right, and_parts, both_ways, eqb-true, eq-eqb}
+use Rattle.std.proofs.lemmas.Bool.{cond_both, or_left, or_right, and_parts, both_ways, eq-eqb, cases_eq}
 use Rattle.std.proofs.lemmas.Slice.Eq.{bytes_eq-Decides}
 use Rattle.text_place.specs.declared.place.Place.{Place}
 use Rattle.gq_parser.specs.Tree.{Argument, Directive, Condition, Selection, Field, Spread, Inline, Below, nothing_below, below, SelectionSet, set_at, Selections, no_selection, and_selection, Fragment, Document}
 use Rattle.schema_syntax.specs.Tree.{Definition, Field as DefinedField}
-use Rattle.gq_schema.specs.Kinds.{is_object}
-use Rattle.gq_schema.specs.Types.{kind_in, field_in, root_in, can_be, is_covariant, core_of}
+use Rattle.gq_schema.specs.Types.{field_in, root_in, can_be, is_covariant, core_of}
 use Rattle.gq_schema.specs.Fault.{fault_of}
 use Rattle.gq_bindings.specs.Types.{is_object_type}
 use Rattle.rules_parts.specs.declared.part.Owner.{Owner}
@@ -24,7 +22,7 @@ use Rattle.merging_pairs.proofs.MergeLaws.{can-gives}
 use Rattle.merging_pairs.proofs.ReachLaws.{in-append}
 use Rattle.merging_members.specs.Members.{count_from, members_in, members_among, members_from, members_below, members_entered, members_of_fragment}
 use Rattle.merging_arguments.specs.Same.{same_arguments}
-use Rattle.merging_fields.specs.Compare.{response_key, have_one_key, same_parent, is_object_parent, may_meet, do_agree}
+use Rattle.merging_fields.specs.Compare.{response_key, have_one_key, may_meet, do_agree}
 use Rattle.merging_fields.specs.Members.{members_at, fields_of}
 use Rattle.merging_fields.proofs.Twins.{at-is, test-is}
 use Rattle.execution.specs.Loads.{IsOneOf}
@@ -36,21 +34,16 @@ use Rattle.plan_program.specs.Chosen.{is_left_out, applies}
 use Rattle.plan_program.specs.Groups.{FieldOf, GroupOf, Collected, Entering, nothing_collected, with_field, chosen_field, has_entered, collect_one, collect_set, collect_all, enter_fragment, entering, collect_from, collect, collect_subfields, selections_in, selections_below}
 use Rattle.plan_program.specs.FieldValues.{sets_below}
 use Rattle.plan_laws.specs.Met.{MayStand, is_typename, IsAskedBy, CanBeMet, of_root, inside}
-use Rattle.plan_laws.proofs.Options.{none-kept}
+use Rattle.plan_laws.proofs.Options.{by_option, got-one, none-kept}
 use Rattle.plan_laws.proofs.Schemas.{IsFor, Serves, for-composite, object-alone, field-serves, may-object, may-for, may-itself, serves-type, root-object}
-use Rattle.plan_laws.proofs.Placed.{Placed, PlacedOne, PlacedSet, PlacedBelow, placed-first, placed-rest, placed-inline, placed-among, placed-merge, field_at, placed-field, operation-placed, fragment-placed}
-use Rattle.plan_laws.proofs.Valid.{IsAmong, prepared-among}
+use Rattle.plan_laws.proofs.Placed.{Placed, PlacedOne, PlacedSet, PlacedBelow, placed-first, placed-rest, placed-among, placed-merge, field_at, placed-field, operation-placed, fragment-placed}
+use Rattle.plan_laws.proofs.Valid.{prepared-among}
 
 text-is : (q n : List ℕ) → bytes_eq q n ≡ true → q ≡ n
 text-is q n e = (bytes_eq-Decides q n).0 e
 
 text-own : (q : List ℕ) → bytes_eq q q ≡ true
 text-own q = (bytes_eq-Decides q q).1 refl
-
-got-one : {A : Type 0} (xs : List A) (i : ℕ) (x : A) → slice_get xs i ≡ Some x → IsOneOf x xs
-got-one [] i x e = absurd (cc e)
-got-one (y ∷ xs) zero x e = let same : x ≡ y = cc in inl same
-got-one (y ∷ xs) (suc i) x e = inr (got-one xs i x e)
 
 module _ (defs : List Definition) (d : Document) where
   abbrev pub D : Fields ℕ
@@ -87,12 +80,7 @@ module _ (defs : List Definition) (d : Document) where
   one-of-last : (fs : List FieldOf) (f x : FieldOf) → IsOneOf x (fs ++ f ∷ []) → IsOneOf x fs ⊎ (x ≡ f)
   one-of-last [] f x (inl e) = inr e
   one-of-last [] f x (inr i) = absurd i
-  one-of-last (y ∷ fs) f x (inl e) = inl (inl e)
-  one-of-last (y ∷ fs) f x (inr i) = go (one-of-last fs f x i)
-    where
-      go : IsOneOf x fs ⊎ (x ≡ f) → IsOneOf x (y ∷ fs) ⊎ (x ≡ f)
-      go (inl j) = inl (inr j)
-      go (inr e) = inr e
+  one-of-last (y ∷ fs) f x i = grind (arith, one-of-last fs f x)
 
   module _ (ty : List ℕ) (M : ℕ → Type 0) where
     group-last : (g : GroupOf) (f : FieldOf) → bytes_eq f.key g.key ≡ true → IsGroup ty M g → IsMember ty M f → IsGroup ty M (record { key = g.key; fields = g.fields ++ f ∷ [] })
@@ -115,13 +103,9 @@ module _ (defs : List Definition) (d : Document) where
 
     with-groups : (gs : List GroupOf) (f : FieldOf) → AreGroups ty M gs → IsMember ty M f → AreGroups ty M (with_field gs f)
     with-groups [] f are m = λ g i. elim i [ inl s ↦ subst (IsGroup ty M) (sym s) (group-new f m) | inr j ↦ absurd j ]
-    with-groups (g ∷ gs) f are m = go (bytes_eq f.key g.key) refl (with-groups gs f (λ h j. are h (inr j)) m)
-      where
-        go : (b : Bool) → bytes_eq f.key g.key ≡ b → AreGroups ty M (with_field gs f) → AreGroups ty M (if b then record { key = g.key; fields = g.fields ++ f ∷ [] } ∷ gs else g ∷ with_field gs f)
-        go true e rest h (inl s) = subst (IsGroup ty M) (sym s) (group-last g f e (are g (inl refl)) m)
-        go true e rest h (inr j) = are h (inr j)
-        go false e rest h (inl s) = are h (inl s)
-        go false e rest h (inr j) = rest h j
+    with-groups (g ∷ gs) f are m = cond_both (bytes_eq f.key g.key) _ _ (AreGroups ty M)
+        (λ e h i. elim i [ inl s ↦ subst (IsGroup ty M) (sym s) (group-last g f e (are g (inl refl)) m) | inr j ↦ are h (inr j) ])
+        (λ _ h i. elim i [ inl s ↦ are h (inl s) | inr j ↦ with-groups gs f (λ k l. are k (inr l)) m h j ])
 
     -- ---- collecting
 
@@ -135,8 +119,11 @@ module _ (defs : List Definition) (d : Document) where
     within-right xs ys h c e = h c (in-append xs ys c ∙ or_right (is_in xs c) (is_in ys c) e)
 
     module _ (plan : PlanOf) (kept : fault_of defs ≡ None) (object : is_object_type defs ty ≡ true) (same_defs : plan.definitions ≡ defs) where
+      abbrev Are : Collected → Type 0
+      Are c = AreGroups ty M c.groups
+
       abbrev Collects : (List ℕ → List ℕ) → Entering → Type 0
-      Collects spread enter = (so_far : Collected) (name : List ℕ) → Within (spread name) → AreGroups ty M so_far.groups → AreGroups ty M (enter so_far name).groups
+      Collects spread enter = (so_far : Collected) (name : List ℕ) → Within (spread name) → Are so_far → Are (enter so_far name)
 
       member-of : (o : Owner) (parent : List ℕ) (n : ℕ) (p : Place) (alias : Option (List ℕ)) (name : List ℕ) (given : List Argument) (ds : List Directive) (b : Below) → IsFor defs parent ty
           → PlacedOne defs d o (Some parent) n (Field p alias name given ds b) → M n → IsMember ty M (chosen_field p alias name given b)
@@ -164,193 +151,117 @@ module _ (defs : List Definition) (d : Document) where
           let can : can_be defs c.name ty ≡ true = subst (λ (ds : List Definition). can_be ds c.name ty ≡ true) same_defs e in
           (for-composite defs kept c.name ty object (inr can), inr can)
 
-      mutual
-        collects-one : (spread : List ℕ → List ℕ) (enter : Entering) → Collects spread enter → (o : Owner) (parent : List ℕ) (n : ℕ) (s : Selection) (so_far : Collected) → IsFor defs parent ty
-            → PlacedOne defs d o (Some parent) n s → Within (members_from spread n s) → AreGroups ty M so_far.groups → AreGroups ty M (collect_one plan ty enter so_far s).groups
-        collects-one spread enter enters o parent n (Field p alias name given ds b) so_far for h within are = go (is_left_out plan ds)
-          where
-            own : M n
-            own = within n (or_left (n == n) false (eq-eqb n n refl))
+      module _ (spread : List ℕ → List ℕ) (enter : Entering) (enters : Collects spread enter) (o : Owner) where
+        mutual
+          collects-one : (parent : List ℕ) (n : ℕ) (s : Selection) (so_far : Collected) → IsFor defs parent ty → PlacedOne defs d o (Some parent) n s → Within (members_from spread n s) → Are so_far → Are (collect_one plan ty enter so_far s)
+          collects-one parent n (Field p alias name given ds b) so_far for h within are = cond_both (is_left_out plan ds) _ _ Are (λ _. are)
+              (λ _. with-groups so_far.groups (chosen_field p alias name given b) are (member-of o parent n p alias name given ds b for h (within n (or_left (n == n) false (eq-eqb n n refl)))))
+          collects-one parent n (Spread p name ds) so_far for h within are = cond_both (is_left_out plan ds || has_entered so_far name) _ _ Are (λ _. are) (λ _. enters _ name within are)
+          collects-one parent n (Inline p None ds set) so_far for h within are = cond_both (is_left_out plan ds || not (applies plan None ty)) _ _ Are (λ _. are) (λ _. collects-set parent n set so_far for h within are)
+          collects-one parent n (Inline p (Some c) ds set) so_far for h within are = cond_both (is_left_out plan ds || not (applies plan (Some c) ty)) _ _ Are (λ _. are) (λ e.
+              let f = fragment-parent c (grind arith) in
+              collects-set c.name n set so_far f.1 (subst (λ (q : Option (List ℕ)). PlacedSet defs d o q n set) f.0 h) within are)
 
-            go : (x : Bool) → AreGroups ty M (if x then so_far else record { groups = with_field so_far.groups (chosen_field p alias name given b); entered = so_far.entered }).groups
-            go true = are
-            go false = with-groups so_far.groups (chosen_field p alias name given b) are (member-of o parent n p alias name given ds b for h own)
-        collects-one spread enter enters o parent n (Spread p name ds) so_far for h within are = go (is_left_out plan ds || has_entered so_far name)
-          where
-            go : (x : Bool) → AreGroups ty M (if x then so_far else enter (record { groups = so_far.groups; entered = so_far.entered ++ name ∷ [] }) name).groups
-            go true = are
-            go false = enters (record { groups = so_far.groups; entered = so_far.entered ++ name ∷ [] }) name within are
-        collects-one spread enter enters o parent n (Inline p None ds set) so_far for h within are =
-            go (is_left_out plan ds || not (applies plan None ty)) (collects-set spread enter enters o parent n set so_far for (placed-inline defs d o (Some parent) n p None ds set h) within are)
-          where
-            go : (x : Bool) → AreGroups ty M (collect_set plan ty enter so_far set).groups → AreGroups ty M (if x then so_far else collect_set plan ty enter so_far set).groups
-            go true i = are
-            go false i = i
-        collects-one spread enter enters o parent n (Inline p (Some c) ds set) so_far for h within are =
-            go (is_left_out plan ds) (applies plan (Some c) ty) refl
-            (λ e. collects-set spread enter enters o c.name n set so_far (fragment-parent c e).1
-            (subst (λ (q : Option (List ℕ)). PlacedSet defs d o q n set) (fragment-parent c e).0 (placed-inline defs d o (Some parent) n p (Some c) ds set h)) within are)
-          where
-            go : (x y : Bool) → applies plan (Some c) ty ≡ y → (applies plan (Some c) ty ≡ true → AreGroups ty M (collect_set plan ty enter so_far set).groups) → AreGroups ty M (if x || not y then so_far else collect_set plan ty enter so_far set).groups
-            go true y e i = are
-            go false true e i = i e
-            go false false e i = are
+          collects-set : (parent : List ℕ) (n : ℕ) (s : SelectionSet) (so_far : Collected) → IsFor defs parent ty → PlacedSet defs d o (Some parent) n s → Within (members_in spread n s) → Are so_far → Are (collect_set plan ty enter so_far s)
+          collects-set parent n (set_at p ss) so_far for h within are = collects-all parent n ss so_far for (placed-among defs d o (Some parent) n p ss h) within are
 
-        collects-set : (spread : List ℕ → List ℕ) (enter : Entering) → Collects spread enter → (o : Owner) (parent : List ℕ) (n : ℕ) (s : SelectionSet) (so_far : Collected) → IsFor defs parent ty
-            → PlacedSet defs d o (Some parent) n s → Within (members_in spread n s) → AreGroups ty M so_far.groups → AreGroups ty M (collect_set plan ty enter so_far s).groups
-        collects-set spread enter enters o parent n (set_at p ss) so_far for h within are = collects-all spread enter enters o parent n ss so_far for (placed-among defs d o (Some parent) n p ss h) within are
-
-        collects-all : (spread : List ℕ → List ℕ) (enter : Entering) → Collects spread enter → (o : Owner) (parent : List ℕ) (n : ℕ) (ss : Selections) (so_far : Collected) → IsFor defs parent ty
-            → Placed defs d o (Some parent) n ss → Within (members_among spread n ss) → AreGroups ty M so_far.groups → AreGroups ty M (collect_all plan ty enter so_far ss).groups
-        collects-all spread enter enters o parent n no_selection so_far for h within are = are
-        collects-all spread enter enters o parent n (and_selection s ss) so_far for h within are =
-            collects-all spread enter enters o parent (n + count_from s) ss (collect_one plan ty enter so_far s) for (placed-rest defs d o (Some parent) n s ss h)
-            (within-right (members_from spread n s) (members_among spread (n + count_from s) ss) within)
-            (collects-one spread enter enters o parent n s so_far for (placed-first defs d o (Some parent) n s ss h) (within-left (members_from spread n s) (members_among spread (n + count_from s) ss) within) are)
+          collects-all : (parent : List ℕ) (n : ℕ) (ss : Selections) (so_far : Collected) → IsFor defs parent ty → Placed defs d o (Some parent) n ss → Within (members_among spread n ss) → Are so_far → Are (collect_all plan ty enter so_far ss)
+          collects-all parent n no_selection so_far for h within are = are
+          collects-all parent n (and_selection s ss) so_far for h within are =
+              let own = members_from spread n s in
+              let others = members_among spread (n + count_from s) ss in
+              collects-all parent (n + count_from s) ss (collect_one plan ty enter so_far s) for (placed-rest defs d o (Some parent) n s ss h) (within-right own others within)
+              (collects-one parent n s so_far for (placed-first defs d o (Some parent) n s ss h) (within-left own others within) are)
 
       module _ (keeps : KeepsRules (parts_of defs d)) (same_fragments : plan.fragments ≡ d.fragments) where
         enters : (left : ℕ) → Collects (members_entered left d) (entering plan ty left)
         enters zero so_far name within are = are
-        enters (suc left) so_far name within are = go (fragment_in plan.fragments name) refl (enters left)
-          where
-            entered : (f : Fragment) → fragment_in plan.fragments name ≡ Some f → applies plan (Some f.condition) ty ≡ true → Collects (members_entered left d) (entering plan ty left) → AreGroups ty M (collect_set plan ty (entering plan ty left) so_far f.selection_set).groups
-            entered f e a ih =
-                let found : fragment_in d.fragments name ≡ Some f = subst (λ (fs : List Fragment). fragment_in fs name ≡ Some f) same_fragments e in
-                let at = fragment-placed defs d keeps.merging name f found in
-                let parent = fragment-parent f.condition a in
-                collects-set (members_entered left d) (entering plan ty left) ih (owner.Fragment at.number) f.condition.name at.start f.selection_set so_far parent.1
-                (subst (λ (q : Option (List ℕ)). PlacedSet defs d (owner.Fragment at.number) q at.start f.selection_set) parent.0 at.placed)
-                (subst Within (at.members (members_entered left d)) within) are
-
-            go : (o : Option Fragment) → fragment_in plan.fragments name ≡ o → Collects (members_entered left d) (entering plan ty left) → AreGroups ty M (enter_fragment plan ty (entering plan ty left) so_far o).groups
-            go None e ih = are
-            go (Some f) e ih = inner (applies plan (Some f.condition) ty) refl (λ a. entered f e a ih)
-              where
-                inner : (x : Bool) → applies plan (Some f.condition) ty ≡ x → (applies plan (Some f.condition) ty ≡ true → AreGroups ty M (collect_set plan ty (entering plan ty left) so_far f.selection_set).groups)
-                    → AreGroups ty M (if x then collect_set plan ty (entering plan ty left) so_far f.selection_set else so_far).groups
-                inner true a i = i a
-                inner false a i = are
+        enters (suc left) so_far name within are = by_option (λ o. Are (enter_fragment plan ty (entering plan ty left) so_far o)) (fragment_in plan.fragments name) (λ _. are) (λ f e.
+            cond_both (applies plan (Some f.condition) ty) _ _ Are (λ a.
+            let at = fragment-placed defs d keeps.merging name f (rw same_fragments at e) in
+            let parent = fragment-parent f.condition a in
+            collects-set (members_entered left d) (entering plan ty left) (enters left) (owner.Fragment at.number) f.condition.name at.start f.selection_set so_far parent.1
+            (subst (λ (q : Option (List ℕ)). PlacedSet defs d (owner.Fragment at.number) q at.start f.selection_set) parent.0 at.placed) (subst Within (at.members (members_entered left d)) within) are) (λ _. are))
 
         -- the fragments that are entered are those whose members a set has
         enters-all : Collects (members_of_fragment d) (entering plan ty (length plan.fragments))
         enters-all = subst (λ (fs : List Fragment). Collects (members_of_fragment d) (entering plan ty (length fs))) (sym same_fragments) (enters (length d.fragments))
 
-        pub collects-in : (o : Owner) (parent : List ℕ) (n : ℕ) (s : SelectionSet) (so_far : Collected) → IsFor defs parent ty → PlacedSet defs d o (Some parent) n s
-            → Within (members_in (members_of_fragment d) n s) → AreGroups ty M so_far.groups → AreGroups ty M (collect_from plan ty so_far (selections_in s)).groups
-        collects-in o parent n (set_at p ss) so_far for h within are =
-            collects-all (members_of_fragment d) (entering plan ty (length plan.fragments)) enters-all o parent n ss so_far for (placed-among defs d o (Some parent) n p ss h) within are
-
         pub collects-below : (o : Owner) (parent : List ℕ) (n : ℕ) (b : Below) (so_far : Collected) → IsFor defs parent ty → PlacedBelow defs d o (Some parent) n b
-            → Within (members_below (members_of_fragment d) n b) → AreGroups ty M so_far.groups → AreGroups ty M (collect_from plan ty so_far (selections_below b)).groups
+            → Within (members_below (members_of_fragment d) n b) → Are so_far → Are (collect_from plan ty so_far (selections_below b))
         collects-below o parent n nothing_below so_far for h within are = are
-        collects-below o parent n (below s) so_far for h within are = collects-in o parent n s so_far for (record { stands = record { rest = h.stands.rest; from = h.stands.from }; merge = h.merge }) within are
+        collects-below o parent n (below (set_at p ss)) so_far for h within are =
+            collects-all (members_of_fragment d) (entering plan ty (length plan.fragments)) enters-all o parent n ss so_far for (placed-among defs d o (Some parent) n p ss h) within are
 
   -- ---- fields that stand together merge
 
   abbrev pub AreMerged : (ℕ → Type 0) → Type 0
   AreMerged M = (a b : ℕ) → M a → M b → a ≢ b → D.one_key a b ≡ true → Merges D a b
 
-  -- a field of these numbers, of a response key, which an object type has
-  record IsEntry (ty key : List ℕ) (M : ℕ → Type 0) (a : ℕ) : Type 0 where
-    member : M a
-    part : FieldPart
-    there : slice_get (parts_of defs d).fields a ≡ Some part
-    parent : List ℕ
-    in_parent : part.parent ≡ Some parent
-    fits : IsFor defs parent ty
-    key_is : response_key part ≡ key
-
-  -- the field is a member of the selection set of one of them, and each of these sets can be merged
+  -- the field is a member of the selection set of one of them, of this response key, and each of these sets can be merged
   record IsBelow (ty key : List ℕ) (M : ℕ → Type 0) (c : ℕ) : Type 0 where
-    from : ℕ
-    entry : IsEntry ty key M from
-    member : D.enters from c ≡ true
-    merge : CanMerge D (D.enters from)
+    from : FieldOf
+    entry : IsMember ty M from
+    key_is : from.key ≡ key
+    member : D.enters entry.number c ≡ true
+    merge : CanMerge D (D.enters entry.number)
 
-  entries-key : (ty key : List ℕ) (M : ℕ → Type 0) (a b : ℕ) → IsEntry ty key M a → IsEntry ty key M b → D.one_key a b ≡ true
-  entries-key ty key M a b x y =
-      test-is have_one_key (parts_of defs d).fields a b x.part y.part x.there y.there
-      ∙ (ap (bytes_eq (response_key x.part)) (y.key_is ∙ sym x.key_is) ∙ text-own (response_key x.part))
+  -- two fields of one response key
+  module _ (ty : List ℕ) (M : ℕ → Type 0) (x y : FieldOf) (one_key : x.key ≡ y.key) (m : IsMember ty M x) (k : IsMember ty M y) where
+    members-key : D.one_key m.number k.number ≡ true
+    members-key = test-is have_one_key (parts_of defs d).fields m.number k.number m.part k.part m.there k.there
+        ∙ (ap (bytes_eq (response_key m.part)) (sym k.key ∙ sym one_key ∙ m.key) ∙ text-own (response_key m.part))
 
-  module _ (kept : fault_of defs ≡ None) where
-    entries-meet : (ty key : List ℕ) (M : ℕ → Type 0) (a b : ℕ) → IsEntry ty key M a → IsEntry ty key M b → D.meet a b ≡ true
-    entries-meet ty key M a b x y = test-is (may_meet defs) (parts_of defs d).fields a b x.part y.part x.there y.there ∙ go (is_object_parent defs x.part) refl (is_object_parent defs y.part) refl
-      where
-        of-object : (p : FieldPart) (q : List ℕ) → p.parent ≡ Some q → is_object_parent defs p ≡ true → is_object_type defs q ≡ true
-        of-object p q e h = ap (λ (o : Option (List ℕ)). option_map_or is_object (option_and_then (kind_in defs) o) false) (sym e) ∙ h
+    module _ (kept : fault_of defs ≡ None) where
+      members-meet : D.meet m.number k.number ≡ true
+      members-meet =
+          let alike : is_object_type defs m.parent ≡ true → is_object_type defs k.parent ≡ true → bytes_eq m.parent k.parent ≡ true =
+          λ h i. ap (λ (q : List ℕ). bytes_eq q k.parent) (object-alone defs kept m.parent ty h m.fits ∙ sym (object-alone defs kept k.parent ty i k.fits)) ∙ text-own k.parent in
+          let meet : may_meet defs m.part k.part ≡ true = rw (m.in_parent, k.in_parent) (or-nots (bytes_eq m.parent k.parent) (is_object_type defs m.parent) (is_object_type defs k.parent) alike) in
+          test-is (may_meet defs) (parts_of defs d).fields m.number k.number m.part k.part m.there k.there ∙ meet
+        where
+          or-nots : (a b c : Bool) → (b ≡ true → c ≡ true → a ≡ true) → (a || (not b || not c)) ≡ true
+          or-nots a b c h = grind arith
 
-        alike : is_object_type defs x.parent ≡ true → is_object_type defs y.parent ≡ true → same_parent x.part.parent y.part.parent ≡ true
-        alike h k =
-            let same : x.parent ≡ y.parent = object-alone defs kept x.parent ty h x.fits ∙ sym (object-alone defs kept y.parent ty k y.fits) in
-            ap (λ (o : Option (List ℕ)). same_parent o y.part.parent) x.in_parent
-            ∙ (ap (same_parent (Some x.parent)) y.in_parent ∙ (ap (λ (q : List ℕ). bytes_eq q y.parent) same ∙ text-own y.parent))
-
-        go : (s : Bool) → is_object_parent defs x.part ≡ s → (t : Bool) → is_object_parent defs y.part ≡ t → may_meet defs x.part y.part ≡ true
-        go false h t k = or_right (same_parent x.part.parent y.part.parent) (not (is_object_parent defs x.part) || not (is_object_parent defs y.part))
-            (or_left (not (is_object_parent defs x.part)) (not (is_object_parent defs y.part)) (ap not h))
-        go true h false k = or_right (same_parent x.part.parent y.part.parent) (not (is_object_parent defs x.part) || not (is_object_parent defs y.part))
-            (or_right (not (is_object_parent defs x.part)) (not (is_object_parent defs y.part)) (ap not k))
-        go true h true k = or_left (same_parent x.part.parent y.part.parent) (not (is_object_parent defs x.part) || not (is_object_parent defs y.part))
-            (alike (of-object x.part x.parent x.in_parent h) (of-object y.part y.parent y.in_parent k))
-
-    below-merged : (ty key : List ℕ) (M : ℕ → Type 0) → AreMerged M → AreMerged (IsBelow ty key M)
-    below-merged ty key M merged c e x y apart one = go (x.from == y.from) refl
-      where
-        go : (b : Bool) → (x.from == y.from) ≡ b → Merges D c e
-        go true s =
-            let same : x.from ≡ y.from = eqb-true x.from y.from s in
-            let second : D.enters x.from e ≡ true = ap (λ (a : ℕ). D.enters a e) same ∙ y.member in
-            can-gives D x.merge c e (record { first = x.member; second = second; apart = apart; one_key = one })
-        go false s =
-            let differ : x.from ≢ y.from = λ h. both_ways (x.from == y.from) s (eq-eqb x.from y.from h) in
-            let m = merged x.from y.from x.entry.member y.entry.member differ (entries-key ty key M x.from y.from x.entry y.entry) in
-            can-gives D (m.deeper (entries-meet ty key M x.from y.from x.entry y.entry)) c e (record {
-              first = or_left (D.enters x.from c) (D.enters y.from c) x.member;
-              second = or_right (D.enters x.from e) (D.enters y.from e) y.member;
-              apart = apart;
-              one_key = one;
-            })
-
-    -- fields of one response key have one name
-    entries-name : (ty key : List ℕ) (M : ℕ → Type 0) → AreMerged M → (a b : ℕ) (x : IsEntry ty key M a) (y : IsEntry ty key M b) → x.part.name ≡ y.part.name
-    entries-name ty key M merged a b x y = go (a == b) refl
-      where
-        go : (t : Bool) → (a == b) ≡ t → x.part.name ≡ y.part.name
-        go true s =
-            let same : a ≡ b = eqb-true a b s in
-            let other : Some x.part ≡ Some y.part = sym x.there ∙ (ap (slice_get (parts_of defs d).fields) same ∙ y.there) in
-            let it : x.part ≡ y.part = cc in
+      -- they have one name
+      members-name : AreMerged M → m.part.name ≡ k.part.name
+      members-name merged = elim (cases_eq m.number k.number) [
+        | inl same ↦
+            let other : Some m.part ≡ Some k.part = sym m.there ∙ (ap (slice_get (parts_of defs d).fields) same ∙ k.there) in
+            let it : m.part ≡ k.part = cc in
             ap (λ (p : FieldPart). p.name) it
-        go false s =
-            let differ : a ≢ b = λ h. both_ways (a == b) s (eq-eqb a b h) in
-            let m = merged a b x.member y.member differ (entries-key ty key M a b x y) in
-            let agree : do_agree x.part y.part ≡ true = sym (test-is do_agree (parts_of defs d).fields a b x.part y.part x.there y.there) ∙ m.agree (entries-meet ty key M a b x y) in
-            text-is x.part.name y.part.name (and_parts (bytes_eq x.part.name y.part.name) (same_arguments x.part.arguments y.part.arguments) agree).0
+        | inr differ ↦
+            let w = merged m.number k.number m.member k.member differ members-key in
+            let agree : do_agree m.part k.part ≡ true = sym (test-is do_agree (parts_of defs d).fields m.number k.number m.part k.part m.there k.there) ∙ w.agree members-meet in
+            text-is m.part.name k.part.name (and_parts (bytes_eq m.part.name k.part.name) (same_arguments m.part.arguments k.part.arguments) agree).0
+      ]
 
-  abbrev entry-of : (ty : List ℕ) (M : ℕ → Type 0) (g : GroupOf) (f : FieldOf) → IsGroup ty M g → IsOneOf f g.fields → (m : IsMember ty M f) → IsEntry ty g.key M m.number
-  entry-of ty M g f is i m = record { member = m.member; part = m.part; there = m.there; parent = m.parent; in_parent = m.in_parent; fits = m.fits; key_is = sym m.key ∙ is.keys f i }
+  below-merged : (kept : fault_of defs ≡ None) (ty key : List ℕ) (M : ℕ → Type 0) → AreMerged M → AreMerged (IsBelow ty key M)
+  below-merged kept ty key M merged c e x y apart one = elim (cases_eq x.entry.number y.entry.number) [
+    | inl same ↦ can-gives D x.merge c e (record { first = x.member; second = rw same y.member; apart = apart; one_key = one })
+    | inr differ ↦
+        let key = x.key_is ∙ sym y.key_is in
+        let m = merged x.entry.number y.entry.number x.entry.member y.entry.member differ (members-key ty M x.from y.from (x.key_is ∙ sym y.key_is) x.entry y.entry) in
+        can-gives D (m.deeper (members-meet ty M x.from y.from (x.key_is ∙ sym y.key_is) x.entry y.entry kept)) c e (record {
+          first = or_left (D.enters x.entry.number c) (D.enters y.entry.number c) x.member;
+          second = or_right (D.enters x.entry.number e) (D.enters y.entry.number e) y.member;
+          apart = apart;
+          one_key = one;
+        })
+  ]
 
   -- ---- what is met
 
   module _ (plan : PlanOf) (keeps : KeepsRules (parts_of defs d)) (kept : fault_of defs ≡ None) (same_defs : plan.definitions ≡ defs) (same_fragments : plan.fragments ≡ d.fragments) where
     -- the definition of a field in the type that it stands in
     known-in : (ty : List ℕ) (M : ℕ → Type 0) (f : FieldOf) → is_typename f ≡ false → (m : IsMember ty M f) → (w : DefinedField) × (m.part.definition ≡ Some w)
-    known-in ty M f plain m = go m.part.definition refl
-      where
-        none : unknown_field m.part ≡ None
-        none = none-kept unknown_field (parts_of defs d).fields m.part keeps.selected_fields (got-one (parts_of defs d).fields m.number m.part m.there)
-
-        named : bytes_eq m.part.name (codes "__typename") ≡ false
-        named = ap (λ (n : List ℕ). bytes_eq n (codes "__typename")) (sym m.name) ∙ plain
-
-        go : (o : Option DefinedField) → m.part.definition ≡ o → (w : DefinedField) × (m.part.definition ≡ Some w)
-        go (Some w) e = (w, e)
-        go None e =
-            let parent = m.in_parent in
-            let name = named in
-            let unknown : is_unknown m.part ≡ true = rw (parent, e, name) refl in
-            let undefined : unknown_field m.part ≡ Some (record { name = m.part.name; place = m.part.place }) = rw unknown refl in
-            absurd (cc (sym undefined ∙ none))
+    known-in ty M f plain m =
+        let none = none-kept unknown_field (parts_of defs d).fields m.part keeps.selected_fields (got-one (parts_of defs d).fields m.number m.part m.there) in
+        by_option (λ o. m.part.definition ≡ o → (w : DefinedField) × (o ≡ Some w)) m.part.definition (λ e _.
+        let named : bytes_eq m.part.name (codes "__typename") ≡ false = rw m.name at plain in
+        let unknown : is_unknown m.part ≡ true = rw (m.in_parent, e, named) refl in
+        let undefined : unknown_field m.part ≡ Some (record { name = m.part.name; place = m.part.place }) = rw unknown refl in
+        absurd (cc (sym undefined ∙ none))) (λ w _ e. (w, refl)) refl
 
     -- and in the object type
     pub served : (ty : List ℕ) (M : ℕ → Type 0) (f : FieldOf) → is_object_type defs ty ≡ true → is_typename f ≡ false → (m : IsMember ty M f) → (w : DefinedField) × (m.part.definition ≡ Some w) × Serves defs ty f.name w
@@ -372,13 +283,13 @@ module _ (defs : List Definition) (d : Document) where
       Deeper = IsBelow ty g.key M
 
       first : IsOneOf f g.fields
-      first = subst (IsOneOf f) (sym asked.first) (inl refl)
+      first = rw asked.first (inl refl)
 
       -- the fields of the group have the name of the first, so what stands there stands for the type of each
       type-of : (x : FieldOf) (i : IsOneOf x g.fields) (m : IsMember ty M x) → (q : List ℕ) × (inside_field defs m.part.definition ≡ Some q) × IsFor defs q object
       type-of x i m =
           let h = group.members f first in
-          let named : m.part.name ≡ h.part.name = entries-name kept ty g.key M merged m.number h.number (entry-of ty M g x group i m) (entry-of ty M g f group first h) in
+          let named : m.part.name ≡ h.part.name = members-name ty M x f (group.keys x i ∙ sym (group.keys f first)) m h kept merged in
           let alike : x.name ≡ f.name = m.name ∙ (named ∙ sym h.name) in
           let plain : is_typename x ≡ false = ap (λ (n : List ℕ). bytes_eq n (codes "__typename")) alike ∙ asked.plain in
           let s = served ty M x is_object plain m in
@@ -397,18 +308,13 @@ module _ (defs : List Definition) (d : Document) where
 
       own-merge : (o : Owner) (q : Option (List ℕ)) (n : ℕ) (b : Below) (c : ℕ) → PlacedBelow defs d o q n b → is_in (members_below (members_of_fragment d) n b) c ≡ true → CanMerge D (is_in (members_below (members_of_fragment d) n b))
       own-merge o q n nothing_below c p e = absurd (both_ways false refl e)
-      own-merge o q n (below s) c p e = placed-merge defs d o q n s (record { stands = record { rest = p.stands.rest; from = p.stands.from }; merge = p.merge })
+      own-merge o q n (below s) c p e = placed-merge defs d o q n s p
 
       deeper-within : (x : FieldOf) (i : IsOneOf x g.fields) (m : IsMember ty M x) → Within object Deeper (members_below (members_of_fragment d) (m.number + 1) m.part.below)
       deeper-within x i m c e =
           let same = enters-is x m in
-          let merge : CanMerge D (is_in (members_below (members_of_fragment d) (m.number + 1) m.part.below)) = own-merge m.owner_of (inside_field defs m.part.definition) (m.number + 1) m.part.below c m.placed e in
-          record {
-            from = m.number;
-            entry = entry-of ty M g x group i m;
-            member = ap (λ (ms : List ℕ). is_in ms c) same ∙ e;
-            merge = subst (λ (ms : List ℕ). CanMerge D (is_in ms)) (sym same) merge;
-          }
+          let merge = own-merge m.owner_of (inside_field defs m.part.definition) (m.number + 1) m.part.below c m.placed e in
+          record { from = x; entry = m; key_is = group.keys x i; member = rw same e; merge = rw same merge }
 
       collects-fields : (fs : List FieldOf) → ((x : FieldOf) → IsOneOf x fs → IsOneOf x g.fields) → (so_far : Collected) → AreGroups object Deeper so_far.groups → AreGroups object Deeper (collect_subfields plan object so_far (sets_below fs)).groups
       collects-fields [] of so_far are = are
@@ -416,11 +322,9 @@ module _ (defs : List Definition) (d : Document) where
           let i = of x (inl refl) in
           let m = group.members x i in
           let t = type-of x i m in
-          let next : AreGroups object Deeper (collect_from plan object so_far (selections_below m.part.below)).groups =
-          collects-below object Deeper plan kept (may-object defs kept (core_of own.of_type).text object stands) same_defs keeps same_fragments m.owner_of t.0 (m.number + 1) m.part.below so_far t.2
+          let next = collects-below object Deeper plan kept (may-object defs kept (core_of own.of_type).text object stands) same_defs keeps same_fragments m.owner_of t.0 (m.number + 1) m.part.below so_far t.2
           (subst (λ (q : Option (List ℕ)). PlacedBelow defs d m.owner_of q (m.number + 1) m.part.below) t.1 m.placed) (deeper-within x i m) are in
-          collects-fields fs (λ y j. of y (inr j)) (collect_from plan object so_far (selections_below x.below))
-          (subst (λ (b : Below). AreGroups object Deeper (collect_from plan object so_far (selections_below b)).groups) (sym m.same) next)
+          collects-fields fs (λ y j. of y (inr j)) (collect_from plan object so_far (selections_below x.below)) (rw m.same next)
 
       pub deeper-good : (h : GroupOf) → IsOneOf h (collect_subfields plan object nothing_collected (sets_below g.fields)).groups → IsGood object h
       deeper-good h i = record {
@@ -430,42 +334,45 @@ module _ (defs : List Definition) (d : Document) where
         group = collects-fields g.fields (λ y j. j) nothing_collected (λ x j. absurd j) h i;
       }
 
-    module _ (among : IsAmong plan.operation d.operations) where
+    module _ (among : IsOneOf plan.operation d.operations) where
       root-good : (g : GroupOf) → IsOneOf g (collect plan (root_in defs) (selections_in plan.operation.selection_set)) → IsGood (root_in defs) g
       root-good g i =
           let at = operation-placed defs d keeps.merging plan.operation among in
-          let object = root-object defs kept in
+          let members : ℕ → Type 0 = λ c. is_in (members_in (members_of_fragment d) at.start plan.operation.selection_set) c ≡ true in
           let merge = placed-merge defs d (owner.Operation at.number) (inside_operation defs) at.start plan.operation.selection_set at.placed in
           record {
-            numbers = λ c. is_in (members_in (members_of_fragment d) at.start plan.operation.selection_set) c ≡ true;
-            object = object;
+            numbers = members;
+            object = root-object defs kept;
             merged = λ a b ha hb apart one. can-gives D merge a b (record { first = ha; second = hb; apart = apart; one_key = one });
-            group = collects-in (root_in defs) (λ c. is_in (members_in (members_of_fragment d) at.start plan.operation.selection_set) c ≡ true) plan kept object same_defs keeps same_fragments
-                (owner.Operation at.number) (root_in defs) at.start plan.operation.selection_set nothing_collected (inl refl) at.placed (λ c e. e) (λ x j. absurd j) g i;
+            group = collects-below (root_in defs) members plan kept (root-object defs kept) same_defs keeps same_fragments
+                (owner.Operation at.number) (root_in defs) at.start (below plan.operation.selection_set) nothing_collected (inl refl) at.placed (λ c e. e) (λ x j. absurd j) g i;
           }
 
 -- ---- plans
 
--- a group that is met
-pub met-good : (plan : PlanOf) (is : IsPlan plan) (kept : fault_of plan.definitions ≡ None) (ty : List ℕ) (g : GroupOf) → CanBeMet plan ty g
-    → IsGood plan.definitions is.document plan (valid-keeps (parts_of plan.definitions is.document) is.valid) kept refl is.same ty g
-met-good plan is kept ty g (of_root i) =
-    root-good plan.definitions is.document plan (valid-keeps (parts_of plan.definitions is.document) is.valid) kept refl is.same
-    (prepared-among plan.definitions is.document.operations is.name is.given (record { operation = plan.operation; variables = plan.variables }) is.prepares) g i
-met-good plan is kept object h (inside {ty = ty} {g = g} {f = f} {d = d} met asked field stands i) =
-    let good = met-good plan is kept ty g met in
-    deeper-good plan.definitions is.document plan (valid-keeps (parts_of plan.definitions is.document) is.valid) kept refl is.same
-    ty object g f d good.numbers good.object good.merged good.group asked field stands h i
+module _ (plan : PlanOf) (is : IsPlan plan) (kept : fault_of plan.definitions ≡ None) where
+  abbrev keeps : KeepsRules (parts_of plan.definitions is.document)
+  keeps = valid-keeps (parts_of plan.definitions is.document) is.valid
 
--- has a definition of its field in the type of its object
-pub met-defined : (plan : PlanOf) → IsPlan plan → fault_of plan.definitions ≡ None → (ty : List ℕ) (g : GroupOf) (f : FieldOf) → CanBeMet plan ty g → IsAskedBy g f
-    → (is_object_type plan.definitions ty ≡ true) × ((own : DefinedField) × (field_in plan.definitions ty f.name ≡ Some own))
-met-defined plan is kept ty g f met asked =
-    let good = met-good plan is kept ty g met in
-    let first : IsOneOf f g.fields = subst (IsOneOf f) (sym asked.first) (inl refl) in
-    let s = served plan.definitions is.document plan (valid-keeps (parts_of plan.definitions is.document) is.valid) kept refl is.same ty good.numbers f good.object asked.plain (good.group.members f first) in
-    (good.object, (s.2.own, s.2.found))
+  abbrev Good : List ℕ → GroupOf → Type 1
+  Good = IsGood plan.definitions is.document plan keeps kept refl is.same
 
--- has a field
-pub met-some : (plan : PlanOf) → IsPlan plan → fault_of plan.definitions ≡ None → (ty : List ℕ) (g : GroupOf) → CanBeMet plan ty g → (f : FieldOf) × (others : List FieldOf) × (g.fields ≡ f ∷ others)
-met-some plan is kept ty g met = let group = (met-good plan is kept ty g met).group in (group.first, group.others, group.some)
+  -- a group that is met
+  pub met-good : (ty : List ℕ) (g : GroupOf) → CanBeMet plan ty g → Good ty g
+  met-good ty g (of_root i) = root-good plan.definitions is.document plan keeps kept refl is.same
+      (prepared-among plan.definitions is.document.operations is.name is.given (record { operation = plan.operation; variables = plan.variables }) is.prepares) g i
+  met-good object h (inside {ty = ty} {g = g} {f = f} {d = d} met asked field stands i) =
+      let good = met-good ty g met in
+      deeper-good plan.definitions is.document plan keeps kept refl is.same ty object g f d good.numbers good.object good.merged good.group asked field stands h i
+
+  -- has a definition of its field in the type of its object
+  pub met-defined : (ty : List ℕ) (g : GroupOf) (f : FieldOf) → CanBeMet plan ty g → IsAskedBy g f → (is_object_type plan.definitions ty ≡ true) × ((own : DefinedField) × (field_in plan.definitions ty f.name ≡ Some own))
+  met-defined ty g f met asked =
+      let good = met-good ty g met in
+      let m = good.group.members f (rw asked.first (inl refl)) in
+      let s = served plan.definitions is.document plan keeps kept refl is.same ty good.numbers f good.object asked.plain m in
+      (good.object, (s.2.own, s.2.found))
+
+  -- has a field
+  pub met-some : (ty : List ℕ) (g : GroupOf) → CanBeMet plan ty g → (f : FieldOf) × (others : List FieldOf) × (g.fields ≡ f ∷ others)
+  met-some ty g met = let group = (met-good ty g met).group in (group.first, group.others, group.some)

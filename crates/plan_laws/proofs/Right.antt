@@ -1,21 +1,18 @@
 -- A literal of a valid document that a field is given is right at its argument's type, unless a variable in it has no value.
-use Rattle.std.proofs.Common.{◌≡◌, ◌∙◌, sym, ap, subst, refl, ℕ, zero, suc, Bool, true, false, not, List, [], ◌∷◌, ◌++◌, map, flat_map, Option, Some, None, inl, inr}
-use Rattle.std.specs.Prelude.{option_map, find, is_some, filter_map, slice_get, bytes_eq}
-use Rattle.std.specs.Option.{option_map_or}
-use Rattle.std.proofs.Math.Path.{fun_ext}
-use Rattle.std.proofs.lemmas.Bool.{or_parts, and_parts, not-true, not-false, both_ways}
+use Rattle.std.proofs.Common.{◌≡◌, ◌↔◌, ◌∙◌, sym, ap, subst, refl, ℕ, Bool, true, false, List, [], ◌∷◌, ◌++◌, map, flat_map, Option, Some, None, inl, inr, arith}
+use Rattle.std.specs.Prelude.{option_map, find, is_some, filter_map, bytes_eq}
+use Rattle.std.proofs.lemmas.Bool.{or_parts, and_parts}
 use Rattle.std.proofs.lemmas.Slice.Eq.{bytes_eq-Decides}
-use Rattle.gq_parser.specs.Tree.{TypeTree, Named, ListOf, Value, Variable, Float, Enum, Array, Object, Values, no_value, and_value}
+use Rattle.gq_parser.specs.Tree.{TypeTree, Named, ListOf, Value, Variable, Array, Values, no_value, and_value}
 use Rattle.gq_parser.specs.Tree as literal
 use Rattle.schema_syntax.specs.Tree.{Definition, Argument, Field}
 use Rattle.gq_schema.specs.Fault.{fault_of}
 use Rattle.gq_schema.specs.Types.{field_in, is_same_flag, is_same_type, is_argument}
-use Rattle.gq_schema.specs.Inputs.{Input, Null, Int, Text, Boolean, Items, Inputs}
+use Rattle.gq_schema.specs.Inputs.{Input, Null, Inputs}
 use Rattle.gq_schema.specs.Implements.{argument_in, has_argument}
-use Rattle.gq_schema.specs.Coercion.{and_items, all_items, list_input, one_item, list_value, value_with, accepts, place_of}
+use Rattle.gq_schema.specs.Coercion.{and_items, all_items, list_input, one_item, list_value, value_with, accepts}
 use Rattle.rules_parts.specs.Parts.{FieldPart, ArgumentPart, PartsOf}
 use Rattle.rules_parts.specs.Listing.{parts_of, field_arguments, directive_arguments, argument_with, listed_arguments}
-use Rattle.rules_typed.specs.DefaultWords.{named_if}
 use Rattle.rules_typed.specs.ArgumentNames.{unknown_argument, type_name_arguments}
 use Rattle.rules_typed.specs.ValuesOfCorrectType.{wrong_argument, wrong_variable}
 use Rattle.gq_variables.specs.Variables.{value_in}
@@ -29,7 +26,7 @@ use Rattle.plan_program.specs.Chosen.{is_named, given_to}
 use Rattle.plan_program.specs.Groups.{FieldOf, GroupOf}
 use Rattle.plan_laws.specs.Met.{IsAskedBy, CanBeMet}
 use Rattle.plan_laws.specs.Unset.{is_unset, has_unset, has_unset_among}
-use Rattle.plan_laws.proofs.Options.{map-given, found-one, none-kept, one-left, one-right}
+use Rattle.plan_laws.proofs.Options.{by_option, map-given, found-one, got-one, none-kept, one-left, one-right}
 use Rattle.plan_laws.proofs.Schemas.{serves-argument}
 use Rattle.plan_laws.proofs.Meeting.{met-good, served}
 
@@ -37,63 +34,37 @@ use Rattle.plan_laws.proofs.Meeting.{met-good, served}
 
 module _ (plan : PlanOf) where
   set-value : (non_null : Bool) (o : Option Input) → is_unset o ≡ false → is_some (variable_value non_null o) ≡ true
-  set-value non_null None e = absurd (both_ways true e refl)
-  set-value non_null (Some Null) e = absurd (both_ways true e refl)
-  set-value non_null (Some (Int z)) e = refl
-  set-value non_null (Some (Text t)) e = refl
-  set-value non_null (Some (Boolean b)) e = refl
-  set-value non_null (Some (Items is)) e = refl
+  set-value non_null o e = grind arith
 
   -- the literal gives a value at a type whose variables have values, where it is right whatever they are
   abbrev IsRight : (Value → Option Input) → (Value → Option Input) → Type 0
   IsRight any own = (v : Value) → is_some (any v) ≡ true → has_unset plan v ≡ false → is_some (own v) ≡ true
 
-  some-both : (o : Option Input) (p : Option Inputs) → is_some (and_items o p) ≡ true → (is_some o ≡ true) × (is_some p ≡ true)
-  some-both None p e = absurd (both_ways false refl e)
-  some-both (Some i) None e = absurd (both_ways false refl e)
-  some-both (Some i) (Some is) e = (refl, refl)
-
-  both-some : (o : Option Input) (p : Option Inputs) → is_some o ≡ true → is_some p ≡ true → is_some (and_items o p) ≡ true
-  both-some None p e f = absurd (both_ways false refl e)
-  both-some (Some i) None e f = absurd (both_ways false refl f)
-  both-some (Some i) (Some is) e f = refl
+  both : (o : Option Input) (p : Option Inputs) → (is_some (and_items o p) ≡ true) ↔ ((is_some o ≡ true) × (is_some p ≡ true))
+  both o p = (λ e. grind arith, λ e. grind arith)
 
   items-right : (any own : Value → Option Input) → IsRight any own → (vs : Values) → is_some (all_items any vs) ≡ true → has_unset_among plan vs ≡ false → is_some (all_items own vs) ≡ true
   items-right any own right no_value e u = refl
   items-right any own right (and_value v vs) e u =
-      let both = some-both (any v) (all_items any vs) e in
+      let somes = (both (any v) (all_items any vs)).0 e in
       let unset = or_parts (has_unset plan v) (has_unset_among plan vs) u in
-      both-some (own v) (all_items own vs) (right v both.0 unset.0) (items-right any own right vs both.1 unset.1)
+      (both (own v) (all_items own vs)).1 (right v somes.0 unset.0, items-right any own right vs somes.1 unset.1)
 
   list-some : (o : Option Inputs) → is_some (list_input o) ≡ is_some o
-  list-some None = refl
-  list-some (Some is) = refl
+  list-some o = grind arith
 
   one-some : (o : Option Input) → is_some (one_item o) ≡ is_some o
-  one-some None = refl
-  one-some (Some i) = refl
+  one-some o = grind arith
 
   name-right : (name : List ℕ) (non_null : Bool) (p : _) → IsRight (value_with (Some Null) plan.definitions (Named p name non_null)) (literal_value plan (Named p name non_null))
   name-right name non_null p (Variable q v) e u = set-value non_null (value_in plan.variables v) u
-  name-right name non_null p (literal.Int q t) e u = e
-  name-right name non_null p (Float q t) e u = e
-  name-right name non_null p (literal.Text q t) e u = e
-  name-right name non_null p (literal.Boolean q b) e u = e
-  name-right name non_null p (literal.Null q) e u = e
-  name-right name non_null p (Enum q v) e u = e
-  name-right name non_null p (Array q vs) e u = e
-  name-right name non_null p (Object q ms) e u = e
+  name-right name non_null p v e u = e
 
   list-right : (any own : Value → Option Input) (non_null : Bool) → IsRight any own → IsRight (list_value (Some Null) any non_null) (with_variables plan own non_null)
   list-right any own non_null right (literal.Null q) e u = e
   list-right any own non_null right (Variable q v) e u = set-value non_null (value_in plan.variables v) u
   list-right any own non_null right (Array q vs) e u = list-some (all_items own vs) ∙ items-right any own right vs (sym (list-some (all_items any vs)) ∙ e) u
-  list-right any own non_null right (literal.Int q t) e u = one-some (own (literal.Int q t)) ∙ right (literal.Int q t) (sym (one-some (any (literal.Int q t))) ∙ e) u
-  list-right any own non_null right (Float q t) e u = one-some (own (Float q t)) ∙ right (Float q t) (sym (one-some (any (Float q t))) ∙ e) u
-  list-right any own non_null right (literal.Text q t) e u = one-some (own (literal.Text q t)) ∙ right (literal.Text q t) (sym (one-some (any (literal.Text q t))) ∙ e) u
-  list-right any own non_null right (literal.Boolean q b) e u = one-some (own (literal.Boolean q b)) ∙ right (literal.Boolean q b) (sym (one-some (any (literal.Boolean q b))) ∙ e) u
-  list-right any own non_null right (Enum q v) e u = one-some (own (Enum q v)) ∙ right (Enum q v) (sym (one-some (any (Enum q v))) ∙ e) u
-  list-right any own non_null right (Object q ms) e u = one-some (own (Object q ms)) ∙ right (Object q ms) (sym (one-some (any (Object q ms))) ∙ e) u
+  list-right any own non_null right v e u = one-some (own v) ∙ right v (sym (one-some (any v)) ∙ e) u
 
   right-at : (t : TypeTree) → IsRight (value_with (Some Null) plan.definitions t) (literal_value plan t)
   right-at (Named p name non_null) = name-right name non_null p
@@ -102,22 +73,16 @@ module _ (plan : PlanOf) where
 -- ---- types that differ in their places alone
 
 same-flag : (a b : Bool) → is_same_flag a b ≡ true → a ≡ b
-same-flag true b e = sym e
-same-flag false b e = sym (not-true b e)
+same-flag a b e = grind arith
 
 same-value : (i : Option Input) (defs : List Definition) (t u : TypeTree) → is_same_type t u ≡ true → value_with i defs t ≡ value_with i defs u
 same-value i defs (Named p n non_null) (Named q m wanted) e =
     let both = and_parts (is_same_flag non_null wanted) (bytes_eq n m) e in
-    let flag = same-flag non_null wanted both.0 in
-    let name = (bytes_eq-Decides n m).0 both.1 in
-    fun_ext (λ v. rw (flag, name) refl)
+    rw (same-flag non_null wanted both.0, (bytes_eq-Decides n m).0 both.1) refl
 same-value i defs (ListOf p t non_null) (ListOf q u wanted) e =
     let both = and_parts (is_same_flag non_null wanted) (is_same_type t u) e in
-    let flag = same-flag non_null wanted both.0 in
-    let item : value_with i defs t ≡ value_with i defs u = same-value i defs t u both.1 in
-    fun_ext (λ v. ap (λ (b : Bool). list_value i (value_with i defs t) b v) flag ∙ ap (λ (f : Value → Option Input). list_value i f wanted v) item)
-same-value i defs (Named p n non_null) (ListOf q u wanted) e = absurd (both_ways false refl e)
-same-value i defs (ListOf p t non_null) (Named q m wanted) e = absurd (both_ways false refl e)
+    ap (list_value i (value_with i defs t)) (same-flag non_null wanted both.0) ∙ ap (λ (f : Value → Option Input). list_value i f wanted) (same-value i defs t u both.1)
+same-value i defs t u e = absurd (cc e)
 
 -- ---- the arguments of a field of a document
 
@@ -134,10 +99,6 @@ map-one f (z ∷ zs) x (inr i) = inr (map-one f zs x i)
 none-left : {A : Type 0} (xs ys : List A) → xs ++ ys ≡ [] → xs ≡ []
 none-left [] ys h = refl
 none-left (x ∷ xs) ys h = absurd (cc h)
-
-none-named : (b : Bool) (name : List ℕ) (p : _) → named_if b name p ≡ None → b ≡ false
-none-named true name p h = absurd (cc h)
-none-named false name p h = refl
 
 module _ (defs : List Definition) (d : literal.Document) (keeps : KeepsRules (parts_of defs d)) where
   abbrev p : PartsOf
@@ -159,39 +120,17 @@ module _ (defs : List Definition) (d : literal.Document) (keeps : KeepsRules (pa
     accepted : accepts defs wanted.of_type a.value ≡ true
 
   accepted-by : (f : FieldPart) (w : Field) (a : literal.Argument) → IsOneOf f p.fields → f.definition ≡ Some w → IsOneOf a f.arguments → IsAccepted w a
-  accepted-by f w a i e j = go (argument_in w.arguments a.name) refl
-    where
-      one : IsOneOf (record { owner = f.owner; is_known = true; definition = argument_in w.arguments a.name; place = a.place; name = a.name; value = a.value }) p.arguments
-      one = subst (λ (o : Option Field). IsOneOf (argument_with f.owner (option_map (λ (x : Field). x.arguments) o) a) p.arguments) e (among-arguments f a i j)
-
-      known : unknown_argument (record { owner = f.owner; is_known = true; definition = argument_in w.arguments a.name; place = a.place; name = a.name; value = a.value }) ≡ None
-      known = none-kept unknown_argument p.arguments (record { owner = f.owner; is_known = true; definition = argument_in w.arguments a.name; place = a.place; name = a.name; value = a.value })
-          (none-left (filter_map unknown_argument p.arguments) (flat_map type_name_arguments p.fields) keeps.argument_names) one
-
-      right : wrong_argument defs (record { owner = f.owner; is_known = true; definition = argument_in w.arguments a.name; place = a.place; name = a.name; value = a.value }) ≡ None
-      right = none-kept (wrong_argument defs) p.arguments (record { owner = f.owner; is_known = true; definition = argument_in w.arguments a.name; place = a.place; name = a.name; value = a.value })
-          (none-left (filter_map (wrong_argument defs) p.arguments) (filter_map (wrong_variable defs) p.variables) keeps.values) one
-
-      go : (o : Option Argument) → argument_in w.arguments a.name ≡ o → IsAccepted w a
-      go None h =
-          let k = none-named (not (is_some (argument_in w.arguments a.name))) a.name a.place known in
-          let none : not (is_some (argument_in w.arguments a.name)) ≡ true = ap (λ (o : Option Argument). not (is_some o)) h in
-          absurd (both_ways (not (is_some (argument_in w.arguments a.name))) k none)
-      go (Some x) h =
-          let r : named_if (not (accepts defs x.of_type a.value)) a.name (place_of a.value) ≡ None = rw h at right in
-          record { wanted = x; found = h; accepted = not-false (accepts defs x.of_type a.value) (none-named (not (accepts defs x.of_type a.value)) a.name (place_of a.value) r) }
+  accepted-by f w a i e j =
+      let part : ArgumentPart = record { owner = f.owner; is_known = true; definition = argument_in w.arguments a.name; place = a.place; name = a.name; value = a.value } in
+      let one : IsOneOf part p.arguments = rw e at (among-arguments f a i j) in
+      let known : unknown_argument part ≡ None = none-kept unknown_argument p.arguments part (none-left (filter_map unknown_argument p.arguments) (flat_map type_name_arguments p.fields) keeps.argument_names) one in
+      let right : wrong_argument defs part ≡ None = none-kept (wrong_argument defs) p.arguments part (none-left (filter_map (wrong_argument defs) p.arguments) (filter_map (wrong_variable defs) p.variables) keeps.values) one in
+      by_option (λ o. argument_in w.arguments a.name ≡ o → IsAccepted w a) (argument_in w.arguments a.name) (λ h _. absurd (grind arith)) (λ x h _. record { wanted = x; found = h; accepted = grind arith }) refl
 
 -- ---- what is met
 
 same-named : (own : List Argument) (wanted : Argument) (name : List ℕ) (a : Argument) → has_argument own wanted ≡ true → name ≡ wanted.name.text → argument_in own name ≡ Some a → is_same_type a.of_type wanted.of_type ≡ true
-same-named own wanted name a has same found =
-    let at : argument_in own wanted.name.text ≡ Some a = ap (argument_in own) (sym same) ∙ found in
-    ap (λ (o : Option Argument). option_map_or (λ (x : Argument). is_same_type x.of_type wanted.of_type) o false) (sym at) ∙ has
-
-got-field : {A : Type 0} (xs : List A) (i : ℕ) (x : A) → slice_get xs i ≡ Some x → IsOneOf x xs
-got-field [] i x e = absurd (cc e)
-got-field (y ∷ xs) zero x e = let same : x ≡ y = cc in inl same
-got-field (y ∷ xs) (suc i) x e = inr (got-field xs i x e)
+same-named own wanted name a has same found = let at : argument_in own wanted.name.text ≡ Some a = rw same at found in rw at at has
 
 -- a literal that is given for an argument of a field that is met
 pub met-right : (plan : PlanOf) → IsPlan plan → fault_of plan.definitions ≡ None → (ty : List ℕ) (g : GroupOf) (f : FieldOf) (d : Field) (name : List ℕ) (a : Argument) (v : Value) → CanBeMet plan ty g → IsAskedBy g f
@@ -204,7 +143,7 @@ met-right plan is kept ty g f d name a v met asked field argument given unset =
     let x = map-given (λ (b : literal.Argument). b.value) (find (is_named name) f.arguments) v given in
     let one = found-one (is_named name) f.arguments x.0 x.1 in
     let there = subst (IsOneOf x.0) m.given one.0 in
-    let within = got-field (parts_of plan.definitions is.document).fields m.number m.part m.there in
+    let within = got-one (parts_of plan.definitions is.document).fields m.number m.part m.there in
     let ok = accepted-by plan.definitions is.document (valid-keeps (parts_of plan.definitions is.document) is.valid) m.part s.0 x.0 within s.1 there in
     let called : name ≡ x.0.name = (bytes_eq-Decides name x.0.name).0 one.1 in
     let own : Some s.2.own ≡ Some d = sym s.2.found ∙ field in

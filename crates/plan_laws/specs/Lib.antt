@@ -3,5 +3,4 @@ pub mod Headline
 pub mod Levels
 pub mod Met
 pub mod OfServers
-pub mod Requests
 pub mod Unset

@@ -1,5 +1,5 @@
 -- Each text is a document or has a first fault.
-use Rattle.std.proofs.Common.{◌≡◌, ◌≢◌, ◌⊎◌, ◌<◌, ◌≤◌, ℕ, zero, suc, List, [], ◌∷◌, length, ltb, Option, Some, None, refl, sym, subst, inl, inr}
+use Rattle.std.proofs.Common.{◌≡◌, ◌≢◌, ◌⊎◌, ◌≤◌, ℕ, zero, suc, List, [], ◌∷◌, length, ltb, Option, Some, None, refl, sym, subst, inl, inr}
 use Rattle.std.proofs.lemmas.Bool.{cases_Bool, ltb-true, ltb-false}
 use Rattle.text_place.specs.declared.place.Place.{Place}
 use Rattle.gq_lexer.specs.declared.token.Token as lexer
@@ -23,12 +23,6 @@ use Rattle.gq_parser.proofs.Whole.{stopped, sunk}
 
 -- ---- what is read to its end comes whole
 
-not-done : (place : Option Place) → Stopped place ≡ Done → ⊥
-not-done place e = cc e
-
-not-sunk : (place : Place) → Sunk place ≡ Done → ⊥
-not-sunk place e = cc e
-
 end-means : (stack : List Symbol) → at_end stack ≡ Done → Means stack []
 end-means [] e = ends no_more_definitions
 end-means (MaybeBang ∷ stack) e = then' (d_no_bang tt) (end-means stack e)
@@ -39,7 +33,7 @@ end-means (MaybeSet ∷ stack) e = then' (d_no_set tt) (end-means stack e)
 end-means (MaybeDefault ∷ stack) e = then' (d_no_default tt) (end-means stack e)
 end-means (MaybeVariables ∷ stack) e = then' (d_no_variables tt) (end-means stack e)
 end-means (MaybeName ∷ stack) e = then' (d_no_name tt) (end-means stack e)
-end-means (_ ∷ stack) e = absurd (not-done None e)
+end-means (_ ∷ stack) e = absurd (cc e)
 
 -- says where a token is taken it may come
 abbrev Shifts : List Symbol → Word → Step → Type 0
@@ -60,8 +54,8 @@ option-shifts room stack w (Some next) e = entered-shifts room stack next w (bra
 step-means : (s : Step) (stack : List Symbol) (p : Place) (w : Word) (tokens : List Token) → Shifts stack w s → ((r : ℕ) (next : List Symbol) → read r next tokens ≡ Done → Means next tokens)
     → elim s as (λ x. Outcome) [ Goes r next ↦ read r next tokens | Stops ↦ Stopped (Some p) | Sinks ↦ Sunk p ] ≡ Done → Means stack (at p w ∷ tokens)
 step-means (Goes r next) stack p w tokens shifts all e = shifts_back stack p w tokens (subst (λ o. Shifted o tokens) (sym shifts) (all r next e))
-step-means Stops stack p w tokens shifts all e = absurd (not-done (Some p) e)
-step-means Sinks stack p w tokens shifts all e = absurd (not-sunk p e)
+step-means Stops stack p w tokens shifts all e = absurd (cc e)
+step-means Sinks stack p w tokens shifts all e = absurd (cc e)
 
 read-means : (room : ℕ) (stack : List Symbol) (tokens : List Token) → read room stack tokens ≡ Done → Means stack tokens
 read-means room stack [] e = end-means stack e
@@ -72,7 +66,7 @@ means-document tokens some (then' (d_operation {o = o} is) (ends {os = os} {fs =
 means-document tokens some (then' (d_fragment {f = f} is) (ends {os = os} {fs = fs} others)) = (record { operations = os; fragments = f ∷ fs }, record { some = some; are = next_fragment is others })
 
 read-some : (tokens : List Token) → read most_brackets (one ADefinition) tokens ≡ Done → tokens ≢ []
-read-some [] e = absurd (not-done None e)
+read-some [] e = absurd (cc e)
 read-some (t ∷ tokens) e = λ none. cc none
 
 -- ---- tokens

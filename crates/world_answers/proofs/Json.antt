@@ -1,25 +1,26 @@
 -- The name of an operation that a line asks for is UTF-8, and no longer than the line.
-use Rattle.std.proofs.Common.{◌≡◌, ◌<◌, ◌≤◌, ◌+◌, ◌-◌, ℕ, zero, suc, Bool, true, false, cond, eqb, List, [], ◌∷◌, ◌++◌, length, take, drop, ◌&&◌, Option, Some, None, IsUtf8, codes, refl, sym, subst, arith, append_assoc}
+use Rattle.std.proofs.Common.{◌≡◌, ◌≤◌, ℕ, zero, suc, Bool, true, false, List, [], ◌∷◌, ◌++◌, length, drop, ◌&&◌, Option, Some, None, IsUtf8, codes, refl, sym, subst, arith, append_assoc}
 use Rattle.std.specs.Prelude.{nat_eq, ◌==◌}
 use Rattle.std.specs.List.{starts_with}
 use Rattle.std.specs.Option.{option_map, option_and_then}
 use Rattle.std.specs.Ordering.{nat_cmp, match_ordering}
 use Rattle.std.specs.Cmp.Lexicographic.{slice_cmp}
 use Rattle.std.proofs.Common.{Ordering, Less, Equal, Greater}
-use Rattle.std.proofs.lemmas.Bool.{eqb-true}
+use Rattle.std.proofs.lemmas.Bool.{cond_both}
+use Rattle.std.proofs.lemmas.Bool.Decides.{nat_tests}
 use Rattle.json.specs.Text.{content, plain}
 use Rattle.json.specs.Token.{Token, begin_object, end_object, begin_array, end_array, key, string, number, boolean, null, bad}
 use Rattle.json.specs.Ascii as ascii
-use Rattle.json.specs.Word.{word, head, literal, number_before, ends_word, after_number, is_operator, is_space}
+use Rattle.json.specs.Word.{word, head, literal, number_before, ends_word, after_number}
 use Rattle.json.specs.Lex.{Lexeme, token, comma, colon, Class, quote, backslash, operator, space, other, class, operator_lexeme, string_token, Mode, between, in_word, in_string, in_escape, lex_byte, lex, Place, fresh, after_value, after_comma, after_key, begins_colon, may_begin, may_close, if_allowed, place_token, punctuate, tokens}
 use Rattle.json.specs.Json as json
 use Rattle.json.specs.Json.{Parse, parse_map, after_end_array, read_key, items_step, members_step, items, members, value_with, value, if_last}
 use Rattle.serde_json.specs.Data as parsed
-use Rattle.serde_json.specs.Data.{Num, Data, Items, no_items, item, Members, no_members, member, put}
+use Rattle.serde_json.specs.Data.{Data, Items, no_items, item, Members, no_members, member, put}
 use Rattle.serde_json.specs.Read.{number_of, of_json, of_items, of_members, max_depth, read}
 use Rattle.serde_json.specs.Find.{get_member, get, as_str, as_array}
 use Rattle.request_line.specs.Requests.{RequestOf, name_of, with_query, asked, asked_each, IsRequest, AreRequests}
-use Rattle.world_answers.proofs.Each.{Each, Maybe, maybe-map, maybe-and_then}
+use Rattle.plan_laws.proofs.Each.{Each, Maybe, any-map, any-then, maybe-map, maybe-and_then}
 use Rattle.world_answers.proofs.Content.{after-byte, Reads, content-reads}
 
 -- ---- tokens
@@ -43,35 +44,21 @@ module _ (n : ℕ) where
   LexemeFits comma = Unit {0}
   LexemeFits colon = Unit {0}
 
-  token-if : (b : Bool) (t u : Token) → TokenFits t → TokenFits u → TokenFits (cond b t u)
-  token-if true t u p q = p
-  token-if false t u p q = q
-
-  lexeme-if : (b : Bool) (l m : Lexeme) → LexemeFits l → LexemeFits m → LexemeFits (cond b l m)
-  lexeme-if true l m p q = p
-  lexeme-if false l m p q = q
-
   operator-fits : (x : ℕ) → LexemeFits (operator_lexeme x)
-  operator-fits x =
-      lexeme-if (x == 123) (token begin_object) (cond (x == 125) (token end_object) (cond (x == 91) (token begin_array) (cond (x == 93) (token end_array) (cond (x == 44) comma colon)))) tt
-      (lexeme-if (x == 125) (token end_object) (cond (x == 91) (token begin_array) (cond (x == 93) (token end_array) (cond (x == 44) comma colon))) tt
-      (lexeme-if (x == 91) (token begin_array) (cond (x == 93) (token end_array) (cond (x == 44) comma colon)) tt
-      (lexeme-if (x == 93) (token end_array) (cond (x == 44) comma colon) tt (lexeme-if (x == 44) comma colon tt tt))))
+  operator-fits x = cond_both (x == 123) _ _ LexemeFits (λ _. tt) (λ _. cond_both (x == 125) _ _ LexemeFits (λ _. tt) (λ _. cond_both (x == 91) _ _ LexemeFits (λ _. tt)
+      (λ _. cond_both (x == 93) _ _ LexemeFits (λ _. tt) (λ _. cond_both (x == 44) _ _ LexemeFits (λ _. tt) (λ _. tt)))))
 
   number-fits : (t : List ℕ) (o : Option (List ℕ)) → TokenFits (number_before t o)
   number-fits t None = tt
-  number-fits t (Some rest) = token-if (ends_word rest) (number (take (length t - length rest) t)) bad tt tt
+  number-fits t (Some rest) = cond_both (ends_word rest) _ _ TokenFits (λ _. tt) (λ _. tt)
 
   literal-fits : (name : List ℕ) (u : Token) (t : List ℕ) → TokenFits u → TokenFits (literal name u t)
-  literal-fits name u t p = token-if (starts_with nat_eq t name && ends_word (drop (length name) t)) u bad p tt
+  literal-fits name u t p = cond_both (starts_with nat_eq t name && ends_word (drop (length name) t)) _ _ TokenFits (λ _. p) (λ _. tt)
 
   word-fits : (t : List ℕ) → TokenFits (word t)
   unfolding word
-  word-fits t =
-      token-if (head t == 116) (literal ascii.true_text (boolean true) t)
-      (cond (head t == 102) (literal ascii.false_text (boolean false) t) (cond (head t == 110) (literal ascii.null_text null t) (number_before t (after_number t)))) (literal-fits ascii.true_text (boolean true) t tt)
-      (token-if (head t == 102) (literal ascii.false_text (boolean false) t) (cond (head t == 110) (literal ascii.null_text null t) (number_before t (after_number t))) (literal-fits ascii.false_text (boolean false) t tt)
-      (token-if (head t == 110) (literal ascii.null_text null t) (number_before t (after_number t)) (literal-fits ascii.null_text null t tt) (number-fits t (after_number t))))
+  word-fits t = cond_both (head t == 116) _ _ TokenFits (λ _. literal-fits ascii.true_text (boolean true) t tt) (λ _. cond_both (head t == 102) _ _ TokenFits (λ _. literal-fits ascii.false_text (boolean false) t tt)
+      (λ _. cond_both (head t == 110) _ _ TokenFits (λ _. literal-fits ascii.null_text null t tt) (λ _. number-fits t (after_number t))))
 
   string-fits : (m : ℕ) (o : Option (List ℕ)) → m ≤ n → Reads [] m o → TokenFits (string_token o)
   string-fits m None le h = tt
@@ -84,30 +71,15 @@ module _ (n : ℕ) where
   byte-fits between operator x xs k s h = (operator-fits x, h between)
   byte-fits between space x xs k s h = h between
   byte-fits between other x xs k s h = (word-fits (x ∷ xs), h in_word)
-  byte-fits in_word quote x xs k s h = h in_word
-  byte-fits in_word backslash x xs k s h = h in_word
   byte-fits in_word operator x xs k s h = (operator-fits x, h between)
   byte-fits in_word space x xs k s h = h between
-  byte-fits in_word other x xs k s h = h in_word
+  byte-fits in_word c x xs k s h = h in_word
   byte-fits in_string quote x xs k s h = h between
   byte-fits in_string backslash x xs k s h = h in_escape
-  byte-fits in_string operator x xs k s h = h in_string
-  byte-fits in_string space x xs k s h = h in_string
-  byte-fits in_string other x xs k s h = h in_string
-  byte-fits in_escape c x xs k s h = h in_string
-
-  no-quote : (b c d : Bool) → cond b backslash (cond c operator (cond d space other)) ≡ quote → ⊥
-  no-quote true c d e = cc e
-  no-quote false true d e = cc e
-  no-quote false false true e = cc e
-  no-quote false false false e = cc e
+  byte-fits m c x xs k s h = h in_string
 
   quote-is : (x : ℕ) → class x ≡ quote → x ≡ 34
-  quote-is x e = go (eqb x 34) refl e
-    where
-      go : (b : Bool) → eqb x 34 ≡ b → cond b quote (cond (eqb x 92) backslash (cond (is_operator x) operator (cond (is_space x) space other))) ≡ quote → x ≡ 34
-      go true t f = eqb-true x 34 t
-      go false t f = absurd (no-quote (eqb x 92) (is_operator x) (is_space x) f)
+  quote-is x e = grind (arith, nat_tests)
 
   lex-fits : (m : Mode) (pre xs : List ℕ) → length xs ≤ n → IsUtf8 (pre ++ xs) → Each LexemeFits (lex m xs)
   unfolding lex
@@ -136,22 +108,12 @@ module _ (n : ℕ) where
 
   punctuate-fits : (p : Place) (ls : List Lexeme) → Each LexemeFits ls → TokensFit (punctuate p ls)
   unfolding punctuate
+  punctuate-fits after_value (comma ∷ ls) h = punctuate-fits after_comma ls h.1
+  punctuate-fits after_key (colon ∷ ls) h = punctuate-fits fresh ls h.1
+  punctuate-fits p (token t ∷ ls) h = place-fits p t (begins_colon ls) (λ next. punctuate next ls) h.0 (λ next. punctuate-fits next ls h.1)
   punctuate-fits fresh [] h = tt
   punctuate-fits after_value [] h = tt
-  punctuate-fits after_comma [] h = (tt, tt)
-  punctuate-fits after_key [] h = (tt, tt)
-  punctuate-fits fresh (token t ∷ ls) h = place-fits fresh t (begins_colon ls) (λ next. punctuate next ls) h.0 (λ next. punctuate-fits next ls h.1)
-  punctuate-fits after_value (token t ∷ ls) h = place-fits after_value t (begins_colon ls) (λ next. punctuate next ls) h.0 (λ next. punctuate-fits next ls h.1)
-  punctuate-fits after_comma (token t ∷ ls) h = place-fits after_comma t (begins_colon ls) (λ next. punctuate next ls) h.0 (λ next. punctuate-fits next ls h.1)
-  punctuate-fits after_key (token t ∷ ls) h = place-fits after_key t (begins_colon ls) (λ next. punctuate next ls) h.0 (λ next. punctuate-fits next ls h.1)
-  punctuate-fits fresh (comma ∷ ls) h = (tt, tt)
-  punctuate-fits after_value (comma ∷ ls) h = punctuate-fits after_comma ls h.1
-  punctuate-fits after_comma (comma ∷ ls) h = (tt, tt)
-  punctuate-fits after_key (comma ∷ ls) h = (tt, tt)
-  punctuate-fits fresh (colon ∷ ls) h = (tt, tt)
-  punctuate-fits after_value (colon ∷ ls) h = (tt, tt)
-  punctuate-fits after_comma (colon ∷ ls) h = (tt, tt)
-  punctuate-fits after_key (colon ∷ ls) h = punctuate-fits fresh ls h.1
+  punctuate-fits p ls h = (tt, tt)
 
   tokens-fit : (text : List ℕ) → length text ≤ n → IsUtf8 text → TokensFit (tokens text)
   tokens-fit text le utf8 = punctuate-fits fresh (lex between text) (lex-fits between [] text le utf8)
@@ -168,24 +130,18 @@ module _ (n : ℕ) where
 
   abbrev mutual
     ValueFits : json.Json → Type 0
-    ValueFits json.null = Unit {0}
-    ValueFits (json.boolean b) = Unit {0}
-    ValueFits (json.number s) = Unit {0}
     ValueFits (json.string s) = Fits s
     ValueFits (json.array js) = ItemsFit js
     ValueFits (json.object ms) = MembersFit ms
+    ValueFits _ = Unit {0}
 
     ItemsFit : json.Items → Type 0
     ItemsFit json.no_items = Unit {0}
     ItemsFit (json.item j js) = ValueFits j × ItemsFit js
 
   string-of : (j : json.Json) → ValueFits j → StringFits j
-  string-of json.null h = tt
-  string-of (json.boolean b) h = tt
-  string-of (json.number s) h = tt
   string-of (json.string s) h = h
-  string-of (json.array js) h = tt
-  string-of (json.object ms) h = tt
+  string-of j h = tt
 
   -- says what is read, and what is left
   abbrev Parsed : {A : Type 0} → (A → Type 0) → A × List Token → Type 0
@@ -199,30 +155,13 @@ module _ (n : ℕ) where
   mapped Q R f (Some (a, ts)) h p = (h a p.0, p.1)
 
   end-fits : (ts : List Token) → TokensFit ts → Maybe TokensFit (after_end_array ts)
-  end-fits [] h = tt
-  end-fits (begin_object ∷ ts) h = tt
-  end-fits (end_object ∷ ts) h = tt
-  end-fits (begin_array ∷ ts) h = tt
   end-fits (end_array ∷ ts) h = h.1
-  end-fits (key s ∷ ts) h = tt
-  end-fits (string s ∷ ts) h = tt
-  end-fits (number s ∷ ts) h = tt
-  end-fits (boolean b ∷ ts) h = tt
-  end-fits (null ∷ ts) h = tt
-  end-fits (bad ∷ ts) h = tt
+  end-fits ts h = tt
 
   key-fits : (ts : List Token) → TokensFit ts → Maybe (Parsed Anything) (read_key ts)
-  key-fits [] h = tt
-  key-fits (begin_object ∷ ts) h = tt
   key-fits (end_object ∷ ts) h = (tt, h.1)
-  key-fits (begin_array ∷ ts) h = tt
-  key-fits (end_array ∷ ts) h = tt
   key-fits (key s ∷ ts) h = (tt, h.1)
-  key-fits (string s ∷ ts) h = tt
-  key-fits (number s ∷ ts) h = tt
-  key-fits (boolean b ∷ ts) h = tt
-  key-fits (null ∷ ts) h = tt
-  key-fits (bad ∷ ts) h = tt
+  key-fits ts h = tt
 
   module _ (parse : Parse json.Json) (fits : (ts : List Token) → TokensFit ts → Maybe (Parsed ValueFits) (parse ts)) where
     item-fits : (more : Parse json.Items) → ((ts : List Token) → TokensFit ts → Maybe (Parsed ItemsFit) (more ts)) → (ts : List Token) (o : Option (List Token)) → TokensFit ts → Maybe TokensFit o → Maybe (Parsed ItemsFit) (items_step parse more ts o)
@@ -250,17 +189,13 @@ module _ (n : ℕ) where
 
   with-fits : (a : Parse json.Items) (o : Parse json.Members) → ((ts : List Token) → TokensFit ts → Maybe (Parsed ItemsFit) (a ts)) → ((ts : List Token) → TokensFit ts → Maybe (Parsed MembersFit) (o ts))
       → (ts : List Token) → TokensFit ts → Maybe (Parsed ValueFits) (value_with a o ts)
-  with-fits a o p q [] h = tt
   with-fits a o p q (begin_object ∷ ts) h = mapped MembersFit ValueFits json.object (o ts) (λ ms b. b) (q ts h.1)
-  with-fits a o p q (end_object ∷ ts) h = tt
   with-fits a o p q (begin_array ∷ ts) h = mapped ItemsFit ValueFits json.array (a ts) (λ js b. b) (p ts h.1)
-  with-fits a o p q (end_array ∷ ts) h = tt
-  with-fits a o p q (key s ∷ ts) h = tt
   with-fits a o p q (string s ∷ ts) h = (h.0, h.1)
   with-fits a o p q (number s ∷ ts) h = (tt, h.1)
   with-fits a o p q (boolean b ∷ ts) h = (tt, h.1)
   with-fits a o p q (null ∷ ts) h = (tt, h.1)
-  with-fits a o p q (bad ∷ ts) h = tt
+  with-fits a o p q ts h = tt
 
   value-fits : (depth : ℕ) (ts : List Token) → TokensFit ts → Maybe (Parsed ValueFits) (value depth ts)
   unfolding value
@@ -281,63 +216,41 @@ module _ (n : ℕ) where
 
   abbrev mutual
     ObjectFits : Data → Type 0
-    ObjectFits parsed.null = Unit {0}
-    ObjectFits (parsed.boolean b) = Unit {0}
-    ObjectFits (parsed.number x) = Unit {0}
-    ObjectFits (parsed.string s) = Unit {0}
     ObjectFits (parsed.array ds) = EachFits ds
     ObjectFits (parsed.object ms) = AllFit ms
+    ObjectFits _ = Unit {0}
 
     EachFits : Items → Type 0
     EachFits no_items = Unit {0}
     EachFits (item d ds) = ObjectFits d × EachFits ds
 
-  ordered : (o : Ordering) (a b c : Members) → AllFit a → AllFit b → AllFit c → AllFit (match_ordering o a b c)
-  ordered Less a b c p q r = p
-  ordered Equal a b c p q r = q
-  ordered Greater a b c p q r = r
+  by_order : {A : Type 0} (P : A → Type 0) (o : Ordering) (a b c : A) → P a → P b → P c → P (match_ordering o a b c)
+  by_order P Less a b c p q r = p
+  by_order P Equal a b c p q r = q
+  by_order P Greater a b c p q r = r
 
   put-fits : (k : List ℕ) (d : Data) (ms : Members) → DataFits d → AllFit ms → AllFit (put k d ms)
   put-fits k d no_members p h = (p, tt)
-  put-fits k d (member l e ms) p h = ordered (slice_cmp nat_cmp k l) (member k d (member l e ms)) (member l d ms) (member l e (put k d ms)) (p, h) (p, h.1) (h.0, put-fits k d ms p h.1)
-
-  number-data : (o : Option Num) → Maybe DataFits (option_map parsed.number o)
-  number-data None = tt
-  number-data (Some x) = tt
-
-  array-data : (o : Option Items) → Maybe DataFits (option_map parsed.array o)
-  array-data None = tt
-  array-data (Some x) = tt
-
-  object-data : (o : Option Members) → Maybe DataFits (option_map parsed.object o)
-  object-data None = tt
-  object-data (Some x) = tt
+  put-fits k d (member l e ms) p h = by_order AllFit (slice_cmp nat_cmp k l) (member k d (member l e ms)) (member l d ms) (member l e (put k d ms)) (p, h) (p, h.1) (h.0, put-fits k d ms p h.1)
 
   data-fits : (j : json.Json) → StringFits j → Maybe DataFits (of_json j)
-  data-fits json.null h = tt
-  data-fits (json.boolean b) h = tt
-  data-fits (json.number s) h = number-data (number_of s)
+  data-fits (json.number s) h = any-map DataFits parsed.number (number_of s) (λ _. tt)
   data-fits (json.string s) h = h
-  data-fits (json.array js) h = array-data (of_items js)
-  data-fits (json.object ms) h = object-data (of_members ms no_members)
+  data-fits (json.array js) h = any-map DataFits parsed.array (of_items js) (λ _. tt)
+  data-fits (json.object ms) h = any-map DataFits parsed.object (of_members ms no_members) (λ _. tt)
+  data-fits j h = tt
 
   all-fit : (ms : json.Members) (found : Members) → MembersFit ms → AllFit found → Maybe AllFit (of_members ms found)
   all-fit json.no_members found h p = p
   all-fit (json.member k j ms) found h p =
       maybe-and_then DataFits AllFit (λ d. of_members ms (put k d found)) (of_json j) (λ d q. all-fit ms (put k d found) h.1 (put-fits k d found q p)) (data-fits j h.0)
 
-  number-object : (o : Option Num) → Maybe ObjectFits (option_map parsed.number o)
-  number-object None = tt
-  number-object (Some x) = tt
-
   mutual
     object-fits : (j : json.Json) → ValueFits j → Maybe ObjectFits (of_json j)
-    object-fits json.null h = tt
-    object-fits (json.boolean b) h = tt
-    object-fits (json.number s) h = number-object (number_of s)
-    object-fits (json.string s) h = tt
+    object-fits (json.number s) h = any-map ObjectFits parsed.number (number_of s) (λ _. tt)
     object-fits (json.array js) h = maybe-map EachFits ObjectFits parsed.array (of_items js) (λ x p. p) (objects-fit js h)
     object-fits (json.object ms) h = maybe-map AllFit ObjectFits parsed.object (of_members ms no_members) (λ x p. p) (all-fit ms no_members h tt)
+    object-fits j h = tt
 
     objects-fit : (js : json.Items) → ItemsFit js → Maybe EachFits (of_items js)
     objects-fit json.no_items h = tt
@@ -354,46 +267,25 @@ module _ (n : ℕ) where
 
   -- ---- requests
 
-  chosen : (o : Ordering) (a b c : Option Data) → Maybe DataFits a → Maybe DataFits b → Maybe DataFits c → Maybe DataFits (match_ordering o a b c)
-  chosen Less a b c p q r = p
-  chosen Equal a b c p q r = q
-  chosen Greater a b c p q r = r
-
   member-of : (k : List ℕ) (ms : Members) → AllFit ms → Maybe DataFits (get_member k ms)
   member-of k no_members h = tt
-  member-of k (member l e ms) h = chosen (slice_cmp nat_cmp k l) (get_member k ms) (Some e) (get_member k ms) (member-of k ms h.1) h.0 (member-of k ms h.1)
+  member-of k (member l e ms) h = by_order (Maybe DataFits) (slice_cmp nat_cmp k l) (get_member k ms) (Some e) (get_member k ms) (member-of k ms h.1) h.0 (member-of k ms h.1)
 
   get-fits : (k : List ℕ) (d : Data) → ObjectFits d → Maybe DataFits (get k d)
-  get-fits k parsed.null h = tt
-  get-fits k (parsed.boolean b) h = tt
-  get-fits k (parsed.number x) h = tt
-  get-fits k (parsed.string s) h = tt
-  get-fits k (parsed.array ds) h = tt
   get-fits k (parsed.object ms) h = member-of k ms h
+  get-fits k d h = tt
 
   name-fits : (o : Option Data) → Maybe DataFits o → Maybe (Maybe Fits) (name_of o)
-  name-fits None h = tt
-  name-fits (Some parsed.null) h = tt
-  name-fits (Some (parsed.boolean b)) h = tt
-  name-fits (Some (parsed.number x)) h = tt
   name-fits (Some (parsed.string s)) h = h
-  name-fits (Some (parsed.array ds)) h = tt
-  name-fits (Some (parsed.object ms)) h = tt
+  name-fits o h = tt
 
   abbrev pub RequestFits : RequestOf → Type 0
   RequestFits r = Maybe Fits r.operation_name
 
   asked-fits : (d : Data) → ObjectFits d → Maybe RequestFits (asked d)
-  asked-fits d h = go (option_and_then as_str (get (codes "query") d))
-    where
-      named : (query : List ℕ) → Maybe RequestFits (with_query d query)
-      named query =
-          maybe-map (Maybe Fits) RequestFits (λ name. record { query = query; operation_name = name; variables = get (codes "variables") d }) (name_of (get (codes "operationName") d)) (λ name p. p)
-          (name-fits (get (codes "operationName") d) (get-fits (codes "operationName") d h))
-
-      go : (o : Option (List ℕ)) → Maybe RequestFits (option_and_then (with_query d) o)
-      go None = tt
-      go (Some query) = named query
+  asked-fits d h = any-then RequestFits (with_query d) (option_and_then as_str (get (codes "query") d)) (λ query.
+      maybe-map (Maybe Fits) RequestFits (λ name. record { query = query; operation_name = name; variables = get (codes "variables") d }) (name_of (get (codes "operationName") d)) (λ name p. p)
+      (name-fits (get (codes "operationName") d) (get-fits (codes "operationName") d h)))
 
   pub request-fits : (line : List ℕ) (r : RequestOf) → length line ≤ n → IsRequest line r → Maybe Fits r.operation_name
   request-fits line r le is =
@@ -406,12 +298,8 @@ module _ (n : ℕ) where
   values-fit (item d ds) h = (asked-fits d h.0, values-fit ds h.1)
 
   array-fits : (d : Data) → ObjectFits d → Maybe EachFits (as_array d)
-  array-fits parsed.null h = tt
-  array-fits (parsed.boolean b) h = tt
-  array-fits (parsed.number x) h = tt
-  array-fits (parsed.string s) h = tt
   array-fits (parsed.array ds) h = h
-  array-fits (parsed.object ms) h = tt
+  array-fits d h = tt
 
   pub requests-fit : (line : List ℕ) (values : List (Option RequestOf)) → length line ≤ n → AreRequests line values → Each (Maybe RequestFits) values
   requests-fit line values le are =

@@ -3,7 +3,6 @@ pub mod Content
 pub mod Deciding
 pub mod Direct
 pub mod Documents
-pub mod Each
 pub mod Json
 pub mod Lines
 pub mod Loading

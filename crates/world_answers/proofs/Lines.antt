@@ -40,13 +40,13 @@ use Rattle.world_answers.proofs.Values.{array-answered}
 use Rattle.world_answers.specs.Requests.{IsPlanFor, IsRefusedOrAnswered, invalid, unprepared, answered}
 use Rattle.world_answers.proofs.Telling.{outcome-there}
 use Rattle.world_answers.proofs.Documents.{IsRead, text-read}
-use Rattle.world_answers.proofs.Each.{Each, Maybe, each-find}
+use Rattle.plan_laws.proofs.Each.{Each, Maybe, each-find}
 use Rattle.world_answers.proofs.Shared.{plans-answered}
-use Rattle.world_answers.proofs.Names.{DocumentNames}
-use Rattle.world_answers.proofs.Written.{IsWritten, document-written}
+use Rattle.world_answers.proofs.Names.{VariableNames, OperationNames, DocumentNames}
+use Rattle.world_answers.proofs.Written.{document-written}
 use Rattle.world_answers.proofs.Strings.{IsSaid, said, said-name}
 use Rattle.world_answers.proofs.Json.{Fits, RequestFits, request-fits, requests-fit}
-use Rattle.world_answers.proofs.Parts.{VariableNames, OperationNames, schema-said, parts-named}
+use Rattle.world_answers.proofs.Parts.{schema-said, parts-named}
 use Rattle.world_answers.proofs.Rules.{FaultSaid, verdict-said}
 
 -- ---- what can't be prepared has a name that a string says
@@ -157,7 +157,7 @@ module _ (s : ServiceOf) (has : HasSources s.world) (r : RequestOf) (called : Ma
     of-plan plan text valid is anew =
         (text, planned {plan = plan} (record { definitions = is.definitions; bindings = is.bindings; planned = record { document = d; says = says; valid = valid; fragments = is.fragments; prepared = is.prepares } }) anew)
 
-    of-outcome : DocumentNames IsWritten d → IsRefusedOrAnswered s d r.operation_name (values_of r.variables) → HasAnswer
+    of-outcome : DocumentNames d → IsRefusedOrAnswered s d r.operation_name (values_of r.variables) → HasAnswer
     of-outcome names (invalid f is) = of-invalid f (verdict-said (parts_of defs' d) (parts-named defs' d (schema-said s.world.definitions) names) (Some f) is) is
     of-outcome names (unprepared f valid e) = of-unprepared f (subst ResultSaid e (prepared-said defs' (values_of r.variables) d.operations r.operation_name names.operations called)) valid e
     of-outcome names (answered {plan = plan} {text = text} valid is anew) = of-plan plan text valid is anew

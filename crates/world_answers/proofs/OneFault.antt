@@ -54,12 +54,8 @@ viable_front xs ys h v = record {
 
 -- the tokens of a text are spelled
 spelled_word : (p : Place) (k : TokenKind) (bytes : List ℕ) → IsSpelled (at p (word k bytes))
-spelled_word p (kind.Punct b) bytes = tt
 spelled_word p kind.Name bytes = refl
-spelled_word p kind.Int bytes = tt
-spelled_word p kind.Float bytes = tt
-spelled_word p kind.Str bytes = tt
-spelled_word p kind.BlockStr bytes = tt
+spelled_word p k bytes = tt
 
 spelled_tokens : (text : List ℕ) (ts : List lexer.Token) → AreSpelled (tokens_of text ts)
 spelled_tokens text [] = tt
@@ -105,32 +101,30 @@ unexpected_token good bad rest x u e = subst (IsUnexpected good) e u
 unexpected_one : (tokens : List Token) (p q : Option Place) → AreSpelled tokens → IsUnexpectedAt tokens p → IsUnexpectedAt tokens q → p ≡ q
 unexpected_one tokens p q spelled u v = by_cut (cut u.good u.bad v.good v.bad (sym u.whole ∙ v.whole))
   where
+    -- the first stops at a token that stands in what the second can go on from
+    earlier : {a b : Option Place} (s : IsUnexpectedAt tokens a) (t : IsUnexpectedAt tokens b) (x : Token) (more : List Token) → s.bad ≡ x ∷ (more ++ t.bad) → t.good ≡ s.good ++ x ∷ more → ⊥
+    earlier s t x more h k =
+        let later = spelled_front more t.bad (spelled_cut tokens s.good (x ∷ (more ++ t.bad)) spelled (s.whole ∙ ap (λ l. s.good ++ l) h)).1 in
+        not_viable s.good more x later (unexpected_token s.good s.bad (more ++ t.bad) x s.unexpected h) (subst IsViable k t.viable)
+
     by_cut : Cut u.good u.bad v.good v.bad → p ≡ q
     by_cut (same h k) = sym u.placed ∙ ap place_of_next k ∙ v.placed
-    by_cut (first_ends x more h k) =
-        let later = spelled_front more v.bad (spelled_cut tokens u.good (x ∷ (more ++ v.bad)) spelled (u.whole ∙ ap (λ l. u.good ++ l) h)).1 in
-        absurd (not_viable u.good more x later (unexpected_token u.good u.bad (more ++ v.bad) x u.unexpected h) (subst IsViable k v.viable))
-    by_cut (second_ends x more h k) =
-        let later = spelled_front more u.bad (spelled_cut tokens v.good (x ∷ (more ++ u.bad)) spelled (v.whole ∙ ap (λ l. v.good ++ l) h)).1 in
-        absurd (not_viable v.good more x later (unexpected_token v.good v.bad (more ++ u.bad) x v.unexpected h) (subst IsViable k u.viable))
+    by_cut (first_ends x more h k) = absurd (earlier u v x more h k)
+    by_cut (second_ends x more h k) = absurd (earlier v u x more h k)
+
+-- tokens that go on behind a bracket that is too deep aren't shallow
+too_deep : {tokens : List Token} {p q : Place} (s : IsTooDeepAt tokens p) (t : IsTooDeepAt tokens q) (x : Token) (more bad : List Token) → at p s.opens ∷ s.bad ≡ x ∷ (more ++ at q t.opens ∷ bad) → t.good ≡ s.good ++ x ∷ more → ⊥
+too_deep {p = p} {q = q} s t x more bad h k =
+    let first = (head_same (at p s.opens) x s.bad (more ++ at q t.opens ∷ bad) h).0 in
+    not_shallow s.good more x (subst (λ y. IsShallow most_brackets (s.good ++ y ∷ []) → ⊥) first s.deep) (subst (IsShallow most_brackets) k t.shallow)
 
 deep_one : (tokens : List Token) (p q : Place) → IsTooDeepAt tokens p → IsTooDeepAt tokens q → p ≡ q
 deep_one tokens p q u v = by_cut (cut u.good (at p u.opens ∷ u.bad) v.good (at q v.opens ∷ v.bad) (sym u.whole ∙ v.whole))
   where
-    same_place : (a b : Token) (as' bs : List Token) → a ∷ as' ≡ b ∷ bs → place_of_next (a ∷ as') ≡ place_of_next (b ∷ bs)
-    same_place a b as' bs e = ap place_of_next e
-
-    some_same : (a b : Place) → Some a ≡ Some b → a ≡ b
-    some_same a b e = cc
-
     by_cut : Cut u.good (at p u.opens ∷ u.bad) v.good (at q v.opens ∷ v.bad) → p ≡ q
-    by_cut (same h k) = some_same p q (same_place (at p u.opens) (at q v.opens) u.bad v.bad k)
-    by_cut (first_ends x more h k) =
-        let first = (head_same (at p u.opens) x u.bad (more ++ at q v.opens ∷ v.bad) h).0 in
-        absurd (not_shallow u.good more x (subst (λ t. IsShallow most_brackets (u.good ++ t ∷ []) → ⊥) first u.deep) (subst (IsShallow most_brackets) k v.shallow))
-    by_cut (second_ends x more h k) =
-        let first = (head_same (at q v.opens) x v.bad (more ++ at p u.opens ∷ u.bad) h).0 in
-        absurd (not_shallow v.good more x (subst (λ t. IsShallow most_brackets (v.good ++ t ∷ []) → ⊥) first v.deep) (subst (IsShallow most_brackets) k u.shallow))
+    by_cut (same h k) = cc
+    by_cut (first_ends x more h k) = absurd (too_deep u v x more v.bad h k)
+    by_cut (second_ends x more h k) = absurd (too_deep v u x more u.bad h k)
 
 unexpected_or_deep : (tokens : List Token) (p : Option Place) (q : Place) → AreSpelled tokens → IsUnexpectedAt tokens p → IsTooDeepAt tokens q → ⊥
 unexpected_or_deep tokens p q spelled u v = by_cut (cut u.good u.bad v.good (at q v.opens ∷ v.bad) (sym u.whole ∙ v.whole))

@@ -1,12 +1,13 @@
 -- The names of a document's parts are written in its text, and those of a schema are strings.
-use Rattle.std.proofs.Common.{◌≡◌, refl, ℕ, ◌+◌, Bool, true, false, cond, ◌||◌, codes, List, [], ◌∷◌, ◌++◌, map, Option, Some, None}
+use Rattle.std.proofs.Common.{refl, ℕ, ◌+◌, Bool, cond, ◌||◌, codes, List, [], ◌∷◌, ◌++◌, map, Option, Some, None}
 use Rattle.std.specs.List.{filter_map, flat_map}
 use Rattle.std.specs.Prelude.{bytes_eq}
 use Rattle.std.specs.Option.{option_map_or}
+use Rattle.std.proofs.lemmas.Bool.{cond_both}
 use Rattle.gq_parser.specs.Tree as tree
-use Rattle.gq_parser.specs.Tree.{Value, Values, Members, Argument, Directive, Condition, Selection, Below, SelectionSet, Selections, VariableDefinition, Operation, Fragment, Document}
+use Rattle.gq_parser.specs.Tree.{Value, Values, Members, Argument, Directive, Selection, Below, SelectionSet, Selections, VariableDefinition, Operation, Fragment, Document}
 use Rattle.schema_syntax.specs.Tree as schema
-use Rattle.schema_syntax.specs.Tree.{Definition, Field, Object, Interface, Union, Enum, Schema}
+use Rattle.schema_syntax.specs.Tree.{Definition, Field, Object, Interface}
 use Rattle.schema_syntax.specs.declared.tree.Definition as rust
 use Rattle.schema_syntax.specs.declared.tree.Definition.TheVariants as rust-definition
 use Rattle.schema_syntax.specs.declared.tree.FieldDefinition as rust-field
@@ -21,11 +22,9 @@ use Rattle.rules_parts.specs.Parts.{PartsOf}
 use Rattle.rules_parts.specs.Parents.{known_field, inside_operation, inside_field, inside_condition, inside_inline}
 use Rattle.rules_parts.specs.Selections.{selections_in, selections_among, selections_from, selections_below, operation_selections, fragment_selections, document_selections}
 use Rattle.rules_parts.specs.Uses.{uses_in, uses_among, uses_within, argument_uses, item_location}
-use Rattle.rules_parts.specs.Listing.{field_from, field_part, spread_from, spread_part, inline_from, inline_part, fields_in as all_fields, variables_from, operation_variables, variables_in, directives_at, variable_directives, operation_directives, fragment_directives, directives_from, selection_directives, directives_in, condition_argument, field_arguments, arguments_with, directive_arguments, argument_with, listed_arguments, argument_lists_in, arguments_in, uses_from, parts_of}
-use Rattle.world_answers.proofs.Each.{Each, Maybe, each-append, each-find, each-map, each-filter_map, each-flat_map, maybe-map}
-use Rattle.world_answers.proofs.Names as names
-use Rattle.world_answers.proofs.Names.{DocumentNames}
-use Rattle.world_answers.proofs.Written.{IsWritten}
+use Rattle.rules_parts.specs.Listing.{field_from, field_part, spread_from, spread_part, inline_from, inline_part, fields_in as all_fields, operation_variables, variables_in, directives_at, variable_directives, operation_directives, fragment_directives, directives_from, selection_directives, directives_in, condition_argument, field_arguments, arguments_with, directive_arguments, argument_with, listed_arguments, argument_lists_in, arguments_in, uses_from, parts_of}
+use Rattle.plan_laws.proofs.Each.{Each, Maybe, each-append, each-find, each-map, each-filter_map, each-flat_map, maybe-map}
+use Rattle.world_answers.proofs.Names.{IsWritten, ValueNames, ValuesNames, MembersNames, ArgumentNames, DirectiveNames, ConditionNames, SelectionNames, BelowNames, SetNames, SelectionsNames, VariableNames, OperationNames, FragmentNames, DocumentNames}
 use Rattle.world_answers.proofs.Strings.{IsSaid, said-word}
 
 -- ---- the names of a schema
@@ -48,11 +47,9 @@ fields-said [] = tt
 fields-said (f ∷ fs) = (arguments-said f.arguments.items, fields-said fs)
 
 definition-said : (d : rust.Definition) → DefinitionSaid (schema.definition_of d)
-definition-said (rust-definition.Schema s) = tt
 definition-said (rust-definition.Object o) = fields-said o.fields.items
 definition-said (rust-definition.Interface i) = fields-said i.fields.items
-definition-said (rust-definition.Union u) = tt
-definition-said (rust-definition.Enum e) = tt
+definition-said d = tt
 
 pub schema-said : (ds : List rust.Definition) → Each DefinitionSaid (tree_of ds)
 schema-said [] = tt
@@ -60,26 +57,8 @@ schema-said (d ∷ ds) = (definition-said d, schema-said ds)
 
 -- ---- the names of parts
 
-abbrev pub ArgumentNames : Argument → Type 0
-ArgumentNames = names.ArgumentNames IsWritten
-
-abbrev pub DirectiveNames : Directive → Type 0
-DirectiveNames = names.DirectiveNames IsWritten
-
-abbrev pub ConditionNames : Condition → Type 0
-ConditionNames = names.ConditionNames IsWritten
-
-abbrev pub VariableNames : VariableDefinition → Type 0
-VariableNames = names.VariableNames IsWritten
-
-abbrev pub OperationNames : Operation → Type 0
-OperationNames = names.OperationNames IsWritten
-
-abbrev pub FragmentNames : Fragment → Type 0
-FragmentNames = names.FragmentNames IsWritten
-
 abbrev pub PartNames : SelectionPart → Type 0
-PartNames s = names.SelectionNames IsWritten s.selection × Maybe FieldSaid s.definition
+PartNames s = SelectionNames s.selection × Maybe FieldSaid s.definition
 
 pub record FieldNames (f : FieldPart) : Type 0 where
   pub alias : Maybe IsWritten f.alias
@@ -106,7 +85,7 @@ pub record ArgumentListNames (l : ArgumentList) : Type 0 where
 
 pub record ArgumentPartNames (a : ArgumentPart) : Type 0 where
   pub name : IsWritten a.name
-  pub value : names.ValueNames IsWritten a.value
+  pub value : ValueNames a.value
 
 abbrev pub UseNames : VariableUse → Type 0
 UseNames u = IsWritten u.name
@@ -123,49 +102,44 @@ module _ (defs : List Definition) (of_schema : Each DefinitionSaid defs) where
   field-said (Some ty) name = each-find FieldSaid (is_field name) (fields_in defs ty) (type-said (type_in defs ty) (each-find DefinitionSaid (defines ty) defs of_schema))
 
   mutual
-    in-set : (o : Owner) (parent : Option (List ℕ)) (s : SelectionSet) → names.SetNames IsWritten s → Each PartNames (selections_in defs o parent s)
+    in-set : (o : Owner) (parent : Option (List ℕ)) (s : SelectionSet) → SetNames s → Each PartNames (selections_in defs o parent s)
     in-set o parent (tree.set_at p ss) h = among o parent ss h
 
-    among : (o : Owner) (parent : Option (List ℕ)) (ss : Selections) → names.SelectionsNames IsWritten ss → Each PartNames (selections_among defs o parent ss)
+    among : (o : Owner) (parent : Option (List ℕ)) (ss : Selections) → SelectionsNames ss → Each PartNames (selections_among defs o parent ss)
     among o parent tree.no_selection h = tt
     among o parent (tree.and_selection s ss) h = each-append PartNames (selections_from defs o parent s) (selections_among defs o parent ss) (from o parent s h.0) (among o parent ss h.1)
 
-    from : (o : Owner) (parent : Option (List ℕ)) (s : Selection) → names.SelectionNames IsWritten s → Each PartNames (selections_from defs o parent s)
+    from : (o : Owner) (parent : Option (List ℕ)) (s : Selection) → SelectionNames s → Each PartNames (selections_from defs o parent s)
     from o parent (tree.Field p alias name as' ds b) h = ((h, field-said parent name), inside o (inside_field defs (known_field defs parent name)) b h.4)
     from o parent (tree.Spread p name ds) h = ((h, tt), tt)
     from o parent (tree.Inline p c ds s) h = ((h, tt), in-set o (inside_inline defs parent c) s h.2)
 
-    inside : (o : Owner) (parent : Option (List ℕ)) (b : Below) → names.BelowNames IsWritten b → Each PartNames (selections_below defs o parent b)
+    inside : (o : Owner) (parent : Option (List ℕ)) (b : Below) → BelowNames b → Each PartNames (selections_below defs o parent b)
     inside o parent tree.nothing_below h = tt
     inside o parent (tree.below s) h = in-set o parent s h
 
   of-operations : (i : ℕ) (os : List Operation) → Each OperationNames os → Each PartNames (operation_selections defs i os)
   of-operations i [] h = tt
-  of-operations i (o ∷ os) h = each-append PartNames (selections_in defs (owner.Operation i) (inside_operation defs) o.selection_set) (operation_selections defs (i + 1) os)
-      (in-set (owner.Operation i) (inside_operation defs) o.selection_set h.0.3) (of-operations (i + 1) os h.1)
+  of-operations i (o ∷ os) h = each-append PartNames _ _ (in-set (owner.Operation i) (inside_operation defs) o.selection_set h.0.3) (of-operations (i + 1) os h.1)
 
   of-fragments : (i : ℕ) (fs : List Fragment) → Each FragmentNames fs → Each PartNames (fragment_selections defs i fs)
   of-fragments i [] h = tt
-  of-fragments i (f ∷ fs) h = each-append PartNames (selections_in defs (owner.Fragment i) (inside_condition defs f.condition) f.selection_set) (fragment_selections defs (i + 1) fs)
-      (in-set (owner.Fragment i) (inside_condition defs f.condition) f.selection_set h.0.3) (of-fragments (i + 1) fs h.1)
+  of-fragments i (f ∷ fs) h = each-append PartNames _ _ (in-set (owner.Fragment i) (inside_condition defs f.condition) f.selection_set h.0.3) (of-fragments (i + 1) fs h.1)
 
-  pub selections-named : (d : Document) → DocumentNames IsWritten d → Each PartNames (document_selections defs d)
-  selections-named d h = each-append PartNames (operation_selections defs 0 d.operations) (fragment_selections defs 0 d.fragments) (of-operations 0 d.operations h.operations) (of-fragments 0 d.fragments h.fragments)
+  pub selections-named : (d : Document) → DocumentNames d → Each PartNames (document_selections defs d)
+  selections-named d h = each-append PartNames _ _ (of-operations 0 d.operations h.operations) (of-fragments 0 d.fragments h.fragments)
 
-field-named : (part : SelectionPart) (s : Selection) → names.SelectionNames IsWritten s → Maybe FieldSaid part.definition → Maybe FieldNames (field_from part s)
+field-named : (part : SelectionPart) (s : Selection) → SelectionNames s → Maybe FieldSaid part.definition → Maybe FieldNames (field_from part s)
 field-named part (tree.Field p alias name as' ds b) h said = record { alias = h.0; name = h.1; arguments = h.2; directives = h.3; definition = said }
-field-named part (tree.Spread p name ds) h said = tt
-field-named part (tree.Inline p c ds s) h said = tt
+field-named part s h said = tt
 
-spread-named : (fs : List Fragment) (part : SelectionPart) (s : Selection) → names.SelectionNames IsWritten s → Maybe SpreadNames (spread_from fs part s)
-spread-named fs part (tree.Field p alias name as' ds b) h = tt
+spread-named : (fs : List Fragment) (part : SelectionPart) (s : Selection) → SelectionNames s → Maybe SpreadNames (spread_from fs part s)
 spread-named fs part (tree.Spread p name ds) h = h.0
-spread-named fs part (tree.Inline p c ds s) h = tt
+spread-named fs part s h = tt
 
-inline-named : (part : SelectionPart) (s : Selection) → names.SelectionNames IsWritten s → Maybe InlineNames (inline_from part s)
-inline-named part (tree.Field p alias name as' ds b) h = tt
-inline-named part (tree.Spread p name ds) h = tt
+inline-named : (part : SelectionPart) (s : Selection) → SelectionNames s → Maybe InlineNames (inline_from part s)
 inline-named part (tree.Inline p c ds s) h = h.0
+inline-named part s h = tt
 
 pub fields-named : (parts : List SelectionPart) → Each PartNames parts → Each FieldNames (all_fields parts)
 fields-named parts h = each-filter_map PartNames FieldNames field_part parts (λ part p. field-named part part.selection p.0 p.1) h
@@ -178,10 +152,9 @@ inlines-named parts h = each-filter_map PartNames InlineNames inline_part parts 
 
 variables-among : (i : ℕ) (os : List Operation) → Each OperationNames os → Each VariablePartNames (operation_variables i os)
 variables-among i [] h = tt
-variables-among i (o ∷ os) h = each-append VariablePartNames (variables_from i o.variables) (operation_variables (i + 1) os)
-    (each-map VariableNames VariablePartNames (λ (v : VariableDefinition). record { operation = i; definition = v }) o.variables (λ v p. p) h.0.1) (variables-among (i + 1) os h.1)
+variables-among i (o ∷ os) h = each-append VariablePartNames _ _ (each-map VariableNames VariablePartNames (λ (v : VariableDefinition). record { operation = i; definition = v }) o.variables (λ v p. p) h.0.1) (variables-among (i + 1) os h.1)
 
-pub variables-named : (d : Document) → DocumentNames IsWritten d → Each VariablePartNames (variables_in d)
+pub variables-named : (d : Document) → DocumentNames d → Each VariablePartNames (variables_in d)
 variables-named d h = variables-among 0 d.operations h.operations
 
 at-named : (o : Owner) (at : DirectiveLocation) (ds : List Directive) → Each DirectiveNames ds → Each DirectiveListNames (directives_at o at ds)
@@ -190,20 +163,18 @@ at-named o at (d ∷ ds) h = (h, tt)
 
 operations-directed : (i : ℕ) (os : List Operation) → Each OperationNames os → Each DirectiveListNames (operation_directives i os)
 operations-directed i [] h = tt
-operations-directed i (o ∷ os) h = each-append DirectiveListNames (directives_at (owner.Operation i) location.Operation o.directives) (operation_directives (i + 1) os)
-    (at-named (owner.Operation i) location.Operation o.directives h.0.2) (operations-directed (i + 1) os h.1)
+operations-directed i (o ∷ os) h = each-append DirectiveListNames _ _ (at-named (owner.Operation i) location.Operation o.directives h.0.2) (operations-directed (i + 1) os h.1)
 
 fragments-directed : (i : ℕ) (fs : List Fragment) → Each FragmentNames fs → Each DirectiveListNames (fragment_directives i fs)
 fragments-directed i [] h = tt
-fragments-directed i (f ∷ fs) h = each-append DirectiveListNames (directives_at (owner.Fragment i) location.FragmentDefinition f.directives) (fragment_directives (i + 1) fs)
-    (at-named (owner.Fragment i) location.FragmentDefinition f.directives h.0.2) (fragments-directed (i + 1) fs h.1)
+fragments-directed i (f ∷ fs) h = each-append DirectiveListNames _ _ (at-named (owner.Fragment i) location.FragmentDefinition f.directives h.0.2) (fragments-directed (i + 1) fs h.1)
 
-selection-directed : (o : Owner) (s : Selection) → names.SelectionNames IsWritten s → Each DirectiveListNames (directives_from o s)
+selection-directed : (o : Owner) (s : Selection) → SelectionNames s → Each DirectiveListNames (directives_from o s)
 selection-directed o (tree.Field p alias name as' ds b) h = at-named o location.Field ds h.3
 selection-directed o (tree.Spread p name ds) h = at-named o location.FragmentSpread ds h.1
 selection-directed o (tree.Inline p c ds s) h = at-named o location.InlineFragment ds h.1
 
-pub directives-named : (d : Document) (parts : List SelectionPart) → DocumentNames IsWritten d → Each PartNames parts → Each DirectiveListNames (directives_in d parts)
+pub directives-named : (d : Document) (parts : List SelectionPart) → DocumentNames d → Each PartNames parts → Each DirectiveListNames (directives_in d parts)
 directives-named d parts h ps =
     let variables = each-flat_map VariablePartNames DirectiveListNames variable_directives (variables_in d) (λ v p. at-named (owner.Operation v.operation) location.VariableDefinition v.definition.directives p.1) (variables-named d h) in
     let operations = each-append DirectiveListNames (flat_map variable_directives (variables_in d)) (operation_directives 0 d.operations) variables (operations-directed 0 d.operations h.operations) in
@@ -215,8 +186,7 @@ field-arguments : (f : FieldPart) → FieldNames f → ArgumentListNames (field_
 field-arguments f h = record { arguments = h.arguments; definitions = maybe-map FieldSaid (Each ArgumentSaid) (λ (d : Field). d.arguments) f.definition (λ d p. p) h.definition }
 
 condition-said : (b : Bool) → Maybe (Each ArgumentSaid) (cond b (Some (condition_argument ∷ [])) None)
-condition-said true = (said-word (codes "if") refl refl, tt)
-condition-said false = tt
+condition-said b = cond_both b _ _ (Maybe (Each ArgumentSaid)) (λ _. (said-word (codes "if") refl refl, tt)) (λ _. tt)
 
 directive-named : (o : Owner) (d : Directive) → DirectiveNames d → ArgumentListNames (arguments_with o d)
 directive-named o d h = record { arguments = h.1; definitions = condition-said (bytes_eq d.name (codes "skip") || bytes_eq d.name (codes "include")) }
@@ -233,22 +203,17 @@ arguments-named lists h =
     (λ l p. each-map ArgumentNames ArgumentPartNames (argument_with l.owner l.definitions) l.arguments (λ a q. record { name = q.0; value = q.1 }) p.arguments) h
 
 mutual
-  uses-in : (o : Owner) (at : Option Location) (v : Value) → names.ValueNames IsWritten v → Each UseNames (uses_in o at v)
+  uses-in : (o : Owner) (at : Option Location) (v : Value) → ValueNames v → Each UseNames (uses_in o at v)
   uses-in o at (tree.Variable p n) h = (h, tt)
-  uses-in o at (tree.Int p n) h = tt
-  uses-in o at (tree.Float p n) h = tt
-  uses-in o at (tree.Text p n) h = tt
-  uses-in o at (tree.Boolean p b) h = tt
-  uses-in o at (tree.Null p) h = tt
-  uses-in o at (tree.Enum p n) h = tt
   uses-in o at (tree.Array p vs) h = uses-among o (item_location at) vs h
   uses-in o at (tree.Object p ms) h = uses-within o ms h
+  uses-in o at v h = tt
 
-  uses-among : (o : Owner) (at : Option Location) (vs : Values) → names.ValuesNames IsWritten vs → Each UseNames (uses_among o at vs)
+  uses-among : (o : Owner) (at : Option Location) (vs : Values) → ValuesNames vs → Each UseNames (uses_among o at vs)
   uses-among o at tree.no_value h = tt
   uses-among o at (tree.and_value v vs) h = each-append UseNames (uses_in o at v) (uses_among o at vs) (uses-in o at v h.0) (uses-among o at vs h.1)
 
-  uses-within : (o : Owner) (ms : Members) → names.MembersNames IsWritten ms → Each UseNames (uses_within o ms)
+  uses-within : (o : Owner) (ms : Members) → MembersNames ms → Each UseNames (uses_within o ms)
   uses-within o tree.no_member h = tt
   uses-within o (tree.and_member p n v ms) h = each-append UseNames (uses_in o None v) (uses_within o ms) (uses-in o None v h.0) (uses-within o ms h.1)
 
@@ -258,7 +223,7 @@ uses-named arguments h = each-flat_map ArgumentPartNames UseNames argument_uses 
 -- ---- all of them
 
 pub record PartsNames (p : PartsOf) : Type 0 where
-  pub document : DocumentNames IsWritten p.document
+  pub document : DocumentNames p.document
   pub fields : Each FieldNames p.fields
   pub spreads : Each SpreadNames p.spreads
   pub inlines : Each InlineNames p.inlines
@@ -268,7 +233,7 @@ pub record PartsNames (p : PartsOf) : Type 0 where
   pub arguments : Each ArgumentPartNames p.arguments
   pub uses : Each UseNames p.uses
 
-pub parts-named : (defs : List Definition) (d : Document) → Each DefinitionSaid defs → DocumentNames IsWritten d → PartsNames (parts_of defs d)
+pub parts-named : (defs : List Definition) (d : Document) → Each DefinitionSaid defs → DocumentNames d → PartsNames (parts_of defs d)
 parts-named defs d of_schema h =
     let parts = document_selections defs d in
     let ps = selections-named defs of_schema d h in

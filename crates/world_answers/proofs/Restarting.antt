@@ -1,5 +1,5 @@
 -- A new session of a world is one of it, and so is one that has answered, once it starts again.
-use Rattle.std.proofs.Common.{◌≡◌, ◌∙◌, ℕ, List, [], ◌∷◌, map, length, Option, Result, Ok, Err, IfOk, OnOk, All, refl, ap, sym, subst}
+use Rattle.std.proofs.Common.{◌≡◌, ◌∙◌, ℕ, List, [], ◌∷◌, map, length, Option, All, refl, ap, sym, subst}
 use Rattle.std.proofs.lemmas.List.Elements.{All-head, All-tail}
 use Rattle.csv_source.specs.Tables.{SourceOf}
 use Rattle.gq_bindings.specs.Tree as bindings
@@ -59,10 +59,6 @@ over-whichever w s is each =
       fresh = ap new_over (quiet-unasked s.loaders quiet) ∙ ap (λ ps. record { loaders = s.loaders; pairs = ps; rounds = 0 }) (sym pairs) ∙ ap (λ n. record { loaders = s.loaders; pairs = s.pairs; rounds = n }) (sym rounds);
       each = each;
     }
-
-pub over-opened : {E : Type 0} (w : WorldOf) (r : Result (SessionOf SourceOf) E) → IfOk r (λ s. over_whichever s ≡ session_over w) → OnOk r (length w.sources ≡ length w.bindings.loaders) → IfOk r (IsOver w)
-over-opened w (Ok s) opened each = over-whichever w s opened each
-over-opened w (Err e) opened each = tt
 
 unasked-twice : (ls : List (LoaderOf SourceOf)) → map unasked (map unasked ls) ≡ map unasked ls
 unasked-twice [] = refl

@@ -1,18 +1,19 @@
 -- Lemmas on what a rule tells has a name that a string says.
-use Rattle.std.proofs.Common.{◌≡◌, refl, ℕ, ◌+◌, zero, suc, Bool, true, false, cond, not, codes, ◌++◌, List, [], ◌∷◌, map, length, Option, Some, None, subst, sym}
+use Rattle.std.proofs.Common.{◌≡◌, refl, ℕ, ◌+◌, zero, suc, Bool, cond, not, codes, ◌++◌, List, [], ◌∷◌, map, length, Option, Some, None, subst, sym}
 use Rattle.std.specs.List.{filter, filter_map, flat_map, find, list_any}
 use Rattle.std.specs.Option.{option_and_then, unwrap_or}
 use Rattle.std.specs.Prelude.{nat_lt, fold}
+use Rattle.std.proofs.lemmas.Bool.{cond_both}
 use Rattle.text_place.specs.Order.{is_before}
 use Rattle.text_place.specs.declared.place.Place.{Place}
 use Rattle.gq_parser.specs.declared.tree.OperationKind.{OperationKind}
 use Rattle.gq_parser.specs.declared.tree.OperationKind.TheVariants as kind
-use Rattle.gq_parser.specs.Tree.{Value, Argument, Directive, VariableDefinition, Operation, Fragment}
+use Rattle.gq_parser.specs.Tree.{Value, Argument, Directive, Operation, Fragment}
 use Rattle.schema_syntax.specs.Tree as schema
 use Rattle.gq_schema.specs.Coercion.{accepts, place_of}
 use Rattle.gq_schema.specs.Scan.{or_else}
 use Rattle.rules_parts.specs.Broken.{BrokenOf, with_broken, earliest}
-use Rattle.rules_parts.specs.Parts.{PartsOf, FieldPart, ArgumentList, ArgumentPart}
+use Rattle.rules_parts.specs.Parts.{PartsOf, FieldPart, ArgumentList}
 use Rattle.rules_untyped.specs.Named.{named_variable, named_fragment, named_directive, named_argument}
 use Rattle.rules_untyped.specs.Repeated.{has_name, repeated_behind, repeated}
 use Rattle.rules_untyped.specs.OperationNameUniqueness.{named_operation, operation_name_uniqueness}
@@ -28,6 +29,7 @@ use Rattle.rules_untyped.specs.VariableUniqueness.{repeated_variables, variable_
 use Rattle.rules_untyped.specs.VariableReach.{named_use}
 use Rattle.rules_untyped.specs.AllVariableUsesDefined.{one_lacks, all_variable_uses_defined}
 use Rattle.rules_untyped.specs.AllVariablesUsed.{is_unused, unused_variables, all_variables_used}
+use Rattle.rules_untyped.specs.TooComplex.{is_too_complex}
 use Rattle.rules_untyped.specs.NotServed.{other_kind, operation_not_served, is_introspection, named_field, not_served}
 use Rattle.rules_typed.specs.DefaultWords.{named_if, is_type_name}
 use Rattle.rules_typed.specs.FieldSelections.{is_unknown as is_unknown_field, unknown_field, field_selections}
@@ -52,11 +54,11 @@ use Rattle.merging_fields.specs.Members.{at}
 use Rattle.merging_fields.specs.FieldSelectionMerging.{AreBroken, none, merges, fails, key_of}
 use Rattle.gq_check.specs.declared.fault.Rule.{Rule}
 use Rattle.gq_check.specs.declared.fault.Rule.TheVariants as rule
-use Rattle.gq_check.specs.Verdict.{FaultOf, Breaks, TooComplex, TooDeep, NotServed, breaks, report, served_fault, operations_fault, fields_fault, arguments_fault, fragments_fault, spreads_fault, directives_fault, variables_fault, rules_fault, limits_fault, first_fault, IsVerdictAfter}
-use Rattle.world_answers.proofs.Each.{Each, Maybe, each-append, each-filter, each-find, each-map, each-filter_map, each-flat_map, maybe-map, maybe-and_then}
-use Rattle.world_answers.proofs.Written.{IsWritten}
+use Rattle.gq_check.specs.Verdict.{FaultOf, Breaks, TooComplex, TooDeep, NotServed, breaks, report, served_fault, operations_fault, fields_fault, arguments_fault, fragments_fault, spreads_fault, directives_fault, values_fault, variables_fault, rules_fault, limits_fault, first_fault, IsVerdictAfter}
+use Rattle.plan_laws.proofs.Each.{Each, Maybe, each-append, each-filter, each-find, each-map, each-filter_map, each-flat_map, any-then, maybe-map, maybe-and_then}
 use Rattle.world_answers.proofs.Strings.{IsSaid, said-name, said-variable, said-word}
-use Rattle.world_answers.proofs.Parts.{ArgumentSaid, ArgumentNames, DirectiveNames, ConditionNames, VariableNames, OperationNames, FragmentNames, FieldNames, SpreadNames, InlineNames, VariablePartNames, DirectiveListNames, ArgumentListNames, ArgumentPartNames, UseNames, PartsNames}
+use Rattle.world_answers.proofs.Names.{IsWritten, ArgumentNames, DirectiveNames, ConditionNames, VariableNames, OperationNames, FragmentNames}
+use Rattle.world_answers.proofs.Parts.{ArgumentSaid, FieldNames, SpreadNames, InlineNames, VariablePartNames, DirectiveListNames, ArgumentListNames, ArgumentPartNames, UseNames, PartsNames}
 
 abbrev pub BrokenSaid : BrokenOf → Type 0
 BrokenSaid b = IsSaid b.name
@@ -73,8 +75,7 @@ AllSaid = Each BrokenSaid
 -- ---- lists of what is broken
 
 if-said : (b : Bool) (xs ys : List BrokenOf) → AllSaid xs → AllSaid ys → AllSaid (cond b xs ys)
-if-said true xs ys p q = p
-if-said false xs ys p q = q
+if-said b xs ys p q = cond_both b xs ys AllSaid (λ _. p) (λ _. q)
 
 behind-said : (others names : List BrokenOf) → AllSaid names → AllSaid (repeated_behind others names)
 behind-said others [] h = tt
@@ -86,16 +87,11 @@ repeated-said : (names : List BrokenOf) → AllSaid names → AllSaid (repeated 
 repeated-said names h = behind-said [] names h
 
 if-broken : (b : Bool) (name : List ℕ) (place : Place) → IsSaid name → Maybe BrokenSaid (named_if b name place)
-if-broken true name place h = h
-if-broken false name place h = tt
+if-broken b name place h = cond_both b _ _ (Maybe BrokenSaid) (λ _. h) (λ _. tt)
 
 with-said : (o : Option BrokenOf) (b : BrokenOf) → Maybe BrokenSaid o → BrokenSaid b → Maybe BrokenSaid (with_broken o b)
 with-said None b p q = q
-with-said (Some a) b p q = go (is_before b.place a.place)
-  where
-    go : (c : Bool) → BrokenSaid (cond c b a)
-    go true = q
-    go false = p
+with-said (Some a) b p q = cond_both (is_before b.place a.place) b a BrokenSaid (λ _. q) (λ _. p)
 
 fold-said : (o : Option BrokenOf) (bs : List BrokenOf) → Maybe BrokenSaid o → AllSaid bs → Maybe BrokenSaid (fold with_broken o bs)
 fold-said o [] p h = p
@@ -103,6 +99,13 @@ fold-said o (b ∷ bs) p h = fold-said (with_broken o b) bs (with-said o b p h.0
 
 earliest-said : (bs : List BrokenOf) → AllSaid bs → Maybe BrokenSaid (earliest bs)
 earliest-said bs h = fold-said None bs tt h
+
+rule-said : (r : Rule) (bs : List BrokenOf) → AllSaid bs → Maybe FaultSaid (report r bs)
+rule-said r bs q = maybe-map BrokenSaid FaultSaid (breaks r) (earliest bs) (λ b s. s) (earliest-said bs q)
+
+first-of : (a b : Option FaultOf) → Maybe FaultSaid a → Maybe FaultSaid b → Maybe FaultSaid (or_else a b)
+first-of None b q r = r
+first-of (Some f) b q r = q
 
 -- ---- the rules
 
@@ -118,42 +121,26 @@ module _ (p : PartsOf) (h : PartsNames p) where
   kind-said kind.Mutation = said-word (codes "mutation") refl refl
   kind-said kind.Subscription = said-word (codes "subscription") refl refl
 
-  not-served : AllSaid (not_served p)
-  not-served =
-      each-append BrokenSaid (filter_map operation_not_served operations) (map named_field (filter is_introspection p.fields))
+  served : Maybe FaultSaid (served_fault p)
+  served = maybe-map BrokenSaid FaultSaid (λ (b : BrokenOf). NotServed b.name b.place) (earliest (not_served p)) (λ b s. s) (earliest-said (not_served p)
+      (each-append BrokenSaid (filter_map operation_not_served operations) (map named_field (filter is_introspection p.fields))
       (each-filter_map OperationNames BrokenSaid operation_not_served operations (λ o q. maybe-map IsSaid BrokenSaid (λ word. record { name = word; place = o.place }) (other_kind o.kind) (λ word r. r) (kind-said o.kind)) h.document.operations)
-      (each-map FieldNames BrokenSaid named_field (filter is_introspection p.fields) (λ f q. said-name q.name) (each-filter FieldNames is_introspection p.fields h.fields))
+      (each-map FieldNames BrokenSaid named_field (filter is_introspection p.fields) (λ f q. said-name q.name) (each-filter FieldNames is_introspection p.fields h.fields))))
 
-  operation-names : AllSaid (operation_name_uniqueness p)
-  operation-names = repeated-said (filter_map named_operation operations)
-      (each-filter_map OperationNames BrokenSaid named_operation operations (λ o q. maybe-map IsWritten BrokenSaid (λ n. record { name = n; place = o.place }) o.name (λ n r. said-name r) q.0) h.document.operations)
+  of-operations : Maybe FaultSaid (operations_fault p)
+  of-operations =
+      first-of _ _ (rule-said rule.OperationNameUniqueness (operation_name_uniqueness p) (repeated-said (filter_map named_operation operations)
+      (each-filter_map OperationNames BrokenSaid named_operation operations (λ o q. maybe-map IsWritten BrokenSaid (λ n. record { name = n; place = o.place }) o.name (λ n r. said-name r) q.0) h.document.operations)))
+      (rule-said rule.LoneAnonymousOperation (lone_anonymous_operation p) (if-said (nat_lt 1 (length operations)) (map anonymous (filter is_anonymous operations)) []
+      (each-map OperationNames BrokenSaid anonymous (filter is_anonymous operations) (λ o q. said-word (codes "query") refl refl) (each-filter OperationNames is_anonymous operations h.document.operations)) tt))
 
-  anonymous-said : (os : List Operation) → AllSaid (map anonymous os)
-  anonymous-said [] = tt
-  anonymous-said (o ∷ os) = (said-word (codes "query") refl refl, anonymous-said os)
+  of-fields : Maybe FaultSaid (fields_fault p)
+  of-fields =
+      first-of _ _ (rule-said rule.FieldSelections (field_selections p) (each-filter_map FieldNames BrokenSaid unknown_field p.fields (λ f q. if-broken (is_unknown_field f) f.name f.place (said-name q.name)) h.fields))
+      (rule-said rule.LeafFieldSelections (leaf_field_selections p) (each-filter_map FieldNames BrokenSaid (misfit_field p.definitions) p.fields (λ f q. if-broken _ f.name f.place (said-name q.name)) h.fields))
 
-  lone-anonymous : AllSaid (lone_anonymous_operation p)
-  lone-anonymous = if-said (nat_lt 1 (length operations)) (map anonymous (filter is_anonymous operations)) [] (anonymous-said (filter is_anonymous operations)) tt
-
-  unknown-fields : AllSaid (field_selections p)
-  unknown-fields = each-filter_map FieldNames BrokenSaid unknown_field p.fields (λ f q. if-broken (is_unknown_field f) f.name f.place (said-name q.name)) h.fields
-
-  misfit-fields : AllSaid (leaf_field_selections p)
-  misfit-fields = each-filter_map FieldNames BrokenSaid (misfit_field p.definitions) p.fields (λ f q. if-broken _ f.name f.place (said-name q.name)) h.fields
-
-  given-said : (as' : List Argument) → Each ArgumentNames as' → AllSaid (map broken_argument as')
-  given-said as' q = each-map ArgumentNames BrokenSaid broken_argument as' (λ a r. said-name r.0) q
-
-  unknown-arguments : AllSaid (argument_names p)
-  unknown-arguments =
-      each-append BrokenSaid (filter_map unknown_argument p.arguments) (flat_map type_name_arguments p.fields)
-      (each-filter_map ArgumentPartNames BrokenSaid unknown_argument p.arguments (λ a q. if-broken _ a.name a.place (said-name q.name)) h.arguments)
-      (each-flat_map FieldNames BrokenSaid type_name_arguments p.fields (λ f q. if-said (is_type_name f) (map broken_argument f.arguments) [] (given-said f.arguments q.arguments) tt) h.fields)
-
-  repeated-arguments : AllSaid (argument_uniqueness p)
-  repeated-arguments =
-      each-flat_map ArgumentListNames BrokenSaid repeated_arguments p.argument_lists
-      (λ l q. repeated-said (map named_argument l.arguments) (each-map ArgumentNames BrokenSaid named_argument l.arguments (λ a r. said-name r.0) q.arguments)) h.argument_lists
+  given-said : (f : Argument → BrokenOf) → ((a : Argument) → (f a).name ≡ a.name) → (as' : List Argument) → Each ArgumentNames as' → AllSaid (map f as')
+  given-said f same as' q = each-map ArgumentNames BrokenSaid f as' (λ a r. rw (same a) (said-name r.0)) q
 
   missing-said : (l : ArgumentList) → ArgumentListNames l → Maybe BrokenSaid (missing_argument l)
   missing-said l q =
@@ -161,14 +148,14 @@ module _ (p : PartsOf) (h : PartsNames p) where
       (maybe-and_then (Each ArgumentSaid) IsSaid (λ (ds : List schema.Argument). first_missing ds l.arguments) l.definitions
       (λ ds r. maybe-map ArgumentSaid IsSaid name_of (find (is_missing l.arguments) ds) (λ a s. s) (each-find ArgumentSaid (is_missing l.arguments) ds r)) q.definitions)
 
-  missing-arguments : AllSaid (required_arguments p)
-  missing-arguments = each-filter_map ArgumentListNames BrokenSaid missing_argument p.argument_lists missing-said h.argument_lists
-
-  fragment-names : AllSaid (map named_fragment fragments)
-  fragment-names = each-map FragmentNames BrokenSaid named_fragment fragments (λ f q. said-name q.0) h.document.fragments
-
-  repeated-fragments : AllSaid (fragment_name_uniqueness p)
-  repeated-fragments = repeated-said (map named_fragment fragments) fragment-names
+  of-arguments : Maybe FaultSaid (arguments_fault p)
+  of-arguments =
+      first-of _ _ (rule-said rule.ArgumentNames (argument_names p) (each-append BrokenSaid (filter_map unknown_argument p.arguments) (flat_map type_name_arguments p.fields)
+      (each-filter_map ArgumentPartNames BrokenSaid unknown_argument p.arguments (λ a q. if-broken _ a.name a.place (said-name q.name)) h.arguments)
+      (each-flat_map FieldNames BrokenSaid type_name_arguments p.fields (λ f q. if-said (is_type_name f) (map broken_argument f.arguments) [] (given-said broken_argument (λ a. refl) f.arguments q.arguments) tt) h.fields)))
+      (first-of _ _ (rule-said rule.ArgumentUniqueness (argument_uniqueness p) (each-flat_map ArgumentListNames BrokenSaid repeated_arguments p.argument_lists
+      (λ l q. repeated-said (map named_argument l.arguments) (given-said named_argument (λ a. refl) l.arguments q.arguments)) h.argument_lists))
+      (rule-said rule.RequiredArguments (required_arguments p) (each-filter_map ArgumentListNames BrokenSaid missing_argument p.argument_lists missing-said h.argument_lists)))
 
   conditions-named : Each ConditionNames (conditions p)
   conditions-named =
@@ -176,76 +163,50 @@ module _ (p : PartsOf) (h : PartsNames p) where
       (each-map FragmentNames ConditionNames condition_of fragments (λ f q. q.1) h.document.fragments)
       (each-filter_map InlineNames ConditionNames inline_condition p.inlines (λ i q. q) h.inlines)
 
-  unknown-types : AllSaid (fragment_spread_type_existence p)
-  unknown-types = each-filter_map ConditionNames BrokenSaid (unknown_type p.definitions) (conditions p) (λ c q. if-broken _ c.name c.place (said-name q)) conditions-named
-
-  leaf-types : AllSaid (fragments_on_composite_types p)
-  leaf-types = each-filter_map ConditionNames BrokenSaid (leaf_type p.definitions) (conditions p) (λ c q. if-broken _ c.name c.place (said-name q)) conditions-named
-
-  unused-fragments : AllSaid (fragments_must_be_used p)
-  unused-fragments =
-      each-map FragmentNames BrokenSaid named_fragment (filter (is_unused_fragment p.spreads) fragments) (λ f q. said-name q.0) (each-filter FragmentNames (is_unused_fragment p.spreads) fragments h.document.fragments)
-
-  undefined-targets : AllSaid (fragment_spread_target_defined p)
-  undefined-targets = each-map SpreadNames BrokenSaid named_spread (filter is_undefined p.spreads) (λ s q. said-name q) (each-filter SpreadNames is_undefined p.spreads h.spreads)
+  of-fragments : Maybe FaultSaid (fragments_fault p)
+  of-fragments =
+      first-of _ _ (rule-said rule.FragmentNameUniqueness (fragment_name_uniqueness p) (repeated-said (map named_fragment fragments)
+      (each-map FragmentNames BrokenSaid named_fragment fragments (λ f q. said-name q.0) h.document.fragments)))
+      (first-of _ _ (rule-said rule.FragmentSpreadTypeExistence (fragment_spread_type_existence p)
+      (each-filter_map ConditionNames BrokenSaid (unknown_type p.definitions) (conditions p) (λ c q. if-broken _ c.name c.place (said-name q)) conditions-named))
+      (first-of _ _ (rule-said rule.FragmentsOnCompositeTypes (fragments_on_composite_types p)
+      (each-filter_map ConditionNames BrokenSaid (leaf_type p.definitions) (conditions p) (λ c q. if-broken _ c.name c.place (said-name q)) conditions-named))
+      (rule-said rule.FragmentsMustBeUsed (fragments_must_be_used p)
+      (each-map FragmentNames BrokenSaid named_fragment (filter (is_unused_fragment p.spreads) fragments) (λ f q. said-name q.0) (each-filter FragmentNames (is_unused_fragment p.spreads) fragments h.document.fragments)))))
 
   cycles-said : (g : GraphOf) (j : ℕ) (fs : List Fragment) → Each FragmentNames fs → AllSaid (cycles_among g j fs)
   cycles-said g j [] q = tt
-  cycles-said g j (f ∷ fs) q =
-      let others = cycles-said g (j + 1) fs q.1 in
-      if-said (is_cyclic g j) (record { name = f.name; place = f.place } ∷ cycles_among g (j + 1) fs) (cycles_among g (j + 1) fs) (said-name q.0.0, others) others
+  cycles-said g j (f ∷ fs) q = let others = cycles-said g (j + 1) fs q.1 in cond_both (is_cyclic g j) _ _ AllSaid (λ _. (said-name q.0.0, others)) (λ _. others)
 
-  cycles : AllSaid (fragment_spreads_must_not_form_cycles p)
-  cycles = cycles-said (graph_of p) 0 fragments h.document.fragments
-
-  impossible : AllSaid (fragment_spread_is_possible p)
-  impossible =
-      each-append BrokenSaid (filter_map (impossible_spread p) p.spreads) (filter_map (impossible_inline p.definitions) p.inlines)
+  of-spreads : Maybe FaultSaid (spreads_fault p)
+  of-spreads =
+      first-of _ _ (rule-said rule.FragmentSpreadTargetDefined (fragment_spread_target_defined p)
+      (each-map SpreadNames BrokenSaid named_spread (filter is_undefined p.spreads) (λ s q. said-name q) (each-filter SpreadNames is_undefined p.spreads h.spreads)))
+      (first-of _ _ (rule-said rule.FragmentSpreadsMustNotFormCycles (fragment_spreads_must_not_form_cycles p) (cycles-said (graph_of p) 0 fragments h.document.fragments))
+      (rule-said rule.FragmentSpreadIsPossible (fragment_spread_is_possible p) (each-append BrokenSaid (filter_map (impossible_spread p) p.spreads) (filter_map (impossible_inline p.definitions) p.inlines)
       (each-filter_map SpreadNames BrokenSaid (impossible_spread p) p.spreads (λ s q. if-broken _ s.name s.place (said-name q)) h.spreads)
       (each-filter_map InlineNames BrokenSaid (impossible_inline p.definitions) p.inlines
-      (λ i q. maybe-and_then ConditionNames BrokenSaid (impossible_condition p.definitions i.parent i.place) i.condition (λ c r. if-broken _ c.name i.place (said-name r)) q) h.inlines)
+      (λ i q. maybe-and_then ConditionNames BrokenSaid (impossible_condition p.definitions i.parent i.place) i.condition (λ c r. if-broken _ c.name i.place (said-name r)) q) h.inlines))))
 
-  argument-wrong : (a : ArgumentPart) (o : Option schema.Argument) → IsSaid a.name → Maybe BrokenSaid (option_and_then (λ (d : schema.Argument). named_if (not (accepts p.definitions d.of_type a.value)) a.name (place_of a.value)) o)
-  argument-wrong a None q = tt
-  argument-wrong a (Some d) q = if-broken _ a.name (place_of a.value) q
-
-  default-wrong : (v : VariableDefinition) (o : Option Value) → IsSaid (codes "$" ++ v.name) → Maybe BrokenSaid (option_and_then (λ (d : Value). named_if (is_wrong p.definitions v.of_type d) (codes "$" ++ v.name) (place_of d)) o)
-  default-wrong v None q = tt
-  default-wrong v (Some d) q = if-broken _ (codes "$" ++ v.name) (place_of d) q
-
-  wrong-values : AllSaid (values_of_correct_type p)
-  wrong-values =
-      each-append BrokenSaid (filter_map (wrong_argument p.definitions) p.arguments) (filter_map (wrong_variable p.definitions) p.variables)
-      (each-filter_map ArgumentPartNames BrokenSaid (wrong_argument p.definitions) p.arguments (λ a q. argument-wrong a a.definition (said-name q.name)) h.arguments)
-      (each-filter_map VariablePartNames BrokenSaid (wrong_variable p.definitions) p.variables (λ v q. default-wrong v.definition v.definition.default (said-variable q.0)) h.variables)
+  of-values : Maybe FaultSaid (values_fault p)
+  of-values =
+      rule-said rule.ValuesOfCorrectType (values_of_correct_type p) (each-append BrokenSaid (filter_map (wrong_argument p.definitions) p.arguments) (filter_map (wrong_variable p.definitions) p.variables)
+      (each-filter_map ArgumentPartNames BrokenSaid (wrong_argument p.definitions) p.arguments
+      (λ a q. any-then BrokenSaid (λ (d : schema.Argument). named_if (not (accepts p.definitions d.of_type a.value)) a.name (place_of a.value)) a.definition (λ d. if-broken _ a.name (place_of a.value) (said-name q.name))) h.arguments)
+      (each-filter_map VariablePartNames BrokenSaid (wrong_variable p.definitions) p.variables
+      (λ v q. any-then BrokenSaid (λ (d : Value). named_if (is_wrong p.definitions v.definition.of_type d) (codes "$" ++ v.definition.name) (place_of d)) v.definition.default (λ d. if-broken _ (codes "$" ++ v.definition.name) (place_of d) (said-variable q.0))) h.variables))
 
   directives-said : (f : Directive → Bool) (ds : List Directive) → Each DirectiveNames ds → AllSaid (map named_directive (filter f ds))
   directives-said f ds q = each-map DirectiveNames BrokenSaid named_directive (filter f ds) (λ d r. said-name r.0) (each-filter DirectiveNames f ds q)
 
-  undefined-directives : AllSaid (directives_are_defined p)
-  undefined-directives = each-flat_map DirectiveListNames BrokenSaid undefined_directives p.directive_lists (λ l q. directives-said (λ d. not (is_defined d)) l.directives q) h.directive_lists
-
-  misplaced-directives : AllSaid (directives_are_in_valid_locations p)
-  misplaced-directives =
-      each-flat_map DirectiveListNames BrokenSaid misplaced_directives p.directive_lists
-      (λ l q. if-said (is_valid l.location) [] (map named_directive (filter is_defined l.directives)) tt (directives-said is_defined l.directives q)) h.directive_lists
-
-  repeated-directives : AllSaid (directives_are_unique_per_location p)
-  repeated-directives =
-      each-flat_map DirectiveListNames BrokenSaid repeated_directives p.directive_lists
-      (λ l q. repeated-said (map named_directive l.directives) (each-map DirectiveNames BrokenSaid named_directive l.directives (λ d r. said-name r.0) q)) h.directive_lists
-
-  repeated-variables : AllSaid (variable_uniqueness p)
-  repeated-variables =
-      each-flat_map OperationNames BrokenSaid repeated_variables operations
-      (λ o q. repeated-said (map named_variable o.variables) (each-map VariableNames BrokenSaid named_variable o.variables (λ v r. said-name r.0) q.1)) h.document.operations
-
-  non-input : AllSaid (variables_are_input_types p)
-  non-input = each-filter_map VariablePartNames BrokenSaid (non_input_variable p.definitions) p.variables (λ v q. if-broken _ v.definition.name v.definition.place (said-name q.0)) h.variables
-
-  undefined-uses : AllSaid (all_variable_uses_defined p)
-  undefined-uses =
-      each-map UseNames BrokenSaid named_use (filter (one_lacks (graph_of p) 0 operations) p.uses) (λ u q. said-name q) (each-filter UseNames (one_lacks (graph_of p) 0 operations) p.uses h.uses)
+  of-directives : Maybe FaultSaid (directives_fault p)
+  of-directives =
+      first-of _ _ (rule-said rule.DirectivesAreDefined (directives_are_defined p)
+      (each-flat_map DirectiveListNames BrokenSaid undefined_directives p.directive_lists (λ l q. directives-said (λ d. not (is_defined d)) l.directives q) h.directive_lists))
+      (first-of _ _ (rule-said rule.DirectivesAreInValidLocations (directives_are_in_valid_locations p) (each-flat_map DirectiveListNames BrokenSaid misplaced_directives p.directive_lists
+      (λ l q. if-said (is_valid l.location) [] (map named_directive (filter is_defined l.directives)) tt (directives-said is_defined l.directives q)) h.directive_lists))
+      (rule-said rule.DirectivesAreUniquePerLocation (directives_are_unique_per_location p) (each-flat_map DirectiveListNames BrokenSaid repeated_directives p.directive_lists
+      (λ l q. repeated-said (map named_directive l.directives) (each-map DirectiveNames BrokenSaid named_directive l.directives (λ d r. said-name r.0) q)) h.directive_lists)))
 
   unused-said : (i : ℕ) (os : List Operation) → Each OperationNames os → AllSaid (unused_variables (graph_of p) p.uses i os)
   unused-said i [] q = tt
@@ -254,94 +215,37 @@ module _ (p : PartsOf) (h : PartsNames p) where
       (each-map VariableNames BrokenSaid named_variable (filter (is_unused (graph_of p) p.uses i) o.variables) (λ v r. said-name r.0) (each-filter VariableNames (is_unused (graph_of p) p.uses i) o.variables q.0.1))
       (unused-said (i + 1) os q.1)
 
-  unused-variables : AllSaid (all_variables_used p)
-  unused-variables = unused-said 0 operations h.document.operations
-
-  forbidden : AllSaid (all_variable_usages_are_allowed p)
-  forbidden = each-filter_map UseNames BrokenSaid (forbidden_usage (graph_of p) operations) p.uses (λ u q. if-broken _ u.name u.place (said-name q)) h.uses
-
-  deep-said : (o : Operation) (b : Bool) → Maybe BrokenSaid (cond b (Some (record { name = []; place = o.place })) None)
-  deep-said o true = said-word [] refl refl
-  deep-said o false = tt
-
-  too-deep : AllSaid (too_deep p)
-  too-deep = each-filter_map OperationNames BrokenSaid (deep_operation fragments) operations (λ o q. deep-said o (nat_lt most_levels (levels_of fragments o))) h.document.operations
+  of-variables : Maybe FaultSaid (variables_fault p)
+  of-variables =
+      first-of _ _ (rule-said rule.VariableUniqueness (variable_uniqueness p) (each-flat_map OperationNames BrokenSaid repeated_variables operations
+      (λ o q. repeated-said (map named_variable o.variables) (each-map VariableNames BrokenSaid named_variable o.variables (λ v r. said-name r.0) q.1)) h.document.operations))
+      (first-of _ _ (rule-said rule.VariablesAreInputTypes (variables_are_input_types p)
+      (each-filter_map VariablePartNames BrokenSaid (non_input_variable p.definitions) p.variables (λ v q. if-broken _ v.definition.name v.definition.place (said-name q.0)) h.variables))
+      (first-of _ _ (rule-said rule.AllVariableUsesDefined (all_variable_uses_defined p)
+      (each-map UseNames BrokenSaid named_use (filter (one_lacks (graph_of p) 0 operations) p.uses) (λ u q. said-name q) (each-filter UseNames (one_lacks (graph_of p) 0 operations) p.uses h.uses)))
+      (first-of _ _ (rule-said rule.AllVariablesUsed (all_variables_used p) (unused-said 0 operations h.document.operations))
+      (rule-said rule.AllVariableUsagesAreAllowed (all_variable_usages_are_allowed p) (each-filter_map UseNames BrokenSaid (forbidden_usage (graph_of p) operations) p.uses (λ u q. if-broken _ u.name u.place (said-name q)) h.uses)))))
 
   -- ---- the verdict
 
-  rule-said : (r : Rule) (bs : List BrokenOf) → AllSaid bs → Maybe FaultSaid (report r bs)
-  rule-said r bs q = maybe-map BrokenSaid FaultSaid (breaks r) (earliest bs) (λ b s. s) (earliest-said bs q)
-
-  first-of : (a b : Option FaultOf) → Maybe FaultSaid a → Maybe FaultSaid b → Maybe FaultSaid (or_else a b)
-  first-of None b q r = r
-  first-of (Some f) b q r = q
-
-  served : Maybe FaultSaid (served_fault p)
-  served = maybe-map BrokenSaid FaultSaid (λ (b : BrokenOf). NotServed b.name b.place) (earliest (not_served p)) (λ b s. s) (earliest-said (not_served p) not-served)
-
-  of-operations : Maybe FaultSaid (operations_fault p)
-  of-operations = first-of _ _ (rule-said rule.OperationNameUniqueness (operation_name_uniqueness p) operation-names) (rule-said rule.LoneAnonymousOperation (lone_anonymous_operation p) lone-anonymous)
-
-  of-fields : Maybe FaultSaid (fields_fault p)
-  of-fields = first-of _ _ (rule-said rule.FieldSelections (field_selections p) unknown-fields) (rule-said rule.LeafFieldSelections (leaf_field_selections p) misfit-fields)
-
-  of-arguments : Maybe FaultSaid (arguments_fault p)
-  of-arguments =
-      first-of _ _ (rule-said rule.ArgumentNames (argument_names p) unknown-arguments)
-      (first-of _ _ (rule-said rule.ArgumentUniqueness (argument_uniqueness p) repeated-arguments) (rule-said rule.RequiredArguments (required_arguments p) missing-arguments))
-
-  of-fragments : Maybe FaultSaid (fragments_fault p)
-  of-fragments =
-      first-of _ _ (rule-said rule.FragmentNameUniqueness (fragment_name_uniqueness p) repeated-fragments)
-      (first-of _ _ (rule-said rule.FragmentSpreadTypeExistence (fragment_spread_type_existence p) unknown-types)
-      (first-of _ _ (rule-said rule.FragmentsOnCompositeTypes (fragments_on_composite_types p) leaf-types) (rule-said rule.FragmentsMustBeUsed (fragments_must_be_used p) unused-fragments)))
-
-  of-spreads : Maybe FaultSaid (spreads_fault p)
-  of-spreads =
-      first-of _ _ (rule-said rule.FragmentSpreadTargetDefined (fragment_spread_target_defined p) undefined-targets)
-      (first-of _ _ (rule-said rule.FragmentSpreadsMustNotFormCycles (fragment_spreads_must_not_form_cycles p) cycles) (rule-said rule.FragmentSpreadIsPossible (fragment_spread_is_possible p) impossible))
-
-  of-directives : Maybe FaultSaid (directives_fault p)
-  of-directives =
-      first-of _ _ (rule-said rule.DirectivesAreDefined (directives_are_defined p) undefined-directives)
-      (first-of _ _ (rule-said rule.DirectivesAreInValidLocations (directives_are_in_valid_locations p) misplaced-directives)
-      (rule-said rule.DirectivesAreUniquePerLocation (directives_are_unique_per_location p) repeated-directives))
-
-  of-variables : Maybe FaultSaid (variables_fault p)
-  of-variables =
-      first-of _ _ (rule-said rule.VariableUniqueness (variable_uniqueness p) repeated-variables)
-      (first-of _ _ (rule-said rule.VariablesAreInputTypes (variables_are_input_types p) non-input)
-      (first-of _ _ (rule-said rule.AllVariableUsesDefined (all_variable_uses_defined p) undefined-uses)
-      (first-of _ _ (rule-said rule.AllVariablesUsed (all_variables_used p) unused-variables) (rule-said rule.AllVariableUsagesAreAllowed (all_variable_usages_are_allowed p) forbidden))))
-
   rules-said : Maybe FaultSaid (rules_fault p)
-  rules-said =
-      first-of _ _ served
-      (first-of _ _ of-operations
-      (first-of _ _ of-fields
-      (first-of _ _ of-arguments
-      (first-of _ _ of-fragments
-      (first-of _ _ of-spreads
-      (first-of _ _ (rule-said rule.ValuesOfCorrectType (values_of_correct_type p) wrong-values)
-      (first-of _ _ of-directives of-variables)))))))
-
-  complex-said : (b : Bool) → Maybe FaultSaid (cond b (Some TooComplex) None)
-  complex-said true = tt
-  complex-said false = tt
+  rules-said = first-of _ _ served (first-of _ _ of-operations (first-of _ _ of-fields (first-of _ _ of-arguments (first-of _ _ of-fragments (first-of _ _ of-spreads (first-of _ _ of-values (first-of _ _ of-directives of-variables)))))))
 
   limits-said : Maybe FaultSaid (limits_fault p)
-  limits-said = first-of _ _ (maybe-map BrokenSaid FaultSaid (λ (b : BrokenOf). TooDeep b.place) (earliest (too_deep p)) (λ b s. tt) (earliest-said (too_deep p) too-deep)) (complex-said _)
+  limits-said = first-of _ _ (maybe-map BrokenSaid FaultSaid (λ (b : BrokenOf). TooDeep b.place) (earliest (too_deep p)) (λ b s. tt) (earliest-said (too_deep p)
+      (each-filter_map OperationNames BrokenSaid (deep_operation fragments) operations (λ o q. cond_both (nat_lt most_levels (levels_of fragments o)) _ _ (Maybe BrokenSaid) (λ _. said-word [] refl refl) (λ _. tt)) h.document.operations)))
+      (cond_both (is_too_complex p) _ _ (Maybe FaultSaid) (λ _. tt) (λ _. tt))
 
   first-said : Maybe FaultSaid (first_fault p)
   first-said = first-of _ _ rules-said limits-said
 
   key-of-said : (fs : List FieldPart) (f : ℕ) → Each FieldNames fs → IsSaid (at response_key [] fs f)
   key-of-said [] f q = said-word [] refl refl
-  key-of-said (x ∷ fs) zero q = go x.alias x.name q.0.alias q.0.name
+  key-of-said (x ∷ fs) zero q = by-name x.alias q.0.alias q.0.name
     where
-      go : (alias : Option (List ℕ)) (name : List ℕ) → Maybe IsWritten alias → IsWritten name → IsSaid (unwrap_or alias name)
-      go None name r s = said-name s
-      go (Some a) name r s = said-name r
+      by-name : {name : List ℕ} (alias : Option (List ℕ)) → Maybe IsWritten alias → IsWritten name → IsSaid (unwrap_or alias name)
+      by-name None r s = said-name s
+      by-name (Some a) r s = said-name r
   key-of-said (x ∷ fs) (suc f) q = key-of-said fs f q.1
 
   merging-said : {D : Fields ℕ} {sets : List SetOf} {bs : List BrokenOf} → AreBroken D (key_of p) sets bs → AllSaid bs

@@ -1,5 +1,5 @@
 -- A text of UTF-8 is that of a string, where it isn't too long for one.
-use Rattle.std.proofs.Common.{◌≡◌, ◌<◌, ◌≤◌, ◌^◌, ◌+◌, ◌++◌, codes, ltb, true, ℕ, List, [], ◌∷◌, length, IsUtf8, refl, arith, All}
+use Rattle.std.proofs.Common.{◌≡◌, ◌<◌, ◌^◌, ◌++◌, codes, ltb, true, ℕ, List, [], ◌∷◌, length, IsUtf8, refl, arith, All}
 use Rattle.std.specs.Global.{Global}
 use Rattle.std.specs.Prelude.{string_bytes}
 use Rattle.std.specs.declared.string.String.{String}
@@ -10,7 +10,7 @@ use Rattle.std.proofs.lemmas.Str.{IsUtf8-from_ascii, IsAscii-append}
 use Rattle.std.proofs.lemmas.Str.Ascii.{IsAscii-from_all}
 use Rattle.std.proofs.lemmas.List.{length-append}
 use Rattle.std.proofs.lemmas.List.Elements.{All-nil, All-cons}
-use Rattle.world_answers.proofs.Written.{IsWritten}
+use Rattle.world_answers.proofs.Names.{IsWritten}
 use denote.RawPtr.{null_ptr}
 
 -- a string says this

@@ -17,13 +17,8 @@ use Rattle.gq_lexer.specs.Tokens.{Part, Reads, tokens_from, token_of, AreTokens}
 use Rattle.gq_parser.specs.Word.{tokens_of}
 use Rattle.gq_parser.specs.Fault.{IsDocumentOf, most_bytes}
 use Rattle.gq_parser.specs.Tree.{Document}
-use Rattle.world_answers.proofs.Each.{Each}
-use Rattle.world_answers.proofs.Names.{TokenNames, DocumentNames, document-names}
-
--- a name that a text has: ASCII, and no longer than a text
-pub record IsWritten (n : List ℕ) : Type 0 where
-  pub ascii : IsAscii n
-  pub short : length n ≤ most_bytes
+use Rattle.plan_laws.proofs.Each.{Each}
+use Rattle.world_answers.proofs.Names.{IsWritten, TokenNames, DocumentNames, document-names}
 
 start-small : (b : ℕ) → is_name_start b ≡ true → b < 128
 start-small b h = grind (arith, nat_tests)
@@ -43,7 +38,7 @@ name-ascii (b ∷ bs) h = IsAscii-from_all (b ∷ bs) (All-cons (λ c. c < 128) 
 
 module _ (text : List ℕ) (short : length text ≤ most_bytes) where
   abbrev Written : List lexer.Token → Type 0
-  Written tokens = Each (TokenNames IsWritten) (tokens_of text tokens)
+  Written tokens = Each TokenNames (tokens_of text tokens)
 
   one-part : (s : ScannedKind) (bs after : List ℕ) (start : ℕ) (tokens : List lexer.Token) → start ≤ length text → drop start text ≡ bs ++ after → IsPart s bs after → Written tokens → Written (token_of s text start (start + length bs) ++ tokens)
   one-part (shape.Token kind.Name) bs after start tokens within e part rest =
@@ -51,15 +46,8 @@ module _ (text : List ℕ) (short : length text ≤ most_bytes) where
       let bytes : slice_range text start (start + length bs) ≡ bs = rw (span, e) (take_at bs after (length bs) refl) in
       let is : IsWritten bs = record { ascii = name-ascii bs part.0; short = omega (arith, short, ap length e, length-append bs after, length-drop start text) } in
       (subst IsWritten (sym bytes) is, rest)
-  one-part (shape.Token (kind.Punct p)) bs after start tokens within e part rest = (tt, rest)
-  one-part (shape.Token kind.Int) bs after start tokens within e part rest = (tt, rest)
-  one-part (shape.Token kind.Float) bs after start tokens within e part rest = (tt, rest)
-  one-part (shape.Token kind.Str) bs after start tokens within e part rest = (tt, rest)
-  one-part (shape.Token kind.BlockStr) bs after start tokens within e part rest = (tt, rest)
-  one-part shape.Space bs after start tokens within e part rest = rest
-  one-part shape.LineEnd bs after start tokens within e part rest = rest
-  one-part shape.ByteOrderMark bs after start tokens within e part rest = rest
-  one-part shape.Comment bs after start tokens within e part rest = rest
+  one-part (shape.Token k) bs after start tokens within e part rest = (tt, rest)
+  one-part s bs after start tokens within e part rest = rest
 
   parts-written : (ps : List Part) (start : ℕ) → start ≤ length text → Reads ps (drop start text) [] → Written (tokens_from text start ps)
   parts-written [] start begins h = tt
@@ -69,8 +57,8 @@ module _ (text : List ℕ) (short : length text ≤ most_bytes) where
       let rest : h.0 ≡ drop (start + n) text = sym (sym (drop-drop n start text) ∙ ap (drop n) h.1 ∙ drop_at p.bytes h.0 n refl) in
       one-part p.shape p.bytes h.0 start (tokens_from text (start + n) ps) begins h.1 h.2 (parts-written ps (start + n) within (subst (λ (t : List ℕ). Reads ps t []) rest h.3))
 
-  pub tokens-written : (tokens : List lexer.Token) → AreTokens text tokens → Each (TokenNames IsWritten) (tokens_of text tokens)
+  pub tokens-written : (tokens : List lexer.Token) → AreTokens text tokens → Each TokenNames (tokens_of text tokens)
   tokens-written tokens h = subst (λ ts. Written ts) (sym h.tokens_are) (parts-written h.parts 0 (omega arith) h.whole)
 
-pub document-written : (text : List ℕ) (d : Document) → IsDocumentOf text d → DocumentNames IsWritten d
-document-written text d h = document-names IsWritten d (tokens_of text h.tokens) h.is (tokens-written text h.short h.tokens h.reads)
+pub document-written : (text : List ℕ) (d : Document) → IsDocumentOf text d → DocumentNames d
+document-written text d h = document-names d (tokens_of text h.tokens) h.is (tokens-written text h.short h.tokens h.reads)

@@ -1,5 +1,6 @@
--- Laws of each element of a list, by recursion, and which lists keep it.
-use Rattle.std.proofs.Common.{Bool, true, false, cond, List, [], ◌∷◌, ◌++◌, map, Option, Some, None}
+-- Laws of each element of a list, by recursion, and of a value that may be there, and what keeps them.
+use Rattle.std.proofs.Common.{Bool, List, [], ◌∷◌, ◌++◌, map, Option, Some, None}
+use Rattle.std.proofs.lemmas.Bool.{cond_both}
 use Rattle.std.specs.List.{filter, filter_map, flat_map, find, cons_option}
 use Rattle.std.specs.Option.{option_map, option_and_then}
 
@@ -16,21 +17,26 @@ module _ {A : Type 0} (P : A → Type 0) where
   each-append [] ys p q = q
   each-append (x ∷ xs) ys p q = (p.0, each-append xs ys p.1 q)
 
-  chosen : (b : Bool) (x : A) (xs ys : List A) → P x → Each P ys → Each P (cond b (x ∷ ys) ys)
-  chosen true x xs ys p q = (p, q)
-  chosen false x xs ys p q = q
-
   pub each-filter : (f : A → Bool) (xs : List A) → Each P xs → Each P (filter f xs)
   each-filter f [] p = tt
-  each-filter f (x ∷ xs) p = chosen (f x) x xs (filter f xs) p.0 (each-filter f xs p.1)
-
-  found : (b : Bool) (x : A) (o : Option A) → P x → Maybe P o → Maybe P (cond b (Some x) o)
-  found true x o p q = p
-  found false x o p q = q
+  each-filter f (x ∷ xs) p = let rest = each-filter f xs p.1 in cond_both (f x) _ _ (Each P) (λ _. (p.0, rest)) (λ _. rest)
 
   pub each-find : (f : A → Bool) (xs : List A) → Each P xs → Maybe P (find f xs)
   each-find f [] p = tt
-  each-find f (x ∷ xs) p = found (f x) x (find f xs) p.0 (each-find f xs p.1)
+  each-find f (x ∷ xs) p = cond_both (f x) _ _ (Maybe P) (λ _. p.0) (λ _. each-find f xs p.1)
+
+  pub maybe-weaker : (Q : A → Type 0) (o : Option A) → ((x : A) → P x → Q x) → Maybe P o → Maybe Q o
+  maybe-weaker Q None h p = tt
+  maybe-weaker Q (Some x) h p = h x p
+
+module _ {A B : Type 0} (Q : B → Type 0) where
+  pub any-map : (f : A → B) (o : Option A) → ((x : A) → Q (f x)) → Maybe Q (option_map f o)
+  any-map f None h = tt
+  any-map f (Some x) h = h x
+
+  pub any-then : (f : A → Option B) (o : Option A) → ((x : A) → Maybe Q (f x)) → Maybe Q (option_and_then f o)
+  any-then f None h = tt
+  any-then f (Some x) h = h x
 
 module _ {A B : Type 0} (P : A → Type 0) (Q : B → Type 0) where
   pub each-map : (f : A → B) (xs : List A) → ((x : A) → P x → Q (f x)) → Each P xs → Each Q (map f xs)
