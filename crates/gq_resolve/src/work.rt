@@ -105,7 +105,8 @@ impl Sink for WorkLeft {
 /// objects and lists that execution completes, also of those that a null below them makes null. A load that the memory doesn't have is none,
 /// so over a memory with more the work is at least this.
 ///
-/// It ends at the first of them that is one too many: it takes time in proportion to `most` and to the plan, however long the answer is.
+/// It ends at the first of them that is one too many, however long the answer is. A position that waits for its load counts nothing, and takes
+/// time all the same.
 ///
 /// # Errors
 ///
