@@ -221,11 +221,11 @@ static void begins_by_none(world *w, int h) {
     is_same("an empty handle", empty.at != NULL, 0);
 }
 
+/* What there is stays, an answer and outcomes too. */
 static void begins_by_others(world *w, int h) {
-    handle_model *model = &w->of[h];
+    const handle_model *model = &w->of[h];
     CHECK(rz_begin(&w->at[h], &other_queries, TEXT(LINE)), unless_busy(model, RZ_OTHER_SERVER));
     CHECK(rz_begin_request(&w->at[h], &other_queries, TEXT("{a}"), TEXT(""), TEXT("")), unless_busy(model, RZ_OTHER_SERVER));
-    lets_go(model);
 }
 
 /* ---- Moves on loads. */
@@ -236,7 +236,7 @@ static void loads(world *w, int h) {
     if (CHECK(rz_begin_load(&w->at[h], 0, LOAD_TEXTS, 3, LOAD_ENDS, 3, TEXT("121")), unless_busy(&w->of[h], RZ_DONE))) begun(&w->of[h], LOAD);
 }
 
-/* What there is stays, an answer and outcomes too. */
+/* What there is stays here too. */
 static void loads_wrongly(world *w, int h) {
     const uint32_t three[] = {1, 3}, falls[] = {1, 3, 2};
     const handle_model *model = &w->of[h];

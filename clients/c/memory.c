@@ -112,12 +112,18 @@ static int is_answered(host *host, const request *asked) {
     return answers;
 }
 
-/* Where a request isn't begun, the answer before is let go. */
+/* Where a request isn't begun, an answer or outcomes stay, if there are any. */
 static void answer_again(host *host, rz_handle *queries, const request *asked) {
+    int32_t before = rz_next(&host->client);
     for (int turn = 0; turn < 3; turn++) {
-        if (!is_refused(begin(host, queries, asked))) {
-            if (is_answered(host, asked)) return;
-        } else if (rz_next(&host->client) != RZ_IDLE) fault("a request that wasn't begun goes on", 0);
+        if (is_refused(begin(host, queries, asked))) {
+            int32_t code = rz_next(&host->client);
+            if (code != before) fault("a request that wasn't begun goes on with", code);
+        } else if (is_answered(host, asked)) {
+            return;
+        } else {
+            before = RZ_IDLE;
+        }
     }
     fault("no answer", 0);
 }

@@ -141,7 +141,7 @@ int32_t rz_restart(rz_handle *client);
 
 /* Begins the answer to a request that is JSON text, or to an array of 1 to 16 of these. The queries' server plans it, and is to be that of the
    client: another one with as many loaders isn't refused, and the orders are then for its loaders, by their numbers. What the text does wrong is
-   answered. RZ_BUSY; RZ_OTHER_SERVER; RZ_NO_MEMORY. Refused by the last two, an answer or outcomes that were there are let go. */
+   answered. RZ_BUSY, RZ_OTHER_SERVER, RZ_NO_MEMORY. */
 int32_t rz_begin(rz_handle *client, rz_handle *queries, const uint8_t *line, size_t line_len);
 
 /* Begins the answer to a query. operation is the name of the operation to run, and empty for none. variables is the JSON text of an object, and

@@ -37,7 +37,8 @@ def table_of(case: Case) -> str:
     return (case.file.parent / case.over[0]).read_bytes().decode()
 
 
-READINGS: dict[str, Callable[[Case], str]] = {
+# A reading gives nothing of a case that it doesn't read.
+READINGS: dict[str, Callable[[Case], str | None]] = {
     "tokens": lambda case: tokens(case.text),
     "number of tokens": lambda case: number_of_tokens(case.text),
     "end": lambda case: f"the end at {readings_lexer.place_of(case.text, len(case.text))}",
@@ -48,7 +49,7 @@ READINGS: dict[str, Callable[[Case], str]] = {
     "by": lambda case: readings_data.filtered(table_of(case), case.text),
     "by two": lambda case: readings_data.filtered(table_of(case), case.text),
     "by in so many rows": lambda case: readings_data.filtered_rows(case.text),
-    "answer with a text in each place": lambda case: readings_data.answer_with(case.text),
+    "answer": lambda case: readings_data.refusal(case.text),
 }
 
 
@@ -57,8 +58,9 @@ def read_cases(file: Path) -> list[tuple[Case, str]]:
     found = []
     for case in cases_of(file):
         reading = READINGS.get(case.asked.split(": ")[-1])
-        if reading:
-            found.append((case, reading(case)))
+        told = reading(case) if reading else None
+        if told is not None:
+            found.append((case, told))
     return found
 
 

@@ -72,10 +72,10 @@ def string(text: str) -> str:
     return '"' + "".join(ESCAPES.get(each, f"\\u{ord(each):04x}" if each < " " else each) for each in text) + '"'
 
 
-def answer_with(text: str) -> str:
-    """The answer with a text as a value and as names."""
-    written = string(text)
-    return f'{{"data":{{"b":[{written},-7,{{{written}:[]}},null],{written}:true,"a":{{}}}}}}'
+def refusal(text: str) -> str | None:
+    """The text of a refusal without a place; nothing of other answers."""
+    message = text.removeprefix("refused ")
+    return None if message == text or message.startswith("at ") else f'{{"errors":[{{"message":{string(message)}}}]}}'
 
 
 # ---- lines of bindings

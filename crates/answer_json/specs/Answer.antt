@@ -1,16 +1,18 @@
 -- Response text: the JSON value of an answer, and its bytes.
-use Rattle.std.specs.Prelude.{◌≡◌, ◌≤◌, ℕ, List, [], ◌∷◌, ◌++◌, Option, Some, None, option_and_then, decimal, codes, string_bytes}
+use Rattle.std.specs.Prelude.{◌≡◌, ◌≤◌, ℕ, List, [], ◌∷◌, ◌++◌, map, Option, Some, None, option_and_then, decimal, codes, string_bytes}
 use Rattle.json.specs.Json.{Json, number, string, array, object, Items, no_items, item, Members, no_members, member, value, if_last}
 use Rattle.json.specs.Lex.{tokens}
 use Rattle.json.specs.Print.{print}
 use Rattle.json.specs.Token.{Token}
 use Rattle.json.specs.Tree.{depth, json_tokens, items_tokens}
 use Rattle.text_place.specs.declared.place.Place.{Place}
-use Rattle.answer_json.specs.declared.response.FieldError.{FieldError}
-use Rattle.answer_json.specs.declared.response.PathSegment.{PathSegment}
-use Rattle.answer_json.specs.declared.response.PathSegment.TheVariants.{Key, Item}
-use Rattle.answer_json.specs.declared.response.Response.{Response}
-use Rattle.answer_json.specs.Response.{response_json}
+use Rattle.answer_json.specs.declared.field_error.FieldError.{FieldError}
+use Rattle.answer_json.specs.declared.field_error.PathSegment.{PathSegment}
+use Rattle.answer_json.specs.declared.field_error.PathSegment.TheVariants as segment
+use Rattle.execution.specs.Program.{Part, Key, Item}
+use Rattle.execution.specs.Completion.{ErrorOf}
+
+-- ---- places
 
 abbrev pub place_json : Place → Json
 place_json p = object (member (codes "line") (number (decimal p.line))
@@ -20,42 +22,48 @@ place_json p = object (member (codes "line") (number (decimal p.line))
 abbrev pub places_json : Place → Json
 places_json p = array (item (place_json p) no_items)
 
-abbrev pub part_json : PathSegment → Json
-part_json (Key k) = string (string_bytes k)
-part_json (Item i) = number (decimal i)
+-- ---- field errors
 
-abbrev pub path_items : List PathSegment → Items
-path_items [] = no_items
-path_items (p ∷ ps) = item (part_json p) (path_items ps)
+abbrev pub part_of : PathSegment → Part
+part_of (segment.Key k) = Key (string_bytes k)
+part_of (segment.Item i) = Item i
+
+abbrev pub error_of : FieldError → ErrorOf
+error_of e =
+    record { message = string_bytes e.message; place = e.place; path = map part_of e.path.items }
+
+abbrev pub errors_of : List FieldError → List ErrorOf
+errors_of es = map error_of es
+
+abbrev pub part_json : Part → Json
+part_json (Key k) = string k
+part_json (Item n) = number (decimal n)
+
+abbrev pub path_json : List Part → Items
+path_json [] = no_items
+path_json (p ∷ ps) = item (part_json p) (path_json ps)
 
 -- a field error: its message, the place of its field, and the path to it
-abbrev pub error_json : FieldError → Json
+abbrev pub error_json : ErrorOf → Json
 error_json e =
-    object (member (codes "message") (string (string_bytes e.message))
+    object (member (codes "message") (string e.message)
     (member (codes "locations") (places_json e.place)
-    (member (codes "path") (array (path_items e.path.items)) no_members)))
+    (member (codes "path") (array (path_json e.path)) no_members)))
 
-abbrev pub errors_items : List FieldError → Items
-errors_items [] = no_items
-errors_items (e ∷ es) = item (error_json e) (errors_items es)
-
--- the member of the errors, where there are any, and then what follows
-abbrev pub errors_before : List FieldError → Members → Members
-errors_before [] rest = rest
-errors_before (e ∷ es) rest = member (codes "errors") (array (errors_items (e ∷ es))) rest
-
--- an answer: its errors first, and then its data
-abbrev pub answer_json : Response → List FieldError → Json
-answer_json r es = object (errors_before es (member (codes "data") (response_json r) no_members))
+abbrev pub errors_json : List ErrorOf → Items
+errors_json [] = no_items
+errors_json (e ∷ es) = item (error_json e) (errors_json es)
 
 -- the tokens of an answer before those of its data
-abbrev pub errors_tokens : List FieldError → List Token
+abbrev pub errors_tokens : List ErrorOf → List Token
 errors_tokens [] = []
 errors_tokens (e ∷ es) = Token.key (codes "errors") ∷ Token.begin_array
-    ∷ items_tokens (errors_items (e ∷ es))
+    ∷ items_tokens (errors_json (e ∷ es))
 
-abbrev pub answer_front : List FieldError → List Token
+abbrev pub answer_front : List ErrorOf → List Token
 answer_front es = Token.begin_object ∷ (errors_tokens es ++ Token.key (codes "data") ∷ [])
+
+-- ---- refusals
 
 -- the member of a place, where there is one
 abbrev pub places_member : Option Place → Members
@@ -70,6 +78,8 @@ request_error_json message place =
 abbrev pub refusal_json : List ℕ → Option Place → Json
 refusal_json message place = object
     (member (codes "errors") (array (item (request_error_json message place) no_items)) no_members)
+
+-- ---- texts
 
 -- The bytes of a value: its tokens with no space between them. In strings `"` and `\` have a backslash before them, U+0008,
 -- U+0009, U+000A, U+000C and U+000D are `\b \t \n \f \r`, and any other character below U+0020 is `\u00xx`, in lower case.

@@ -4,10 +4,10 @@ ghost use Rattle.std.specs.Prelude.{◌≡◌, ◌++◌, [], IfOk, OnOk, Some, s
 ghost use Rattle.json.specs.Lex.{tokens};
 ghost use Rattle.json.specs.Print.{print};
 ghost use Rattle.json.specs.Tree.{json_tokens};
-ghost use Rattle.answer_json.specs.Answer.{answer_json, answer_front, request_error_json, refusal_json, json_text, ReadsBack};
+ghost use Rattle.answer_json.specs.Answer.{errors_of, answer_front, request_error_json, refusal_json, json_text, ReadsBack};
 
-use crate::put::{put_errors, put_places, put_response, put_text};
-use crate::response::{FieldError, Response};
+use crate::field_error::FieldError;
+use crate::put::{put_errors, put_places, put_text};
 use gq_lexer::Place;
 use json::Writer;
 use std::alloc::{AllocError, Global};
@@ -23,7 +23,7 @@ const FIRST_ROOM: usize = 128;
 /// Only when out of memory.
 pub fn begin_answer(writer: &mut Writer, errors: &[FieldError]) -> Result<(), AllocError>
     ensures ok { OnOk result (writer.new.tokens
-        ≡ writer.old.tokens ++ answer_front errors.now) }
+        ≡ writer.old.tokens ++ answer_front (errors_of errors.now)) }
     ensures before { writer.new.before ≡ writer.old.before }
 {
     writer.begin_object()?;
@@ -33,21 +33,6 @@ pub fn begin_answer(writer: &mut Writer, errors: &[FieldError]) -> Result<(), Al
         put_errors(writer, errors)?;
     }
     writer.key("data")
-}
-
-/// Writes an answer.
-fn put_answer(
-    writer: &mut Writer,
-    response: &Response,
-    errors: &[FieldError],
-) -> Result<(), AllocError>
-    ensures ok { OnOk result (writer.new.tokens
-        ≡ writer.old.tokens ++ json_tokens (answer_json response.now errors.now)) }
-    ensures before { writer.new.before ≡ writer.old.before }
-{
-    begin_answer(writer, errors)?;
-    put_response(writer, response)?;
-    writer.end_object()
 }
 
 /// Writes the error of a request.
@@ -83,7 +68,7 @@ fn put_refusal(writer: &mut Writer, message: &str, place: Option<Place>) -> Resu
 }
 
 /// Returns what was written, as text.
-fn into_text(writer: Writer) -> String
+pub fn writer_text(writer: Writer) -> String
     requires { writer.before ≡ [] }
     ensures text { string_bytes result
         ≡ print writer.tokens }
@@ -93,30 +78,6 @@ fn into_text(writer: Writer) -> String
     let bytes = writer.into_inner();
     // SAFETY: a writer's text is UTF-8.
     unsafe { String::from_utf8_unchecked(bytes) }
-}
-
-/// The text of a response (section 7.1 of the GraphQL specification): an object whose member `errors` comes first and
-/// stands only where there are errors, and whose member `data` is the response. It is one line without its end.
-///
-/// The stack it takes grows with the nesting of the response.
-///
-/// # Errors
-///
-/// Only when out of memory.
-pub fn write_answer(
-    alloc: Global,
-    response: &Response,
-    errors: &[FieldError],
-) -> Result<String, AllocError>
-    ensures text { IfOk result (λ s.
-        string_bytes s ≡ json_text (answer_json response.now errors.now)) }
-    // A reader of JSON finds the same value, where its limit of nesting is not below the depth of the answer.
-    ensures reads_back { IfOk result (λ s.
-        ReadsBack (answer_json response.now errors.now) (string_bytes s)) }
-{
-    let mut writer = Writer::new(Vec::with_capacity(alloc, FIRST_ROOM)?);
-    put_answer(&mut writer, response, errors)?;
-    Ok(into_text(writer))
 }
 
 /// The text of a request that is refused (section 7.1.2, request errors): an object whose only member `errors` has one
@@ -137,5 +98,5 @@ pub fn write_refusal(
 {
     let mut writer = Writer::new(Vec::with_capacity(alloc, FIRST_ROOM)?);
     put_refusal(&mut writer, message, place)?;
-    Ok(into_text(writer))
+    Ok(writer_text(writer))
 }

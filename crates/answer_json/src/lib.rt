@@ -1,13 +1,12 @@
-//! The bytes of an answer: a response with its field errors, or the refusal of a request.
+//! The bytes of answers: the start of one, with its field errors, and the refusal of a request.
 //!
-//! The layer above hands over a [`Response`] and its [`FieldError`]s and gets one text without a line end. The text is
-//! that of `answer_json` or `refusal_json` (`specs/Answer.antt`) with no space between its tokens, and reads back as that
-//! value.
+//! Of an answer the layer above writes the data itself, as it is completed. A refusal is one text without a line end: that of
+//! `refusal_json` (`specs/Answer.antt`) with no space between its tokens, which reads back as that value.
 #![tactic(auto)]
 
 mod answer;
+mod field_error;
 mod put;
-mod response;
 
-pub use answer::{begin_answer, write_answer, write_refusal};
-pub use response::{FieldError, PathSegment, Response};
+pub use answer::{begin_answer, write_refusal, writer_text};
+pub use field_error::{FieldError, PathSegment};

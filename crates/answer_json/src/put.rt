@@ -1,65 +1,14 @@
-//! The tokens of responses and errors, one after another.
+//! The tokens of errors, one after another.
 
-ghost use Rattle.std.specs.Prelude.{◌≡◌, [], ◌∷◌, ◌++◌, OnOk, codes, decimal};
+ghost use Rattle.std.specs.Prelude.{◌≡◌, [], ◌∷◌, ◌++◌, OnOk, map, codes, decimal};
 ghost use Rattle.json.specs.Token.{key, number, string};
-ghost use Rattle.json.specs.Tree.{json_tokens, items_tokens, members_tokens};
-ghost use Rattle.answer_json.specs.Response.{response_json, items_json, members_json};
-ghost use Rattle.answer_json.specs.Answer.{place_json, places_json, error_json, errors_items, path_items};
+ghost use Rattle.json.specs.Tree.{json_tokens, items_tokens};
+ghost use Rattle.answer_json.specs.Answer.{part_of, error_of, errors_of, place_json, places_json, path_json, error_json, errors_json};
 
-use crate::response::{FieldError, PathSegment, Response};
+use crate::field_error::{FieldError, PathSegment};
 use gq_lexer::Place;
 use json::Writer;
 use std::alloc::AllocError;
-
-/// Writes a response.
-#[cycle(response)]
-pub fn put_response(writer: &mut Writer, response: &Response) -> Result<(), AllocError>
-    ensures ok { OnOk result
-        (writer.new.tokens ≡ writer.old.tokens ++ json_tokens (response_json response.now)) }
-    ensures before { writer.new.before ≡ writer.old.before }
-{
-    match response {
-        Response::Null => writer.null(),
-        Response::Text(text) => writer.string(text.as_str()),
-        Response::Int(number) => writer.i64(i64::from(*number)),
-        Response::Bool(value) => writer.boolean(*value),
-        Response::List(items) => {
-            writer.begin_array()?;
-            put_items(writer, items)
-        }
-        Response::Object(members) => {
-            writer.begin_object()?;
-            put_members(writer, members)
-        }
-    }
-}
-
-/// Writes the items of a list and its end.
-#[cycle(response)]
-fn put_items(writer: &mut Writer, items: &Vec<Response>) -> Result<(), AllocError>
-    ensures ok { OnOk result
-        (writer.new.tokens ≡ writer.old.tokens ++ items_tokens (items_json items.now.items)) }
-    ensures before { writer.new.before ≡ writer.old.before }
-{
-    for item in items {
-        put_response(writer, item)?;
-    }
-    writer.end_array()
-}
-
-/// Writes the members of an object and its end.
-#[cycle(response)]
-fn put_members(writer: &mut Writer, members: &Vec<(String, Response)>) -> Result<(), AllocError>
-    ensures ok { OnOk result
-        (writer.new.tokens ≡ writer.old.tokens ++ members_tokens (members_json members.now.items)) }
-    ensures before { writer.new.before ≡ writer.old.before }
-{
-    for (name, member) in members {
-        writer.key(name.as_str())?;
-        put_response(writer, member)?;
-    }
-    writer.end_object()
-}
 
 /// Writes a member that is a number.
 fn put_number(writer: &mut Writer, name: &str, value: u32) -> Result<(), AllocError>
@@ -108,7 +57,7 @@ pub fn put_places(writer: &mut Writer, place: Place) -> Result<(), AllocError>
 /// Writes the parts of a path and its end.
 fn put_path(writer: &mut Writer, path: &Vec<PathSegment>) -> Result<(), AllocError>
     ensures ok { OnOk result
-        (writer.new.tokens ≡ writer.old.tokens ++ items_tokens (path_items path.now.items)) }
+        (writer.new.tokens ≡ writer.old.tokens ++ items_tokens (path_json (map part_of path.now.items))) }
     ensures before { writer.new.before ≡ writer.old.before }
 {
     for part in path {
@@ -123,7 +72,7 @@ fn put_path(writer: &mut Writer, path: &Vec<PathSegment>) -> Result<(), AllocErr
 /// Writes a field error.
 fn put_error(writer: &mut Writer, error: &FieldError) -> Result<(), AllocError>
     ensures ok { OnOk result
-        (writer.new.tokens ≡ writer.old.tokens ++ json_tokens (error_json error.now)) }
+        (writer.new.tokens ≡ writer.old.tokens ++ json_tokens (error_json (error_of error.now))) }
     ensures before { writer.new.before ≡ writer.old.before }
 {
     writer.begin_object()?;
@@ -138,7 +87,7 @@ fn put_error(writer: &mut Writer, error: &FieldError) -> Result<(), AllocError>
 /// Writes field errors and the end of their list.
 pub fn put_errors(writer: &mut Writer, errors: &[FieldError]) -> Result<(), AllocError>
     ensures ok { OnOk result
-        (writer.new.tokens ≡ writer.old.tokens ++ items_tokens (errors_items errors.now)) }
+        (writer.new.tokens ≡ writer.old.tokens ++ items_tokens (errors_json (errors_of errors.now))) }
     ensures before { writer.new.before ≡ writer.old.before }
 {
     for error in errors {

@@ -3,7 +3,7 @@
 //! An answer is a run of `load_rounds`, which starts no threads, and takes the session's allocator. A
 //! shelf goes with its round, so that no receipt of an earlier round is on it; the memory copies outcomes from
 //! it.
-ghost use Rattle.std.specs.Prelude.{◌≡◌, ◌<◌, ◌≤◌, ◌↔◌, length, IfOk, OnOk, OnErr, IsErrOf};
+ghost use Rattle.std.specs.Prelude.{◌≡◌, ◌<◌, ◌≤◌, ◌↔◌, length, IfOk, OnOk, IsErrOf};
 ghost use Rattle.load_rounds.specs.Sessions.{state_of};
 ghost use Rattle.load_rounds.specs.Headline.{HasHeadline};
 ghost use Rattle.load_rounds.specs.ByHand.{AwaitsReplies};
@@ -54,27 +54,6 @@ pub fn answer_with<S: Source, E: Drop, P: Execute<E>, R: Threads + Wait + Sync>(
     if workers == 0 || workers > MOST_WORKERS {
         return Err(WorkFault::BadCount);
     }
-    match answer_in_rounds(rt, session, plan, workers) {
-        Ok(answer) => Ok(answer),
-        Err(_) => Err(WorkFault::NoMemory),
-    }
-}
-
-// Answers a plan, where the number of workers is no bad one.
-fn answer_in_rounds<S: Source, E: Drop, P: Execute<E>, R: Threads + Wait + Sync>(
-    rt: &R,
-    session: &mut Session<S>,
-    plan: &P,
-    workers: usize,
-) -> Result<Answer, AllocError>
-    requires count { (0 < workers) × (workers ≤ 16) }
-    requires loaders { P.loaders plan.now
-        ≤ length session.old.loaders }
-    ensures answer { IfOk result (HasHeadline S.may_answer (state_of session.old)
-        (state_of session.new) (P.program plan.now) (P.text_of plan.now)) }
-    ensures stopped { OnErr result (Stops S.may_answer session.old session.new
-        (P.program plan.now)) }
-{
     let mut rounds = session.begin(plan);
     run(rt, session, &mut rounds, workers)?;
     match rounds.into_answer() {

@@ -1,5 +1,5 @@
 //! Answers to several plans with workers, in rounds that the plans share.
-ghost use Rattle.std.specs.Prelude.{◌≡◌, ◌<◌, ◌≤◌, ◌↔◌, All, length, IfOk, OnErr, IsErrOf};
+ghost use Rattle.std.specs.Prelude.{◌≡◌, ◌≤◌, ◌↔◌, All, length, IfOk, IsErrOf};
 ghost use Rattle.load_rounds.specs.Sessions.{state_of};
 ghost use Rattle.load_rounds.specs.SharedRounds.{requests, joint, AreAnswers};
 ghost use Rattle.batch_workers.specs.Workers.{IsBadCount, Stops};
@@ -9,7 +9,6 @@ use crate::fault::WorkFault;
 use crate::round::MOST_WORKERS;
 use load_queue::Source;
 use load_rounds::{Answer, Execute, Session};
-use std::alloc::AllocError;
 use std::sync::Wait;
 use std::thread::Threads;
 
@@ -44,29 +43,8 @@ pub fn answer_all_with<S: Source, E: Drop, P: Execute<E> + Drop, R: Threads + Wa
     if workers == 0 || workers > MOST_WORKERS {
         return Err(WorkFault::BadCount);
     }
-    match answer_all_in_rounds(rt, session, plans, workers) {
-        Ok(answers) => Ok(answers),
-        Err(_) => Err(WorkFault::NoMemory),
-    }
-}
-
-// Answers several plans, where the number of workers is no bad one.
-fn answer_all_in_rounds<S: Source, E: Drop, P: Execute<E> + Drop, R: Threads + Wait + Sync>(
-    rt: &R,
-    session: &mut Session<S>,
-    plans: Vec<P>,
-    workers: usize,
-) -> Result<Vec<Answer>, AllocError>
-    requires count { (0 < workers) × (workers ≤ 16) }
-    requires loaders { All (λ plan. P.loaders plan
-        ≤ length session.old.loaders) plans.items }
-    ensures answers { IfOk result (AreAnswers S.may_answer (state_of session.old)
-        (state_of session.new) (requests P.program P.text_of plans.items)) }
-    ensures stopped { OnErr result
-        (Stops S.may_answer session.old session.new (joint P.program P.text_of plans.items)) }
-{
     let alloc = *plans.allocator();
     let mut rounds = session.begin_all(plans)?;
     run(rt, session, &mut rounds, workers)?;
-    rounds.into_answers(alloc)
+    Ok(rounds.into_answers(alloc)?)
 }

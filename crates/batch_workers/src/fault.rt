@@ -1,4 +1,5 @@
 //! Faults: why there is no answer with workers.
+use std::alloc::AllocError;
 use thiserror::Error;
 
 /// Reason why there is no answer with workers.
@@ -10,4 +11,15 @@ pub enum WorkFault {
     /// Out of memory, here or in a source; or the number of the next round would overflow.
     #[error("out of memory")]
     NoMemory,
+}
+
+impl From<AllocError> for WorkFault {
+    ghost use Rattle.std.specs.Prelude.{◌≡◌};
+    ghost use Rattle.batch_workers.specs.declared.fault.WorkFault.TheVariants.{NoMemory};
+
+    ghost from_gives = { λ _ fault. fault ≡ NoMemory };
+
+    fn from(_e: AllocError) -> WorkFault {
+        WorkFault::NoMemory
+    }
 }

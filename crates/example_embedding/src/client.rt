@@ -1,7 +1,7 @@
 //! The lines of a client.
 
 use crate::directory::Directory;
-use server::{ClientSession, Item, Key, Request, Row, Workers};
+use server::{ClientSession, Item, Key, Request, RequestInput, Row, Workers};
 use std::alloc::Global;
 use std::sync::Wait;
 use std::thread::Threads;
@@ -65,7 +65,7 @@ fn answer<R: Threads + Wait + Sync>(
         operation_name: None,
         variables: None,
     };
-    let answer = session.answer_with(workers, &request)?;
+    let answer = session.answer_with(workers, RequestInput::One(&request))?;
     Ok(format!(in alloc; "{} rounds: {}", answer.rounds, answer.text)?)
 }
 

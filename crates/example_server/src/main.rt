@@ -7,9 +7,9 @@ use anyhow::bail;
 use books::{Books, fetch_books};
 use futures::executor::block_on;
 use server::{
-    ByHand, ClientAdvance, ClientSession, CountedDevice, FetchFault, HandedIn, Item, Key,
-    LoadAdvance, LoadByHand, Outcome, Pending, PlannedLoad, Request, Row, Server, Sessions,
-    Workers, serve, serve_with, source_fn,
+    ByHand, ClientSession, CountedDevice, FetchFault, HandedIn, Item, Key, LoadByHand, Outcome,
+    Pending, PlannedLoad, Progress, Request, RequestInput, Row, Server, Sessions, Workers, serve,
+    serve_with, source_fn,
 };
 use std::alloc::{AllocError, AllocGlobal, Global};
 use std::random::RandomSource;
@@ -73,44 +73,19 @@ fn source_of_a_function(alloc: Global, server: &Server) -> anyhow::Result<String
 fn answer_with_workers<R: Threads + Wait + AllocGlobal + Sync>(
     rt: &R,
     server: &Server,
+    asked: RequestInput<'_>,
 ) -> anyhow::Result<String> {
     let mut session = server.session(rt.alloc(), Some(1), |_line| Books)?;
     let workers = Workers::new(rt, 2)?;
-    let answer = session.answer_with(&workers, &asking("{books(ids:[1,2,9]){title}}"))?;
-    Ok(answer.text)
+    Ok(session.answer_with(&workers, asked)?.text)
 }
 
-// Requests of an array, with two threads.
-fn answer_all_with_workers<R: Threads + Wait + AllocGlobal + Sync>(
-    rt: &R,
-    server: &Server,
-) -> anyhow::Result<String> {
-    let mut session = server.session(rt.alloc(), Some(1), |_line| Books)?;
-    let workers = Workers::new(rt, 2)?;
-    let requests = [
-        Some(asking("{book(id:1){title}}")),
-        Some(asking("{book(id:2){title}}")),
-    ];
-    Ok(session.answer_all_with(&workers, &requests)?.text)
-}
-
-// A request as its client sends it, with two threads.
-fn answer_text_with_workers<R: Threads + Wait + AllocGlobal + Sync>(
-    rt: &R,
-    server: &Server,
-) -> anyhow::Result<String> {
-    let mut session = server.session(rt.alloc(), Some(1), |_line| Books)?;
-    let workers = Workers::new(rt, 2)?;
-    let text = "{\"query\":\"{books(ids:[2,3]){title}}\"}";
-    Ok(session.answer_text_with(&workers, text.as_bytes())?.text)
-}
-
-// The caller answers the orders of a round itself, here the last one first. A batch may fail as a whole.
-fn answer_orders(alloc: Global, by_hand: &mut ByHand<Books>) -> anyhow::Result<()> {
+// The caller replies to the orders of a round itself, here to the last one first. A batch may fail as a whole.
+fn reply_to_orders(alloc: Global, by_hand: &mut ByHand<Books>) -> anyhow::Result<()> {
     for number in (0..by_hand.orders().len()).rev() {
         if let Some(Pending::Out(order)) = by_hand.orders().get(number) {
             let items = fetch_books(alloc, order.keys());
-            by_hand.answer(number, items)?;
+            by_hand.reply(number, items)?;
         }
     }
     Ok(())
@@ -123,8 +98,8 @@ fn by_hand(alloc: Global, server: &Server) -> anyhow::Result<String> {
     let mut by_hand = client.by_hand(planned);
     for _round in 0..MOST_ROUNDS {
         match by_hand.advance()? {
-            ClientAdvance::Answered(answer) => return Ok(answer.text),
-            _ => answer_orders(alloc, &mut by_hand)?,
+            Progress::Done(answer) => return Ok(answer.text),
+            _ => reply_to_orders(alloc, &mut by_hand)?,
         }
     }
     bail!("too many rounds")
@@ -135,28 +110,25 @@ fn refused_by_hand(alloc: Global, server: &Server) -> anyhow::Result<String> {
     let mut client = server.session(alloc, None, |_line| Books)?;
     let planned = client.plan_text("{}".as_bytes())?;
     let mut by_hand = client.by_hand(planned);
-    let step = by_hand.advance()?;
+    let progress = by_hand.advance()?;
     let asked = by_hand
         .into_client()
         .session()
         .logs(BOOK_BY_ID)
         .unwrap_or(&[])
         .len();
-    match step {
-        ClientAdvance::Answered(answer) => Ok(format!(in alloc;
-            "{} after {asked} batches",
-            answer.text
-        )?),
-        _ => bail!("no answer"),
+    match progress.into_done() {
+        Some(answer) => Ok(format!(in alloc; "{} after {asked} batches", answer.text)?),
+        None => bail!("no answer"),
     }
 }
 
-// Answers the orders of a round that is out.
-fn answer_round(alloc: Global, by_hand: &mut ByHand<HandedIn>) -> anyhow::Result<()> {
+// Replies to the orders of a round that is out.
+fn reply_to_round(alloc: Global, by_hand: &mut ByHand<HandedIn>) -> anyhow::Result<()> {
     for number in 0..by_hand.orders().len() {
         if let Some(Pending::Out(order)) = by_hand.orders().get(number) {
             let items = fetch_books(alloc, order.keys());
-            by_hand.answer(number, items)?;
+            by_hand.reply(number, items)?;
         }
     }
     Ok(())
@@ -166,10 +138,10 @@ fn answer_round(alloc: Global, by_hand: &mut ByHand<HandedIn>) -> anyhow::Result
 fn answer_elsewhere(alloc: Global, by_hand: ByHand<HandedIn>) -> anyhow::Result<String> {
     let mut by_hand = by_hand;
     for _round in 0..MOST_ROUNDS {
-        if let ClientAdvance::Answered(answer) = by_hand.advance()? {
+        if let Progress::Done(answer) = by_hand.advance()? {
             return Ok(answer.text);
         }
-        answer_round(alloc, &mut by_hand)?;
+        reply_to_round(alloc, &mut by_hand)?;
     }
     bail!("too many rounds")
 }
@@ -184,12 +156,12 @@ fn on_another_thread<R: Threads + AllocGlobal>(rt: &R, server: &Server) -> anyho
     answering.join(rt)
 }
 
-// The caller answers the orders of a load itself.
-fn answer_load(alloc: Global, load: &mut LoadByHand<Books>) -> anyhow::Result<()> {
+// The caller replies to the orders of a load itself.
+fn reply_to_load(alloc: Global, load: &mut LoadByHand<Books>) -> anyhow::Result<()> {
     for number in 0..load.orders().len() {
         if let Some(Pending::Out(order)) = load.orders().get(number) {
             let items = fetch_books(alloc, order.keys());
-            load.answer(number, items)?;
+            load.reply(number, items)?;
         }
     }
     Ok(())
@@ -198,10 +170,10 @@ fn answer_load(alloc: Global, load: &mut LoadByHand<Books>) -> anyhow::Result<()
 // Goes on with a load until its outcomes are there.
 fn finish_load(alloc: Global, load: &mut LoadByHand<Books>) -> anyhow::Result<Vec<Outcome>> {
     for _round in 0..MOST_ROUNDS {
-        if let LoadAdvance::Loaded(outcomes) = load.advance()? {
+        if let Progress::Done(outcomes) = load.advance()? {
             return Ok(outcomes);
         }
-        answer_load(alloc, load)?;
+        reply_to_load(alloc, load)?;
     }
     bail!("too many rounds")
 }
@@ -380,12 +352,18 @@ fn show_workers<R: Print + Threads + Wait + AllocGlobal + Sync>(
     rt: &R,
     server: &Server,
 ) -> anyhow::Result<()> {
-    println!(rt; "answer_with: {}", answer_with_workers(rt, server)?)?;
-    println!(rt; "answer_all_with: {}", answer_all_with_workers(rt, server)?)?;
-    println!(rt;
-        "answer_text_with: {}",
-        answer_text_with_workers(rt, server)?
-    )?;
+    let one = asking("{books(ids:[1,2,9]){title}}");
+    let answer = answer_with_workers(rt, server, RequestInput::One(&one))?;
+    println!(rt; "answer_with, one: {answer}")?;
+    let several = [
+        Some(asking("{book(id:1){title}}")),
+        Some(asking("{book(id:2){title}}")),
+    ];
+    let answer = answer_with_workers(rt, server, RequestInput::Several(&several))?;
+    println!(rt; "answer_with, several: {answer}")?;
+    let text = "{\"query\":\"{books(ids:[2,3]){title}}\"}".as_bytes();
+    let answer = answer_with_workers(rt, server, RequestInput::Text(text))?;
+    println!(rt; "answer_with, text: {answer}")?;
     println!(rt; "serve_with: {}", serve_lines_with_workers(rt, server)?)?;
     Ok(())
 }

@@ -1,12 +1,13 @@
 -- Execution is defined exactly where the front is empty, and stays; what is needed only grows, and so does work.
-use Rattle.std.proofs.Common.{◌≡◌, Bool, true, false, ◌||◌, ◌↔◌, ◌≤◌, List, [], ◌∷◌, ◌++◌, is_none, IsSome, inl, inr, sym, ap, refl, Option, Some, None, arith, if◌then◌else◌}
+use Rattle.std.proofs.Common.{◌≡◌, ◌∙◌, suc, Bool, true, false, ◌||◌, ◌↔◌, ◌≤◌, List, [], ◌∷◌, ◌++◌, length, is_none, IsSome, inl, inr, sym, ap, refl, Option, Some, None, arith, if◌then◌else◌}
+use Rattle.std.proofs.lemmas.List.{length-append}
 use Rattle.load_memory.specs.Outcomes.{OutcomeOf}
 use Rattle.load_memory.specs.declared.key.KeyMode.{KeyMode}
 use Rattle.execution.specs.Loads.{Load, Reader, Memory, read, IsOneOf, AnswersMore, Extends}
-use Rattle.execution.specs.Program.{Program, Is, Read, Under, Programs, End, With, Over, tree, trees, needs, all_needs}
-use Rattle.execution.specs.Completion.{is_open, any_open, AnsweredOf}
+use Rattle.execution.specs.Program.{Part, Program, Is, Read, Under, Programs, End, With, Tree, Open, At, Over, Trees, NoMore, And, tree, trees, needs, all_needs}
+use Rattle.execution.specs.Completion.{is_open, any_open, AnsweredOf, PositionOf, positions, positions_below}
 use Rattle.execution.specs.Executed.{completed, exec}
-use Rattle.execution.specs.Work.{count_all_completed, work}
+use Rattle.execution.specs.Work.{count_positions, count_all_positions, work}
 use Rattle.execution.specs.Front.{firsts, missing, front}
 use Rattle.execution.proofs.Same.{one-left, one-right, one-either, reads-more}
 
@@ -127,8 +128,16 @@ mutual
     | inr b ↦ one-right l (needs p Q) (all_needs rest Q) (all-needs-grow rest R Q more l b)
   ]
 
+one-position : (t : Tree) → 1 ≤ count_positions t
+one-position Open = omega arith
+one-position (At own) = omega arith
+one-position (Over kind below) = omega arith
+
+work-some : (p : Program) (R : Reader) → 1 ≤ work p R
+work-some p R = one-position (tree p R)
+
 work-read : (load : Load) (next : OutcomeOf → Program) (R Q : Reader) → AnswersMore R Q → (r : Option OutcomeOf) → R load ≡ r → ((o : OutcomeOf) → work (next o) R ≤ work (next o) Q) → work (Read load next) R ≤ work (Read load next) Q
-work-read load next R Q more None e ih = rw e (omega arith)
+work-read load next R Q more None e ih = rw e (work-some (Read load next) Q)
 work-read load next R Q more (Some o) e ih = let f : Q load ≡ Some o = more load o e in rw (e, f) (ih o)
 
 mutual
@@ -137,6 +146,19 @@ mutual
   work-grows (Read load next) R Q more = work-read load next R Q more (R load) refl (λ o. work-grows (next o) R Q more)
   work-grows (Under kind below) R Q more = omega (arith, all-work-grows below R Q more)
 
-  all-work-grows : (ps : Programs) (R Q : Reader) → AnswersMore R Q → count_all_completed (trees ps R) ≤ count_all_completed (trees ps Q)
+  all-work-grows : (ps : Programs) (R Q : Reader) → AnswersMore R Q → count_all_positions (trees ps R) ≤ count_all_positions (trees ps Q)
   all-work-grows End R Q more = omega arith
   all-work-grows (With position p rest) R Q more = omega (arith, work-grows p R Q more, all-work-grows rest R Q more)
+
+mutual
+  -- work counts the positions that *Completion* lists
+  pub positions-count : (top : PositionOf) (t : Tree) → length (positions top t) ≡ count_positions t
+  positions-count top Open = refl
+  positions-count top (At own) = refl
+  positions-count top (Over kind below) = ap (λ n. suc n) (all-positions-count top.path below)
+
+  all-positions-count : (path : List Part) (ts : Trees) → length (positions_below path ts) ≡ count_all_positions ts
+  all-positions-count path NoMore = refl
+  all-positions-count path (And position t rest) =
+      let top : PositionOf = record { path = path ++ position.part ∷ []; non_null = position.non_null; place = position.place; at = t } in
+      length-append (positions top t) (positions_below path rest) ∙ rw (positions-count top t, all-positions-count path rest) refl

@@ -36,15 +36,16 @@ pub fn read_by_hand()
         ≡ Some three_faults }
 {}
 
-/// Work counts each position that is completed, also where its null makes all that is around it null, and none that is open.
+/// Work counts each position that is completed, also where its null makes all that is around it null, and each that waits.
 pub fn work_by_hand()
     ensures leaf { work (Is Null) unanswered ≡ 1 }
     ensures object { work user_without_name unanswered ≡ 3 }
     ensures list { work nullable_users unanswered ≡ 6 }
     ensures whole { work users_and_one_without_name
         unanswered ≡ 6 }
-    ensures waits { work three_loads unanswered ≡ 1 }
-    ensures first { work three_loads first_answered ≡ 3 }
+    ensures waits { work three_loads unanswered ≡ 4 }
+    ensures first { work through_four_loaders
+        first_answered ≡ 3 }
 {}
 
 /// A front has of equal cache keys the first; a round asks each loader's keys in order, in pieces of its limit; and a list

@@ -3,7 +3,7 @@ ghost use Rattle.std.specs.Prelude.{◌≡◌, ◌↔◌, ◌≤◌, ◌<◌, �
 ghost use Rattle.load_memory.specs.declared.key.KeyMode.{KeyMode};
 ghost use Rattle.execution.specs.Loads.{Load, Memory, Reader, read, Extends, AnswersMore, IsOneOf};
 ghost use Rattle.execution.specs.Program.{Program, Tree, needs, tree, chain};
-ghost use Rattle.execution.specs.Completion.{IsNullAt, IsCompletion, AnsweredOf};
+ghost use Rattle.execution.specs.Completion.{IsNullAt, IsCompletion, AnsweredOf, positions, top_position};
 ghost use Rattle.execution.specs.Front.{front, front_of_keys, firsts, wanting, wanted, modes_wanted, keys_for};
 ghost use Rattle.load_memory.specs.Replies.{ReplyOf};
 ghost use Rattle.execution.specs.Rounds.{modes_of, any_answer, AreLimited, key_by_key, direct, stored, all_primed};
@@ -38,10 +38,13 @@ pub fn monotone_execution()
         → IsOneOf load (needs p (read modes M)) → IsOneOf load (needs p (read modes N)) }
 {}
 
-/// *Work only grows*: over a larger memory an execution completes at least as many positions, also where something is missing.
+/// *Work only grows*: over a larger memory an execution has at least as many positions, also where something is missing. Those
+/// that *Completion* speaks of are counted, each once.
 pub fn work_only_grows()
-    ensures { (modes : List KeyMode) (p : Program) (M N : Memory) → Extends M N
+    ensures grows { (modes : List KeyMode) (p : Program) (M N : Memory) → Extends M N
         → work p (read modes M) ≤ work p (read modes N) }
+    ensures positions { (p : Program) (R : Reader)
+        → length (positions (top_position (tree p R)) (tree p R)) ≡ work p R }
 {}
 
 /// A suspended program fits a reader if it has done only what the reader answers; a fresh program fits every reader. A

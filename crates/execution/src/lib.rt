@@ -10,8 +10,10 @@
 //! function that does nothing. No plan, binding or fragment appears here.
 #![tactic(auto)]
 
+pub mod count_work;
 pub mod examples;
 pub mod execute;
 pub mod law;
 
+pub use count_work::CountWork;
 pub use execute::Execute;

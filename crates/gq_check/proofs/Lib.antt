@@ -3,8 +3,3 @@ pub mod Planning
 pub mod Unique
 pub mod Validity
 pub mod Absent
-pub mod PlainLists
-pub mod PlainArguments
-pub mod PlainFields
-pub mod PlainKeys
-pub mod PlainRules

@@ -6,4 +6,3 @@ pub mod Verdict
 pub mod Report
 pub mod Planned
 pub mod Valid
-pub mod Plain

@@ -3,12 +3,11 @@
 //!
 //! The layer above may rely on this: a [`CheckedDocument`] is a document that keeps every rule of validation over its schema
 //! ([`valid_documents`]), and [`check`] names the first fault of every other document, which is its one verdict
-//! ([`one_verdict`]). A small query without variables, directives and fragments is mostly seen to be valid in one walk that takes
-//! no memory (`src/plain.rt`); any other document is asked rule by rule (`src/rules.rt`). A [`Plan`] is an operation of a
-//! checked document with the values of its variables, and [`prepare`] says why there is none. A [`PreparedDocument`] is a checked one of
-//! which [`prepare_again`] gives the same plans any number of times; [`Plan::again`] gives the plan of the same operation with other
-//! values of its variables, as [`prepare`] gives it. None of them borrows: each shares the schema, and a plan its
-//! bindings and its document too. A plan's look-ups take no memory.
+//! ([`one_verdict`]), rule by rule (`src/rules.rt`). A [`Plan`] is an operation of a checked document with the values of its
+//! variables, and [`prepare`] says why there is none. A [`PreparedDocument`] is a checked one of which [`prepare_again`] gives the
+//! same plans any number of times; [`Plan::again`] gives the plan of the same operation with other values of its variables, as
+//! [`prepare`] gives it. None of them borrows: each shares the schema, and a plan its bindings and its document too. A plan's
+//! look-ups take no memory.
 #![tactic(auto)]
 
 mod checked;
@@ -17,7 +16,6 @@ mod fragments;
 mod law;
 mod operation;
 mod places;
-mod plain;
 mod plan;
 mod preparation;
 mod prepared_document;

@@ -8,27 +8,21 @@ ghost use Rattle.gq_check.specs.Verdict.{IsVerdict, IsValid, IsCheckFault};
 
 use crate::checked::CheckedDocument;
 use crate::fault::CheckFault;
-use crate::plain::is_plainly_valid;
 use crate::rules::verdict;
 use gq_parser::Document;
 use gq_schema::Schema;
-use rules_parts::{Parts, condition_arguments};
+use rules_parts::Parts;
 use rules_spreads::Graph;
 use std::alloc::Global;
 use std::sync::Arc;
 
-// Tells whether a document keeps every rule, and else its first fault. One that isn't seen to be valid in a first walk is asked
-// rule by rule.
+// Tells whether a document keeps every rule, and else its first fault.
 fn validate(alloc: Global, schema: &Schema, document: &Document) -> Result<(), CheckFault>
     ensures ok { OnOk result (IsValid (tree_of schema.now) (document_of document.now)) }
     ensures err { IfErr result
         (IsCheckFault (IsVerdict (tree_of schema.now) (document_of document.now))) }
 {
-    if is_plainly_valid(schema, document) {
-        return Ok(());
-    }
-    let condition = condition_arguments(alloc)?;
-    let parts = Parts::new(alloc, schema, &condition, document)?;
+    let parts = Parts::new(alloc, schema, document)?;
     let graph = Graph::new(alloc, &parts)?;
     match verdict(alloc, &parts, &graph)? {
         Some(report) => Err(report.to_fault(alloc)?),

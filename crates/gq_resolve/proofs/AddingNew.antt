@@ -225,8 +225,5 @@ written-back new rest count same = ap (λ n. take n (new ++ rest)) (sym same) �
 
 -- ---- the keys are added
 
-pub next-new : (are_new : Bool) (ws : List WantedOf) (left rest : List BlockedPosition) (b : BlockedPosition) → left ≡ b ∷ rest → (IsTrue are_new → AreNew ws left) → IsTrue are_new → is_key_wanted ws b.loader (key_of b.key) ≡ false
-next-new are_new ws left rest b next h each = (subst (AreNew ws) next (h each)).0
-
 pub rest-new : (are_new : Bool) (ws new : List WantedOf) (left rest : List BlockedPosition) (b : BlockedPosition) → left ≡ b ∷ rest → new ≡ with_wanted ws b.loader (key_of b.key) → (IsTrue are_new → AreNew ws left) → IsTrue are_new → AreNew new rest
 rest-new are_new ws new left rest b next is h each = subst (λ w. AreNew w rest) (sym is) (subst (AreNew ws) next (h each)).1

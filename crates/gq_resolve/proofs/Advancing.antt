@@ -134,14 +134,16 @@ answer-written plan m old w a b c d none empty begun entered over ended =
     left-over plan m w.rooted (answer_puts plan m) a d over'.rooted none put (λ Q more. ap (thinned []) (answer-asks plan m Q ∙ asks-puts false (plan_program plan) (lookup m) Q more))
     (ap (thinned []) (answer-asks plan m unanswered ∙ waits-puts false (plan_program plan) (lookup m))) (answer-tokens plan m v a d empty put)
 
+-- where nothing waits, nothing waits at a later group
+pub none-waits : (n : ℕ) (a : Output) → a.blocked ≡ [] → IsWithin n a
+none-waits n a none = subst (AreWithin n) (sym none) (λ k d lt. absurd (omega (arith, lt)))
+
 -- the whole plan was put, and nothing was written
-pub root-searched : (plan : PlanOf) (m : MemoryOf) (old : RootObject) (w : FinishedWalk Output) (a : Output) → a.blocked ≡ [] → a.is_plain ≡ false → (IsWithin (length old.groups.items) a → GoesOver Puts plan m a w) → Advanced plan m w
-root-searched plan m old w a none blind over =
-    let at : View = view_of plan old.groups.items in
-    let over' : GoesOver Puts plan m a w = over (subst (AreWithin at.count) (sym none) (λ k d lt. absurd (omega (arith, lt)))) in
-    left-over plan m w.rooted (puts false (plan_program plan) (lookup m)) a w.out over'.rooted none over'.put
+pub root-searched : (plan : PlanOf) (m : MemoryOf) (w : FinishedWalk Output) (a : Output) → a.blocked ≡ [] → a.is_plain ≡ false → GoesOver Puts plan m a w → Advanced plan m w
+root-searched plan m w a none blind over =
+    left-over plan m w.rooted (puts false (plan_program plan) (lookup m)) a w.out over.rooted none over.put
     (λ Q more. ap (thinned []) (asks-puts false (plan_program plan) (lookup m) Q more)) (ap (thinned []) (waits-puts false (plan_program plan) (lookup m)))
-    (λ w. let seen : false ≡ true = sym blind ∙ (over'.put.written w).0.plain in absurd (cc seen))
+    (λ w. let seen : false ≡ true = sym blind ∙ (over.put.written w).0.plain in absurd (cc seen))
 
 -- ---- positions that go on
 

@@ -4,9 +4,9 @@ use Rattle.std.specs.Prelude.{reverse}
 use Rattle.std.proofs.lemmas.List.{map-append, reverse-append}
 use Rattle.json.specs.Token.{Token}
 use Rattle.json.specs.Print.{print, print_from, token_text}
-use Rattle.answer_json.specs.declared.response.PathSegment.{PathSegment}
+use Rattle.answer_json.specs.declared.field_error.PathSegment.{PathSegment}
 use Rattle.execution.specs.Program.{Kind, Part}
-use Rattle.gq_resolve.specs.Answered.{part_of}
+use Rattle.answer_json.specs.Answer.{part_of}
 use Rattle.gq_resolve.specs.Texted.{OpenOf, WrittenOf, nulled, closed, left, ended_in, level_seen, levels_seen}
 use Rattle.gq_resolve.specs.declared.completed_text.OpenLevel.{OpenLevel}
 

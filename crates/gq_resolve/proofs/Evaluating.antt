@@ -46,10 +46,6 @@ front-there m p some none = go (missing (reader m) (needs p (reader m))) some no
     go [] ne e = ne refl
     go (l ∷ ls) ne e = cc e
 
-pub no-items : {X : Type 0} (xs : List X) → length xs ≡ 0 → xs ≡ []
-no-items [] h = refl
-no-items (x ∷ xs) h = absurd (omega (arith, h))
-
 pub closed-tree : (m : MemoryOf) (p : Program) → front_over m p ≡ [] → is_open (tree p (reader m)) ≡ false
 closed-tree m p h = (front-open m.modes p (look m.pairs)).0 h
 
@@ -70,9 +66,6 @@ wanting-append ws (x ∷ xs) ys = wanting-append (with_wanted ws x.loader x.key)
 -- one more
 wants-one : (old now new : List WantedOf) (ls : List Load) (l : Load) → now ≡ wanting old ls → new ≡ with_wanted now l.loader l.key → new ≡ wanting old (ls ++ l ∷ [])
 wants-one old now new ls l h k = k ∙ ap (λ w. with_wanted w l.loader l.key) h ∙ sym (wanting-append old ls (l ∷ []))
-
-pub nothing-added : (old : List WantedOf) (loads : List Load) → AddsPart old old loads
-nothing-added old loads = record { part = []; left = loads; split = refl; added = refl }
 
 pub on_err : {T E P : Type 0} (r : Result T E) → P → OnErr r P
 on_err (Ok x) p = tt
@@ -113,7 +106,3 @@ added-more old now new all left after b next is same h =
       rest = refl;
       loaders = same ∙ h.loaders;
     }
-
--- the loads that were added stay, where the next isn't added
-pub added-part : (old now new : List WantedOf) (all left : List BlockedPosition) → new ≡ now → AreAdded old now all left → AddsPart old new (loads_of all)
-added-part old now new all left kept h = record { part = h.added.part; left = h.added.left; split = h.added.split; added = kept ∙ h.added.added }

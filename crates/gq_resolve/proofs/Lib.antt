@@ -1,15 +1,13 @@
+pub mod PlanLoads
 pub mod Loaders
 pub mod Evaluating
 pub mod AddingNew
-pub mod Texts
 pub mod Thinning
 pub mod Putting
 pub mod Blocking
 pub mod Advancing
 pub mod Reusing
 pub mod Polling
-pub mod BuildingLevels
-pub mod BuildingTrees
 pub mod Texting
 pub mod Sizes
 pub mod Rooms

@@ -1,5 +1,5 @@
 -- Lemmas on what a poll answers, and that it may go on over each larger memory.
-use Rattle.std.proofs.Common.{◌≡◌, ◌≢◌, ◌⊎◌, ◌≤◌, false, List, [], ◌∷◌, length, inl, inr, refl, sym, ap, ◌∙◌, subst, Option, Some, None}
+use Rattle.std.proofs.Common.{◌≡◌, ◌≢◌, ◌⊎◌, ◌≤◌, false, List, [], ◌∷◌, length, inl, inr, refl, sym, ap, ◌∙◌, subst, Some}
 use Rattle.load_memory.specs.Pairs.{MemoryOf}
 use Rattle.load_queue.specs.Wanted.{WantedOf}
 use Rattle.execution.specs.Loads.{Load}
@@ -8,24 +8,23 @@ use Rattle.execution.specs.Completion.{AnsweredOf, is_open}
 use Rattle.execution.specs.Executed.{completed, exec}
 use Rattle.execution.specs.Executes.{CanExecute, GrowsTo}
 use Rattle.execution.specs.Front.{wanting}
-use Rattle.execution.specs.Residual.{rest, unanswered}
+use Rattle.execution.specs.Residual.{unanswered}
 use Rattle.execution.proofs.Fitting.{held-rest}
 use Rattle.execution.proofs.Monotone.{exec-whole}
 use Rattle.gq_check.specs.Plans.{PlanOf}
 use Rattle.plan_program.specs.PlanPrograms.{plan_program}
 use Rattle.gq_resolve.specs.Evaluated.{front_over, AddsPart}
 use Rattle.plan_walk.specs.Reading.{reader, lookup}
-use Rattle.gq_resolve.specs.Suspended.{IsRooted, MayGoOn, FitsWaiting, FitsStopped, loads_of, Advanced, lacking}
+use Rattle.gq_resolve.specs.Suspended.{IsRooted, MayGoOn, FitsWaiting, loads_of, Advanced, lacking}
 use Rattle.gq_resolve.specs.Written.{asks, thinned}
 use Rattle.gq_resolve.specs.declared.advance.RootObject.{RootObject}
-use Rattle.gq_resolve.specs.declared.advance.Suspension.{Suspension}
 use Rattle.gq_resolve.specs.declared.advance.FinishedWalk.{FinishedWalk}
 use Rattle.plan_walk.specs.declared.waiting.BlockedPosition.{BlockedPosition}
 use Rattle.gq_resolve.specs.declared.output.Output.{Output}
 use Rattle.gq_resolve.proofs.Evaluating.{needs-rest, front-none, front-there, closed-tree, wants-front}
-use Rattle.gq_resolve.proofs.Loaders.{same-rest, plan-fits}
+use Rattle.gq_resolve.proofs.Loaders.{plan-same}
 use Rattle.gq_resolve.proofs.Thinning.{thinned-none, wanting-thinned, part-thinned, thinned-part}
-use Rattle.plan_walk.proofs.Lookups.{lookup-same, lookup-more}
+use Rattle.plan_walk.proofs.Lookups.{lookup-more}
 
 -- ---- larger memories
 
@@ -44,26 +43,23 @@ still-fits plan m n w (b ∷ bs) a (inr all) grown = rw all (record {
 pub begins-again : (plan : PlanOf) (m : MemoryOf) (r : RootObject) (waiting : List BlockedPosition) → waiting ≡ [] → IsRooted plan r → FitsWaiting plan m r waiting
 begins-again plan m r waiting none rooted = subst (FitsWaiting plan m r) (sym none) rooted
 
+-- it fits at its root, wherever it stopped
+pub at-root : (plan : PlanOf) (m : MemoryOf) (r : RootObject) (waiting : List BlockedPosition) → FitsWaiting plan m r waiting → IsRooted plan r
+at-root plan m r [] fits = fits
+at-root plan m r (b ∷ bs) fits = fits.rooted
+
 -- where some are kept, it goes on at them
 pub goes-on : (plan : PlanOf) (m : MemoryOf) (r : RootObject) (waiting : List BlockedPosition) → waiting ≢ [] → FitsWaiting plan m r waiting → MayGoOn plan m r waiting
 goes-on plan m r [] some fits = absurd (some refl)
 goes-on plan m r (b ∷ bs) some fits = fits
 
--- a root fits every memory
-pub none-fits : (plan : PlanOf) (m : MemoryOf) (stopped : Option Suspension) → stopped ≡ None → FitsStopped plan m stopped
-none-fits plan m stopped none = subst (FitsStopped plan m) (sym none) tt
-
 -- ---- what is looked up, and what the memory has
 
--- a plan reads no more of a memory than is looked up
-left-same : (plan : PlanOf) (m : MemoryOf) → length plan.bindings.loaders ≤ length m.modes → rest (plan_program plan) (lookup m) ≡ rest (plan_program plan) (reader m)
-left-same plan m le = same-rest (length plan.bindings.loaders) (lookup m) (reader m) (lookup-same m (length plan.bindings.loaders) le) (plan_program plan) (plan-fits plan)
-
 lookup-asks : (plan : PlanOf) (m : MemoryOf) → length plan.bindings.loaders ≤ length m.modes → asks (plan_program plan) (lookup m) ≡ lacking plan m
-lookup-asks plan m le = sym (needs-rest (plan_program plan) (lookup m)) ∙ ap (λ q. needs q unanswered) (left-same plan m le) ∙ needs-rest (plan_program plan) (reader m)
+lookup-asks plan m le = sym (needs-rest (plan_program plan) (lookup m)) ∙ ap (λ q. needs q unanswered) (plan-same plan m le).1 ∙ needs-rest (plan_program plan) (reader m)
 
 pub lookup-tree : (plan : PlanOf) (m : MemoryOf) → length plan.bindings.loaders ≤ length m.modes → tree (plan_program plan) (lookup m) ≡ tree (plan_program plan) (reader m)
-lookup-tree plan m le = sym (held-rest (plan_program plan) (lookup m)) ∙ ap (λ q. tree q unanswered) (left-same plan m le) ∙ held-rest (plan_program plan) (reader m)
+lookup-tree plan m le = sym (held-rest (plan_program plan) (lookup m)) ∙ ap (λ q. tree q unanswered) (plan-same plan m le).1 ∙ held-rest (plan_program plan) (reader m)
 
 module _ (plan : PlanOf) (m : MemoryOf) (old : List WantedOf) (w : FinishedWalk Output) (can : CanExecute (length plan.bindings.loaders) m old) (a : Advanced plan m w) where
   -- the loads of what waits are those that are missing, each once

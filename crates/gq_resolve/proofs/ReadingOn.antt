@@ -1,6 +1,6 @@
 -- Lemmas on how many loads an execution reads: those of the positions whose loads are still to be read, and those
 -- that were.
-use Rattle.std.proofs.Common.{◌≡◌, ℕ, suc, ◌<◌, ◌≤◌, ◌+◌, ◌-◌, ◌^◌, Bool, false, List, [], ◌∷◌, ◌++◌, length, refl, sym, ap, ◌∙◌, subst, arith, append-nil, length-append, Option, Some, None}
+use Rattle.std.proofs.Common.{◌≡◌, ℕ, suc, ◌<◌, ◌≤◌, ◌+◌, ◌-◌, Bool, false, List, [], ◌∷◌, ◌++◌, length, refl, sym, ap, ◌∙◌, subst, arith, append-nil, length-append, Option, Some, None}
 use Rattle.std.specs.List.{flat_map}
 use Rattle.std.proofs.Math.Path.{fun_ext}
 use Rattle.std.proofs.lemmas.Grind.{flat_map-append}
@@ -10,28 +10,27 @@ use Rattle.std.proofs.Math.Seq.{get_or-append_seam}
 use Rattle.load_memory.specs.Outcomes.{OutcomeOf}
 use Rattle.load_memory.specs.Pairs.{MemoryOf}
 use Rattle.execution.specs.Loads.{Load, Reader}
-use Rattle.execution.specs.Program.{Kind, Program, Is, Read, Under, Programs, End, With, needs, all_needs, given}
+use Rattle.execution.specs.Program.{Kind, Program, Is, Read, Under, Programs, End, With, needs, all_needs}
 use Rattle.execution.specs.Residual.{unanswered}
 use Rattle.gq_check.specs.Plans.{PlanOf}
 use Rattle.plan_program.specs.PlanPrograms.{with_rows, plan_program}
 use Rattle.plan_walk.specs.Groups.{AreRight, Covers, view_of}
 use Rattle.plan_walk.specs.Puts.{Ends, View, OnwardOf, puts, all_puts}
 use Rattle.plan_walk.specs.Positions.{onward_of}
-use Rattle.plan_walk.specs.Reading.{reader, lookup}
+use Rattle.plan_walk.specs.Reading.{lookup}
 use Rattle.gq_resolve.specs.Suspended.{load_of, GoesOver}
 use Rattle.plan_walk.specs.Walks.{Goes}
 use Rattle.gq_resolve.specs.Written.{left_of, AreWithin}
-use Rattle.gq_resolve.specs.Counting.{count_read, all_read, counted, plan_read, put_waits, all_left, IsUnread, AddsWaits, left_read, IsReading, puts_after}
+use Rattle.gq_resolve.specs.Counting.{count_read, all_read, plan_read, put_waits, all_left, IsUnread, AddsWaits, left_read, IsReading, puts_after}
 use Rattle.gq_resolve.specs.Adding.{unread-rises, unread-stays}
 use Rattle.plan_walk.specs.declared.loading_fields.LoadingField.{LoadingField}
 use Rattle.plan_walk.specs.declared.waiting.BlockedPosition.{BlockedPosition}
 use Rattle.gq_resolve.specs.declared.counting.Unread.{Unread}
 use Rattle.gq_resolve.specs.declared.advance.FinishedWalk.{FinishedWalk}
 use Rattle.plan_walk.specs.declared.walk.Progress.{Progress}
-use Rattle.gq_resolve.proofs.Evaluating.{no-items}
 use Rattle.plan_walk.proofs.Grouping.{covers-view}
-use Rattle.gq_resolve.proofs.Loaders.{Fits, AllFit, plan-fits}
-use Rattle.plan_walk.proofs.Lookups.{lookup-same, lookup-nothing}
+use Rattle.gq_resolve.proofs.Loaders.{plan-same}
+use Rattle.plan_walk.proofs.Lookups.{lookup-nothing}
 
 -- ---- the loads of what waits
 
@@ -135,30 +134,7 @@ counted-more {plan = plan} m nothing b start now mid new count went none taken s
     let one : IsOneLess plan m now new = one-read m nothing b now mid new none taken same went h.reading in
     record { reading = one.reading; sum = omega (arith, h.sum, one.less) }
 
--- all of them
-pub all-counted : (plan : PlanOf) (m : MemoryOf) (start now : Progress Unread) (count : ℕ) → length now.out.positions.items ≡ 0 → count < 2 ^ 64 → IsCounted plan m start count now → count ≡ counted (left_read plan m start)
-all-counted plan m start now count none fits h =
-    let nothing : left_read plan m now ≡ 0 = ap (λ bs. all_read (all_left (view_of plan now.groups.items) bs) (lookup m)) (no-items now.out.positions.items none) in
-    omega (arith, h.sum, nothing, fits)
-
--- as many as a count has, whatever is left
-pub most-counted : (plan : PlanOf) (m : MemoryOf) (start now : Progress Unread) (count : ℕ) → 2 ^ 64 - 1 ≤ count → IsCounted plan m start count now → 2 ^ 64 - 1 ≡ counted (left_read plan m start)
-most-counted plan m start now count most h = omega (arith, h.sum, most)
-
 -- ---- a whole plan
-
-mutual
-  -- says what a memory says of other loaders makes no difference
-  same-needs : (n : ℕ) (T R : Reader) → ((load : Load) → load.loader < n → T load ≡ R load) → (p : Program) → Fits n p → needs p T ≡ needs p R
-  same-needs n T R same (Is leaf_value) h = refl
-  same-needs n T R same (Read load next) h =
-      ap (λ r. load ∷ given r [] (λ outcome. needs (next outcome) T)) (same load h.0)
-      ∙ ap (λ (f : OutcomeOf → List Load). load ∷ given (R load) [] f) (fun_ext (λ outcome. same-needs n T R same (next outcome) (h.1 outcome)))
-  same-needs n T R same (Under kind below) h = same-all-needs n T R same kind 0 below h
-
-  same-all-needs : (n : ℕ) (T R : Reader) → ((load : Load) → load.loader < n → T load ≡ R load) → (kind : Kind) (i : ℕ) (ps : Programs) → AllFit n kind i ps → all_needs ps T ≡ all_needs ps R
-  same-all-needs n T R same kind i End h = refl
-  same-all-needs n T R same kind i (With position p ps) h = rw (same-needs n T R same p h.1, same-all-needs n T R same kind (suc i) ps h.2) refl
 
 -- the loads to read that are left once the whole plan was gone over, over a memory that answers nothing
 pub whole-left : (plan : PlanOf) (m nothing : MemoryOf) (start : Unread) (w : FinishedWalk Unread) (at : Progress Unread) → nothing.pairs ≡ [] → start.positions.items ≡ [] → at.groups ≡ w.rooted.groups → at.out ≡ w.out
@@ -175,5 +151,5 @@ whole-left plan m nothing start w at none empty groups out enough went =
       whole,
       rw (groups, out, all)
           (ap (λ ps. all_read ps R) went.put.programs ∙ waits-read-over nothing (plan_program plan) R none
-          ∙ ap (λ (ls : List Load). length ls) (same-needs (length plan.bindings.loaders) R (reader m) (lookup-same m (length plan.bindings.loaders) enough) (plan_program plan) (plan-fits plan))),
+          ∙ ap (λ (ls : List Load). length ls) (plan-same plan m enough).0),
     )

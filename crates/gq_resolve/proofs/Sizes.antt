@@ -1,17 +1,17 @@
 -- The text of an answer has at least the bytes that are counted of it.
-use Rattle.std.proofs.Common.{◌≡◌, ◌≤◌, ◌+◌, ◌/◌, ◌%◌, ◌==◌, ℕ, ℤ, pos, negsuc, suc, zero, Bool, true, false, cond, List, [], ◌∷◌, ◌++◌, length, subst, arith, length-append, codes, decimal, if◌then◌else◌, nat_lt}
+use Rattle.std.proofs.Common.{◌≡◌, ◌≤◌, ◌+◌, ◌/◌, ◌%◌, ◌==◌, ℕ, suc, zero, Bool, true, false, cond, List, [], ◌∷◌, ◌++◌, length, subst, arith, length-append, codes, decimal, if◌then◌else◌, nat_lt}
 use Rattle.std.specs.Char.{digit_char}
-use Rattle.std.specs.Fmt.{digits_onto, digit_glyph, signed_decimal}
+use Rattle.std.specs.Fmt.{digits_onto, digit_glyph}
 use Rattle.std.proofs.DigitsParse.{digits_onto-nil}
 use Rattle.json.specs.Token.{Token, begin_object, end_object, begin_array, end_array, key, string, number, boolean, null, bad}
 use Rattle.json.specs.Word.{after_number}
 use Rattle.json.specs.Print.{escape_letter, escape_byte, escape, quoted, IsNumber, IsPrintable, token_text, ends, separator, print_from}
 use Rattle.json.specs.Json.{Members, member, no_members, array}
-use Rattle.answer_json.specs.Answer.{places_json}
+use Rattle.answer_json.specs.Answer.{places_json, path_json, error_json, errors_json}
 use Rattle.json.specs.Tree.{json_tokens, items_tokens, members_tokens}
 use Rattle.execution.specs.Program.{Part, Key, Item}
 use Rattle.execution.specs.Completion.{ErrorOf, AnsweredOf}
-use Rattle.gq_resolve.specs.Answered.{json_of, path_json, error_json, errors_json, errors_before, answered_json, answer_text}
+use Rattle.gq_resolve.specs.Answered.{json_of, errors_before, answered_json, answer_text}
 use Rattle.gq_resolve.specs.Texted.{error_size}
 
 -- ---- texts of tokens
@@ -85,10 +85,6 @@ some-digits k base upper n = go (n / base == 0)
 
 some-decimal : (n : ℕ) → 1 ≤ length (decimal n)
 some-decimal n = subst (λ (ds : List ℕ). 1 ≤ length ds) (digits_onto-nil 10 false n) (some-digits 63 10 false n)
-
-pub some-number : (z : ℤ) → 1 ≤ length (signed_decimal z)
-some-number (pos n) = some-decimal n
-some-number (negsuc n) = omega arith
 
 -- ---- errors
 

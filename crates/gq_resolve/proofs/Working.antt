@@ -6,12 +6,12 @@ use Rattle.load_memory.specs.Outcomes.{OutcomeOf}
 use Rattle.load_memory.specs.Pairs.{MemoryOf}
 use Rattle.execution.specs.Loads.{Load, Reader}
 use Rattle.execution.specs.Program.{Kind, Program, Is, Read, Under, Programs, End, With, trees}
-use Rattle.execution.specs.Work.{work, count_completed, count_all_completed}
+use Rattle.execution.specs.Work.{work, count_positions, count_all_positions, IsLeft}
 use Rattle.gq_check.specs.Plans.{PlanOf}
 use Rattle.plan_program.specs.PlanPrograms.{plan_program}
 use Rattle.plan_walk.specs.Puts.{Put, Begins, Ends, puts, all_puts}
 use Rattle.plan_walk.specs.Reading.{lookup}
-use Rattle.gq_resolve.specs.WorkLeft.{put_work, plan_work, IsLeft, TakesWork}
+use Rattle.gq_resolve.specs.WorkLeft.{put_work, plan_work, TakesWork}
 use Rattle.gq_resolve.proofs.Polling.{lookup-tree}
 
 puts-read : (non_null : Bool) (load : Load) (next : OutcomeOf → Program) (R : Reader) (r : Option OutcomeOf) → R load ≡ r
@@ -29,11 +29,11 @@ mutual
       let begun : sum_by put_work (puts non_null (Under kind below) R) ≡ 1 + sum_by put_work (inner ++ Ends kind ∷ []) = sum_by-append put_work (Begins kind ∷ []) (inner ++ Ends kind ∷ []) in
       omega (arith, begun, sum_by-append put_work inner (Ends kind ∷ []), all-puts-work kind below R)
 
-  all-puts-work : (kind : Kind) (ps : Programs) (R : Reader) → sum_by put_work (all_puts kind ps R) ≡ count_all_completed (trees ps R)
+  all-puts-work : (kind : Kind) (ps : Programs) (R : Reader) → sum_by put_work (all_puts kind ps R) ≡ count_all_positions (trees ps R)
   all-puts-work kind End R = refl
   all-puts-work kind (With position p rest) R =
       sum_by-append put_work (puts position.non_null p R) (all_puts kind rest R) ∙ rw (puts-work position.non_null p R, all-puts-work kind rest R) refl
 
 -- the whole plan was put
 pub plan-taken : (plan : PlanOf) (m : MemoryOf) (most : ℕ) (left : Option ℕ) → length plan.bindings.loaders ≤ length m.modes → TakesWork (puts false (plan_program plan) (lookup m)) (Some most) left → IsLeft most (plan_work plan m) left
-plan-taken plan m most left enough h = subst (λ (n : ℕ). IsLeft most n left) (puts-work false (plan_program plan) (lookup m) ∙ ap count_completed (lookup-tree plan m enough)) h
+plan-taken plan m most left enough h = subst (λ (n : ℕ). IsLeft most n left) (puts-work false (plan_program plan) (lookup m) ∙ ap count_positions (lookup-tree plan m enough)) h

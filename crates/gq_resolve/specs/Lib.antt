@@ -1,11 +1,9 @@
 pub mod Answered
 pub mod Evaluated
-pub mod Completing
 pub mod Written
 pub mod Composing
 pub mod Suspended
 pub mod PreparedPlans
-pub mod Built
 pub mod Texted
 pub mod Limited
 pub mod Within
@@ -14,4 +12,3 @@ pub mod KeyByKey
 pub mod Adding
 pub mod WorkLeft
 pub mod NewKeys
-pub mod PlanLoads

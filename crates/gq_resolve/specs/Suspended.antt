@@ -7,12 +7,11 @@ use Rattle.load_memory.specs.Pairs.{MemoryOf}
 use Rattle.load_queue.specs.Wanted.{WantedOf}
 use Rattle.execution.specs.Loads.{Load, Reader, AnswersMore}
 use Rattle.execution.specs.Program.{tree}
-use Rattle.execution.specs.Completion.{is_open}
 use Rattle.execution.specs.Executed.{completed}
 use Rattle.execution.specs.Front.{wanting}
 use Rattle.gq_check.specs.Plans.{PlanOf, plan_of}
 use Rattle.plan_program.specs.PlanPrograms.{root_prepared, plan_program}
-use Rattle.gq_resolve.specs.Answered.{answered_of, answered_json}
+use Rattle.gq_resolve.specs.Answered.{answered_json}
 use Rattle.gq_resolve.specs.Evaluated.{front_over, missing_over}
 use Rattle.plan_walk.specs.Reading.{lookup}
 use Rattle.gq_variables.specs.Variables.{VariableOf}
@@ -25,7 +24,6 @@ use Rattle.gq_resolve.specs.declared.output.Output.{Output}
 use Rattle.gq_resolve.specs.declared.advance.RootObject.{RootObject}
 use Rattle.gq_resolve.specs.declared.advance.Suspension.{Suspension}
 use Rattle.gq_resolve.specs.declared.advance.FinishedWalk.{FinishedWalk}
-use Rattle.gq_resolve.specs.declared.answered.ExecutionResult.{ExecutionResult}
 use Rattle.gq_resolve.specs.declared.root_state.RootState.{RootState}
 use Rattle.plan_walk.specs.declared.walk.Walk.{Walk}
 
@@ -119,8 +117,3 @@ IsAdvanced old new plan m None = (front_over m (plan_program plan) ≢ [])
 -- the loads that the plan needs and the memory lacks
 abbrev pub lacking : PlanOf → MemoryOf → List Load
 lacking plan m = missing_over m (plan_program plan)
-
--- the answer of a plan of which nothing is missing
-abbrev pub IsResponse : PlanOf → MemoryOf → ExecutionResult → Type 0
-IsResponse plan m a = is_open (tree (plan_program plan) (lookup m)) ≡ false
-    → answered_of a ≡ completed (tree (plan_program plan) (lookup m))

@@ -4,12 +4,12 @@ use Rattle.std.specs.Prelude.{◌≡◌, refl, ℕ, suc, ◌+◌, ◌-◌, nat_l
 use Rattle.std.proofs.Common.{ap, sym, ◌∙◌}
 use Rattle.std.specs.Fmt.{signed_decimal}
 use Rattle.text_place.specs.declared.place.Place.{Place}
-use Rattle.answer_json.specs.declared.response.PathSegment.{PathSegment}
+use Rattle.answer_json.specs.declared.field_error.PathSegment.{PathSegment}
 use Rattle.json.specs.Token.{Token, string, number, boolean, null}
 use Rattle.json.specs.Print.{token_text, separator, begins, ends}
 use Rattle.execution.specs.Program.{LeafValue, Value, Null, Fault, Text, Int, Boolean, Kind, Part, At}
 use Rattle.execution.specs.Completion.{ErrorOf, own_errors}
-use Rattle.gq_resolve.specs.Answered.{part_of, errors_of}
+use Rattle.answer_json.specs.Answer.{part_of, errors_of}
 use Rattle.gq_resolve.specs.Written.{opening, closing, part_tokens}
 use Rattle.plan_walk.specs.Puts.{Put, Begins, Ends, Enters, Has, Waits}
 use Rattle.plan_walk.specs.Positions.{is_non_null}

@@ -1,9 +1,9 @@
 -- Definitions of what the work of a plan leaves of a limit. Two are proofs, which the laws of their sink need here.
-use Rattle.std.proofs.Common.{◌≡◌, ◌<◌, ◌+◌, ℕ, List, [], ◌++◌, refl, Option, Some, None, arith}
+use Rattle.std.proofs.Common.{◌≡◌, ◌+◌, ℕ, List, [], ◌++◌, refl, Option, Some, None, arith}
 use Rattle.std.specs.List.{sum_by}
 use Rattle.std.proofs.lemmas.List.Sums.{sum_by-append}
 use Rattle.load_memory.specs.Pairs.{MemoryOf}
-use Rattle.execution.specs.Work.{work}
+use Rattle.execution.specs.Work.{work, IsLeft}
 use Rattle.gq_check.specs.Plans.{PlanOf}
 use Rattle.plan_program.specs.PlanPrograms.{plan_program}
 use Rattle.plan_walk.specs.Puts.{Put, Begins, Ends, Enters, Has, Waits}
@@ -13,18 +13,13 @@ use Rattle.plan_walk.specs.Reading.{reader}
 abbrev pub plan_work : PlanOf → MemoryOf → ℕ
 plan_work plan m = work (plan_program plan) (reader m)
 
--- so much work leaves this of a limit; where it is more, nothing
-abbrev pub IsLeft : ℕ → ℕ → Option ℕ → Type 0
-IsLeft most work None = most < work
-IsLeft most work (Some left) = left + work ≡ most
-
--- gives how many positions are completed by what is put
+-- gives how many positions are put
 abbrev pub put_work : Put → ℕ
 put_work (Begins kind) = 1
 put_work (Ends kind) = 0
 put_work (Enters kind position) = 0
 put_work (Has non_null leaf_value) = 1
-put_work (Waits program) = 0
+put_work (Waits program) = 1
 
 -- says the same of what was left; where nothing was, nothing is
 abbrev pub IsLeftOf : Option ℕ → ℕ → Option ℕ → Type 0

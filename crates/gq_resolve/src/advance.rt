@@ -8,10 +8,8 @@ ghost use Rattle.gq_check.specs.Plans.{PlanOf, plan_of};
 ghost use Rattle.plan_program.specs.PlanPrograms.{root_prepared};
 ghost use Rattle.plan_walk.specs.Groups.{AreMade};
 ghost use Rattle.gq_resolve.specs.Evaluated.{AddsPart};
-ghost use Rattle.gq_resolve.specs.Suspended.{plan_on, IsAlike, IsReusable, IsRooted, WaitsBelow, GoesOverTour, IsResponse, MayGoOn, Advanced, FitsStopped, FitsTour, IsAdvanced, lacking};
+ghost use Rattle.gq_resolve.specs.Suspended.{plan_on, IsAlike, IsReusable, IsRooted, WaitsBelow, GoesOverTour, MayGoOn, Advanced, FitsStopped, FitsTour, IsAdvanced, lacking};
 
-use crate::answered::ExecutionResult;
-use crate::builder::Builder;
 use crate::output::Output;
 use crate::wanting::add_wants;
 use gq_check::Plan;
@@ -115,47 +113,19 @@ pub fn go_over<S: Sink + Drop>(
     ensures { IsRooted (plan_on walk.now) rooted → WaitsBelow S.below rooted out
         → IfOk result (GoesOverTour S.goes walk.now out) }
 {
-    let RootObject {
-        members,
-        row,
-        groups,
-    } = rooted;
     let mut at = Progress {
-        groups,
+        groups: rooted.groups,
         probe: Probe::new(),
         out,
     };
-    walk.object(&mut at, MOST_LEVELS, &members, &row)?;
-    let groups = at.groups;
+    walk.object(&mut at, MOST_LEVELS, &rooted.members, &rooted.row)?;
     Ok(FinishedWalk {
         rooted: RootObject {
-            members,
-            row,
-            groups,
+            groups: at.groups,
+            ..rooted
         },
         out: at.out,
     })
-}
-
-// Goes over the whole plan, and writes as long as nothing is missing and the text isn't too long.
-fn write_output(
-    walk: &Walk<'_>,
-    most: usize,
-    rooted: RootObject,
-) -> Result<FinishedWalk<Output>, AllocError>
-    ensures { IsRooted (plan_on walk.now) rooted
-        → IfOk result (Advanced (plan_on walk.now) walk.now.memory.now) }
-{
-    let mut out = Output::new(walk.alloc, most)?;
-    out.begin(PositionKind::Object)?;
-    out.field(FieldPosition {
-        key: "data",
-        nullability: Nullability::Nullable,
-        place: Place { line: 1, column: 1 },
-    })?;
-    let mut walked = go_over(walk, rooted, out)?;
-    walked.out.end(PositionKind::Object)?;
-    Ok(walked)
 }
 
 // Looks for the loads of the whole plan alone, and writes nothing.
@@ -163,12 +133,11 @@ fn search_root(walk: &Walk<'_>, rooted: RootObject) -> Result<FinishedWalk<Outpu
     ensures { IsRooted (plan_on walk.now) rooted
         → IfOk result (Advanced (plan_on walk.now) walk.now.memory.now) }
 {
-    let out = Output::waiting_only(walk.alloc);
-    let walked = go_over(walk, rooted, out)?;
-    Ok(walked)
+    go_over(walk, rooted, Output::waiting_only(walk.alloc))
 }
 
-// Goes over the whole plan. Over a memory that has no pair a root that loads can't be answered, so it writes nothing then.
+// Goes over the whole plan, and writes as long as nothing is missing and the text isn't too long. Over a memory that has no pair a root that
+// loads can't be answered, so it looks for the loads first, and writes nothing where there are some.
 fn begin(
     walk: &Walk<'_>,
     most: usize,
@@ -177,23 +146,35 @@ fn begin(
     ensures { IsRooted (plan_on walk.now) rooted
         → IfOk result (Advanced (plan_on walk.now) walk.now.memory.now) }
 {
-    if rooted.groups.is_empty() || !walk.memory.is_empty() {
-        return write_output(walk, most, rooted);
+    let mut rooted = rooted;
+    if !rooted.groups.is_empty() && walk.memory.is_empty() {
+        let searched = search_root(walk, rooted)?;
+        if !searched.out.blocked.is_empty() {
+            return Ok(searched);
+        }
+        rooted = searched.rooted;
     }
-    let walked = search_root(walk, rooted)?;
-    if walked.out.blocked.is_empty() {
-        return write_output(walk, most, walked.rooted);
-    }
-    Ok(walked)
-}
-
-/// The response of a plan over a memory that has all that it needs.
-pub fn build_response(walk: &Walk<'_>, rooted: RootObject) -> Result<ExecutionResult, AllocError>
-    ensures { IsRooted (plan_on walk.now) rooted
-        → IfOk result (IsResponse (plan_on walk.now) walk.now.memory.now) }
-{
-    let walked = go_over(walk, rooted, Builder::new(walk.alloc))?;
-    Ok(walked.out.finish())
+    let mut out = Output::new(walk.alloc, most)?;
+    out.begin(PositionKind::Object)?;
+    out.field(FieldPosition {
+        key: "data",
+        nullability: Nullability::Nullable,
+        place: Place { line: 1, column: 1 },
+    })?;
+    let mut at = Progress {
+        groups: rooted.groups,
+        probe: Probe::new(),
+        out,
+    };
+    walk.object(&mut at, MOST_LEVELS, &rooted.members, &rooted.row)?;
+    at.out.end(PositionKind::Object)?;
+    Ok(FinishedWalk {
+        rooted: RootObject {
+            groups: at.groups,
+            ..rooted
+        },
+        out: at.out,
+    })
 }
 
 // Goes on at the positions that wait, and looks for loads alone.
@@ -205,13 +186,8 @@ fn search_waiting(
     ensures { MayGoOn (plan_on walk.now) walk.now.memory.now rooted waiting
         → IfOk result (Advanced (plan_on walk.now) walk.now.memory.now) }
 {
-    let RootObject {
-        members,
-        row,
-        groups,
-    } = rooted;
     let mut at = Progress {
-        groups,
+        groups: rooted.groups,
         probe: Probe::new(),
         out: Output::waiting_only(walk.alloc),
     };
@@ -222,37 +198,30 @@ fn search_waiting(
         };
         walk.read(&mut at, to, position.loader, position.key.as_key_ref())?;
     }
-    let groups = at.groups;
     Ok(FinishedWalk {
         rooted: RootObject {
-            members,
-            row,
-            groups,
+            groups: at.groups,
+            ..rooted
         },
         out: at.out,
     })
 }
 
-// Goes on from where an execution stopped, or begins it.
-fn advance_text(
+// Goes on at the positions that wait, and writes where nothing is missing below them.
+fn go_on(
     walk: &Walk<'_>,
     most: usize,
-    stopped: Option<Suspension>,
+    rooted: RootObject,
+    waiting: Waiting,
 ) -> Result<FinishedWalk<Output>, AllocError>
-    ensures { FitsTour walk.now stopped
+    ensures { MayGoOn (plan_on walk.now) walk.now.memory.now rooted waiting
         → IfOk result (Advanced (plan_on walk.now) walk.now.memory.now) }
 {
-    let Some(Suspension { rooted, waiting }) = stopped else {
-        return begin(walk, most, prepare_root(walk)?);
-    };
-    if waiting.is_empty() {
-        return begin(walk, most, rooted);
+    let searched = search_waiting(walk, rooted, waiting)?;
+    if searched.out.blocked.is_empty() {
+        return begin(walk, most, searched.rooted);
     }
-    let walked = search_waiting(walk, rooted, waiting)?;
-    if walked.out.blocked.is_empty() {
-        return write_output(walk, most, walked.rooted);
-    }
-    Ok(walked)
+    Ok(searched)
 }
 
 /// Goes on with each load that the memory has. Where nothing is missing, it comes to the end, and has written an answer without
@@ -272,7 +241,11 @@ pub fn advance(
     ensures grown { (m : MemoryOf) → FitsTour walk.now stopped.old
         → GrowsTo walk.now.memory.now m → FitsStopped (plan_on walk.now) m stopped.new }
 {
-    let walked = advance_text(walk, most, stopped.take())?;
+    let walked = match stopped.take() {
+        None => begin(walk, most, prepare_root(walk)?)?,
+        Some(Suspension { rooted, waiting }) if waiting.is_empty() => begin(walk, most, rooted)?,
+        Some(Suspension { rooted, waiting }) => go_on(walk, most, rooted, waiting)?,
+    };
     if walked.out.blocked.is_empty() {
         return Ok(Some(walked));
     }

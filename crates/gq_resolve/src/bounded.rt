@@ -2,7 +2,7 @@
 
 ghost use Rattle.std.specs.Prelude.{◌≡◌, ℕ, [], IfOk, OnOk, IfSome, IfNone, Some, None, false, map};
 ghost use Rattle.json.specs.Token.{Token};
-ghost use Rattle.gq_resolve.specs.Answered.{part_of, errors_of};
+ghost use Rattle.answer_json.specs.Answer.{part_of, errors_of};
 ghost use Rattle.gq_resolve.specs.Texted.{room_after, text_after, text_of, IsTokenText, with_token, error_at, with_error, errors_kept};
 
 use crate::output::FIRST_ROOM;
@@ -108,8 +108,8 @@ impl BoundedText {
     }
 }
 
-/// A copy of a step of a path.
-pub fn copy_step(alloc: Global, step: &PathSegment) -> Result<PathSegment, AllocError>
+// A copy of a step of a path.
+fn copy_step(alloc: Global, step: &PathSegment) -> Result<PathSegment, AllocError>
     ensures { IfOk result
         (λ copy. part_of copy ≡ part_of step.now) }
 {

@@ -10,13 +10,13 @@ ghost use Rattle.json.specs.Token.{Token as JsonToken, number};
 ghost use Rattle.plan_program.specs.Prepared.{leaf_value_seen};
 ghost use Rattle.plan_walk.specs.Positions.{is_non_null, kind_of};
 ghost use Rattle.plan_walk.specs.Puts.{puts};
-ghost use Rattle.gq_resolve.specs.Answered.{part_of};
+ghost use Rattle.answer_json.specs.Answer.{part_of};
 ghost use Rattle.gq_resolve.specs.Limited.{AnswersWithin};
 ghost use Rattle.gq_resolve.specs.Texted.{IsTokenText, text_of, written, nulled, closed, entered_at, depth_in, faulted, given_leaf_value, nothing_written, put_all, put_all-more, written_of};
 
 use crate::bounded::{BoundedErrors, BoundedText};
-use crate::output::{FIRST_ROOM, writer_text};
-use answer_json::{PathSegment, begin_answer};
+use crate::output::FIRST_ROOM;
+use answer_json::{PathSegment, begin_answer, writer_text};
 use gq_lexer::Place;
 use json::{Token, Writer};
 use load_memory::{Cell, KeyRef};

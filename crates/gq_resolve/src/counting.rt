@@ -15,7 +15,7 @@ use gq_check::Plan;
 use load_memory::{KeyRef, Memory, Probe};
 use plan_program::LeafValue;
 use plan_walk::positions::{FieldPosition, Items, Leaf, Nullability, Onward, PositionKind};
-use plan_walk::reading::look_up;
+use plan_walk::reading::knows_nothing;
 use plan_walk::sink::Sink;
 use plan_walk::waiting::BlockedPosition;
 use plan_walk::walk::{LoadingPosition, Progress, Walk};
@@ -99,8 +99,11 @@ fn read_on(
 ) -> Result<(), AllocError>
     ensures { OnOk result (ReadsOn walk.now memory.now position.now at.old at.new) }
 {
+    if knows_nothing(memory, position.loader) {
+        return Ok(());
+    }
     let key = position.key.as_key_ref();
-    let found = look_up(walk.alloc, memory, &mut at.probe, position.loader, key)?;
+    let found = memory.look_up(walk.alloc, &mut at.probe, position.loader, key)?;
     let Some(outcome) = found else {
         return Ok(());
     };

@@ -1,22 +1,19 @@
 //! Execution of plans (sections 6.2 to 6.4 of the GraphQL specification of October 2021): over a memory of what was loaded, a
 //! plan is ready with its answer, or waits for exactly the loads that it needs and the memory lacks.
 //!
-//! The layer above may rely on this: [`evaluate`] is ready with the execution of the plan's program
-//! (`plan_program::specs::PlanPrograms`) where nothing is missing, and else adds the front to the wants. A [`RootState`] does
-//! the same over a memory that grows from poll to poll, to a response or to its text, and keeps what is done.
+//! The layer above may rely on this: a [`RootState`] is ready with the text of the execution of the plan's program
+//! (`plan_program::specs::PlanPrograms`) where nothing is missing, and else adds the front to the wants. It goes on over a memory
+//! that grows from poll to poll, and keeps what is done.
 //!
 //! A plan is what can be executed (`execution::Execute`), and so is a plan with a limit ([`LimitedPlan`]): an answer whose text is
 //! longer is refused, and all else is as for the plan. So whatever answers what can be executed answers plans.
 #![tactic(auto)]
 
 mod advance;
-mod answered;
 mod bounded;
-mod builder;
 mod completed_text;
 mod counting;
 pub mod law;
-mod level;
 mod limited;
 pub mod limited_plan;
 mod most_groups;
@@ -25,14 +22,11 @@ mod plan;
 mod prepared_plan;
 mod root_state;
 mod threads;
-mod units;
 mod wanting;
 mod work;
 
-pub use answered::{ExecutionResult, answer_text};
 pub use counting::loads_read;
 pub use limited_plan::LimitedPlan;
 pub use prepared_plan::PreparedPlan;
 pub use root_state::RootState;
-pub use units::{ArgFault, Args, CompletedValue, Group, arguments_of, collect, complete, evaluate};
 pub use work::work_left;

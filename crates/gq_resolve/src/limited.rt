@@ -3,8 +3,9 @@
 ghost use Rattle.std.specs.Prelude.{◌≡◌, IfOk, string_bytes};
 ghost use Rattle.plan_program.specs.PlanPrograms.{plan_program};
 ghost use Rattle.plan_walk.specs.Reading.{lookup};
-ghost use Rattle.gq_resolve.specs.Limited.{too_long_text, limited_text, AnswersWithin, IsAnswerText, IsDone, IsLimitedAnswer};
+ghost use Rattle.gq_resolve.specs.Limited.{too_long_text, limited_text, AnswersWithin, IsDone};
 ghost use Rattle.gq_resolve.specs.Suspended.{plan_on};
+ghost use Rattle.gq_resolve.specs.Within.{IsAnswerText};
 
 use crate::advance::{FinishedWalk, go_over};
 use crate::completed_text::CompletedText;
@@ -53,26 +54,18 @@ fn completed_text(
     walked.out.finish()
 }
 
-/// The text of an answer of which nothing is missing.
-pub fn whole_text(walk: &Walk<'_>, walked: FinishedWalk<Output>) -> Result<String, AllocError>
-    ensures { IsDone (plan_on walk.now) walk.now.memory.now walked
-        → IfOk result (IsAnswerText (plan_on walk.now) walk.now.memory.now) }
-{
-    match completed_text(walk, walked, NO_LIMIT)? {
-        Some(text) => Ok(text),
-        None => Err(AllocError),
-    }
-}
-
-/// The same, or its refusal where it has more than `most` bytes.
-pub fn text_or_refusal(
+/// The text of an answer of which nothing is missing, or its refusal where it has more than `most` bytes.
+pub fn whole_text(
     walk: &Walk<'_>,
     walked: FinishedWalk<Output>,
-    most: usize,
+    most: Option<usize>,
 ) -> Result<String, AllocError>
     ensures { IsDone (plan_on walk.now) walk.now.memory.now walked
-        → IfOk result (IsLimitedAnswer most (plan_on walk.now) walk.now.memory.now) }
+        → IfOk result (IsAnswerText most (plan_on walk.now) walk.now.memory.now) }
 {
+    let Some(most) = most else {
+        return completed_text(walk, walked, NO_LIMIT)?.ok_or(AllocError);
+    };
     match completed_text(walk, walked, most)? {
         Some(text) => limit_text(walk.alloc, text, most),
         None => too_long(walk.alloc),

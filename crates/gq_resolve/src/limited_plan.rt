@@ -9,7 +9,8 @@ ghost use Rattle.plan_program.specs.PlanPrograms.{plan_program};
 
 use crate::prepared_plan::PreparedPlan;
 use crate::root_state::RootState;
-use execution::Execute;
+use crate::work::work_left;
+use execution::{CountWork, Execute};
 use futures::task::Poll;
 use gq_check::Plan;
 use load_memory::Memory;
@@ -59,6 +60,17 @@ impl Drop for LimitedPlan {
     }
 }
 
+impl Clone for LimitedPlan {
+    ghost is_clone = { λ x y. y ≡ x };
+
+    fn clone(&self) -> Result<LimitedPlan, AllocError> {
+        Ok(LimitedPlan {
+            plan: Arc::try_clone(&self.plan)?,
+            most: self.most,
+        })
+    }
+}
+
 impl LimitedPlan {
     /// A plan of whose answer the text has at most `most` bytes. Without a limit it is executed just as the plan is.
     pub fn new(plan: Arc<PreparedPlan>, most: Option<usize>) -> LimitedPlan
@@ -97,9 +109,17 @@ impl Execute<RootState> for LimitedPlan {
     ) -> Result<Poll<String>, AllocError> {
         self.plan.begin(progress)?;
         let plan = self.plan.plan();
-        match self.most {
-            Some(most) => progress.poll_text_within(alloc, plan, memory, wants, most),
-            None => progress.poll_text(alloc, plan, memory, wants),
-        }
+        progress.poll_text(alloc, plan, memory, wants, self.most)
+    }
+}
+
+impl CountWork<RootState> for LimitedPlan {
+    fn work_left(
+        &self,
+        alloc: Global,
+        memory: &Memory,
+        most: usize,
+    ) -> Result<Option<usize>, AllocError> {
+        work_left(alloc, self.plan.plan(), memory, most)
     }
 }

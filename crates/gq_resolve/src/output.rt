@@ -13,6 +13,7 @@ ghost use Rattle.execution.specs.Program.{Null};
 ghost use Rattle.plan_walk.specs.Cells.{value_seen};
 ghost use Rattle.plan_walk.specs.Positions.{is_non_null};
 
+use answer_json::writer_text;
 use json::{Token, Writer};
 use load_memory::{Cell, KeyRef};
 use plan_program::LeafValue;
@@ -61,17 +62,6 @@ pub fn least_bytes(token: Token<'_>) -> usize
         Token::String(text) => text_bytes(text),
         _ => 1,
     }
-}
-
-/// Returns what was written, as text.
-pub fn writer_text(writer: Writer) -> String
-    requires { writer.before ≡ [] }
-    ensures { string_bytes result
-        ≡ print writer.tokens }
-{
-    let bytes = writer.into_inner();
-    // SAFETY: a writer's text is UTF-8.
-    unsafe { String::from_utf8_unchecked(bytes) }
 }
 
 impl Output {

@@ -1,5 +1,5 @@
 //! Plans, as what is executed.
-ghost use Rattle.std.specs.Prelude.{◌≡◌, length};
+ghost use Rattle.std.specs.Prelude.{length};
 ghost use Rattle.gq_check.specs.Plans.{plan_of};
 ghost use Rattle.gq_resolve.specs.Answered.{answer_text};
 ghost use Rattle.gq_resolve.specs.Suspended.{FitsMemory};
@@ -33,6 +33,6 @@ impl Execute<RootState> for Plan {
         memory: &Memory,
         wants: &mut Wants,
     ) -> Result<Poll<String>, AllocError> {
-        progress.poll_text(alloc, self, memory, wants)
+        progress.poll_text(alloc, self, memory, wants, None)
     }
 }

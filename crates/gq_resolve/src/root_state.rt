@@ -1,18 +1,16 @@
 //! The execution of a plan that is polled, and goes on where it stopped.
 
-ghost use Rattle.std.specs.Prelude.{◌≡◌, length, IfOk, OnOk, OnErr};
+ghost use Rattle.std.specs.Prelude.{length, IfOk, OnOk, OnErr};
 ghost use Rattle.load_memory.specs.Pairs.{MemoryOf};
 ghost use Rattle.execution.specs.Executes.{CanExecute, IsExecuted, GrowsTo};
 ghost use Rattle.gq_check.specs.Plans.{PlanOf, plan_of};
 ghost use Rattle.plan_program.specs.PlanPrograms.{plan_program};
-ghost use Rattle.gq_resolve.specs.Answered.{answer_text};
-ghost use Rattle.gq_resolve.specs.Evaluated.{missing_over, IsEvaluated, AddsPart};
-ghost use Rattle.gq_resolve.specs.Limited.{limited_answer};
+ghost use Rattle.gq_resolve.specs.Evaluated.{missing_over, AddsPart};
 ghost use Rattle.gq_resolve.specs.Suspended.{FitsMemory, IsRooted};
+ghost use Rattle.gq_resolve.specs.Within.{text_within};
 
-use crate::advance::{RootObject, Suspension, advance, build_response};
-use crate::answered::ExecutionResult;
-use crate::limited::{text_or_refusal, whole_text};
+use crate::advance::{RootObject, Suspension, advance};
+use crate::limited::whole_text;
 use crate::most_groups::most_groups_of;
 use crate::output::NO_LIMIT;
 use futures::task::Poll;
@@ -73,21 +71,26 @@ impl RootState {
         Ok(())
     }
 
-    /// [`poll`](RootState::poll) to the text of the answer (section 7.1). An answer without errors is written straight from
-    /// the rows.
+    /// Goes on with each load that the memory has. It is ready with the text of the answer (section 7.1) where nothing is missing, and
+    /// else adds what is needed and missing to the wants, depth first. An answer without errors is written straight from the rows.
+    ///
+    /// With a limit the text may have `most` bytes and no more: a longer one is refused, and the text is that of its refusal. What it
+    /// holds of the answer at any time is in proportion to that limit.
     ///
     /// # Errors
     ///
-    /// As `poll`.
+    /// Only when out of memory. The wants hold what they held, and the first of what was to be added. The
+    /// execution fits every memory again, since the next poll begins anew (`err`, `grown`).
     pub fn poll_text(
         &mut self,
         alloc: Global,
         plan: &Plan,
         memory: &Memory,
         wants: &mut Wants,
+        most: Option<usize>,
     ) -> Result<Poll<String>, AllocError>
         requires { CanExecute (length (plan_of plan.now).bindings.loaders) memory.now wants.old }
-        ensures ok { FitsMemory (plan_of plan.now) self.old memory.now → IfOk result (IsExecuted answer_text
+        ensures ok { FitsMemory (plan_of plan.now) self.old memory.now → IfOk result (IsExecuted (text_within most)
             wants.old wants.new (plan_program (plan_of plan.now)) memory.now) }
         ensures err { FitsMemory (plan_of plan.now) self.old memory.now → OnErr result (AddsPart wants.old
             wants.new (missing_over memory.now (plan_program (plan_of plan.now)))) }
@@ -100,76 +103,8 @@ impl RootState {
             memory,
             most: self.most,
         };
-        match advance(&walk, NO_LIMIT, &mut self.stopped, wants)? {
-            Some(walked) => Ok(Poll::Ready(whole_text(&walk, walked)?)),
-            None => Ok(Poll::Pending),
-        }
-    }
-
-    /// Does the same, where the text may have `most` bytes and no more: a longer one is refused, and the text is that of
-    /// its refusal. What it holds of the answer at any time is in proportion to that limit.
-    ///
-    /// # Errors
-    ///
-    /// As `poll`.
-    pub fn poll_text_within(
-        &mut self,
-        alloc: Global,
-        plan: &Plan,
-        memory: &Memory,
-        wants: &mut Wants,
-        most: usize,
-    ) -> Result<Poll<String>, AllocError>
-        requires { CanExecute (length (plan_of plan.now).bindings.loaders) memory.now wants.old }
-        ensures ok { FitsMemory (plan_of plan.now) self.old memory.now → IfOk result (IsExecuted (limited_answer most)
-            wants.old wants.new (plan_program (plan_of plan.now)) memory.now) }
-        ensures err { FitsMemory (plan_of plan.now) self.old memory.now → OnErr result (AddsPart wants.old
-            wants.new (missing_over memory.now (plan_program (plan_of plan.now)))) }
-        ensures grown { (m : MemoryOf) → FitsMemory (plan_of plan.now) self.old memory.now
-            → GrowsTo memory.now m → FitsMemory (plan_of plan.now) self.new m }
-    {
-        let walk = Walk {
-            alloc,
-            plan,
-            memory,
-            most: self.most,
-        };
-        match advance(&walk, most, &mut self.stopped, wants)? {
-            Some(walked) => Ok(Poll::Ready(text_or_refusal(&walk, walked, most)?)),
-            None => Ok(Poll::Pending),
-        }
-    }
-
-    /// Goes on with each load that the memory has. It is ready with the answer where nothing is missing, and else adds what
-    /// is needed and missing to the wants, depth first.
-    ///
-    /// # Errors
-    ///
-    /// Only when out of memory. The wants hold what they held, and the first of what was to be added. The
-    /// execution fits every memory again, since the next poll begins anew (`err`, `grown`).
-    pub fn poll(
-        &mut self,
-        alloc: Global,
-        plan: &Plan,
-        memory: &Memory,
-        wants: &mut Wants,
-    ) -> Result<Poll<ExecutionResult>, AllocError>
-        requires { CanExecute (length (plan_of plan.now).bindings.loaders) memory.now wants.old }
-        ensures ok { FitsMemory (plan_of plan.now) self.old memory.now → IfOk result (λ polled.
-            IsEvaluated wants.old wants.new (plan_program (plan_of plan.now)) memory.now polled) }
-        ensures err { FitsMemory (plan_of plan.now) self.old memory.now → OnErr result
-            (AddsPart wants.old wants.new (missing_over memory.now (plan_program (plan_of plan.now)))) }
-        ensures grown { (m : MemoryOf) → FitsMemory (plan_of plan.now) self.old memory.now
-            → GrowsTo memory.now m → FitsMemory (plan_of plan.now) self.new m }
-    {
-        let walk = Walk {
-            alloc,
-            plan,
-            memory,
-            most: self.most,
-        };
-        match advance(&walk, NO_LIMIT, &mut self.stopped, wants)? {
-            Some(walked) => Ok(Poll::Ready(build_response(&walk, walked.rooted)?)),
+        match advance(&walk, most.unwrap_or(NO_LIMIT), &mut self.stopped, wants)? {
+            Some(walked) => Ok(Poll::Ready(whole_text(&walk, walked, most)?)),
             None => Ok(Poll::Pending),
         }
     }

@@ -2,7 +2,8 @@
 
 ghost use Rattle.std.specs.Prelude.{◌≤◌, IfOk, length};
 ghost use Rattle.gq_check.specs.Plans.{plan_of};
-ghost use Rattle.gq_resolve.specs.WorkLeft.{plan_work, IsLeft, IsLeftOf};
+ghost use Rattle.execution.specs.Work.{IsLeft};
+ghost use Rattle.gq_resolve.specs.WorkLeft.{plan_work, IsLeftOf};
 
 use crate::advance::{go_over, prepare_root};
 use crate::most_groups::most_groups_of;
@@ -14,15 +15,15 @@ use plan_walk::sink::Sink;
 use plan_walk::walk::Walk;
 use std::alloc::{AllocError, Global};
 
-/// What the positions that a walk completes leave of a limit. It is full once there was one too many.
+/// What the positions of a walk leave of a limit. It is full once there was one too many.
 #[derive(Drop)]
 pub struct WorkLeft {
     left: Option<usize>,
 }
 
 impl WorkLeft {
-    // A position is completed.
-    fn complete(&mut self)
+    // There is one more position.
+    fn count(&mut self)
         ensures { IsLeftOf self.old.left 1 self.new.left }
     {
         self.left = match self.left {
@@ -52,7 +53,7 @@ impl Sink for WorkLeft {
     ghost narrow = { λ v w n ps a b le same below held h. h };
 
     fn begin(&mut self, _kind: PositionKind) -> Result<(), AllocError> {
-        self.complete();
+        self.count();
         Ok(())
     }
 
@@ -73,12 +74,12 @@ impl Sink for WorkLeft {
         _leaf_value: &LeafValue,
         _nullability: Nullability,
     ) -> Result<(), AllocError> {
-        self.complete();
+        self.count();
         Ok(())
     }
 
     fn cell(&mut self, _leaf: Leaf<'_>, _nullability: Nullability) -> Result<(), AllocError> {
-        self.complete();
+        self.count();
         Ok(())
     }
 
@@ -86,13 +87,13 @@ impl Sink for WorkLeft {
         0
     }
 
-    // A position that waits isn't completed.
     fn wait(
         &mut self,
         _onward: Onward,
         _loader: usize,
         _key: KeyRef<'_>,
     ) -> Result<(), AllocError> {
+        self.count();
         Ok(())
     }
 
@@ -102,11 +103,10 @@ impl Sink for WorkLeft {
 }
 
 /// Returns what the work of a plan over a memory leaves of `most`, or `None` where it is more. The work is the number of leaves, nulls,
-/// objects and lists that execution completes, also of those that a null below them makes null. A load that the memory doesn't have is none,
-/// so over a memory with more the work is at least this.
+/// objects and lists that execution completes, also of those that a null below them makes null, and of the positions that wait for a load. So
+/// over a memory with more the work is at least this.
 ///
-/// It ends at the first of them that is one too many, however long the answer is. A position that waits for its load counts nothing, and takes
-/// time all the same.
+/// It ends at the first of them that is one too many, however long the answer is.
 ///
 /// # Errors
 ///

@@ -7,6 +7,7 @@
 //! [`accepts`] and [`coerce`] say what a literal is at a type.
 #![tactic(auto)]
 
+mod built_in;
 mod check;
 mod coercion;
 mod entries;

@@ -1,13 +1,15 @@
 //! Schemas, and what they say of names.
 
-ghost use Rattle.std.specs.Prelude.{◌≡◌, IfOk, IfSome, map, is_some, unwrap_or, string_bytes};
+ghost use Rattle.std.specs.Prelude.{◌≡◌, ◌∷◌, [], IfOk, IfSome, map, is_some, unwrap_or, string_bytes};
 ghost use Rattle.gq_schema.specs.Entries.{entry_in};
 ghost use Rattle.gq_schema.specs.Indexes.{definition_in};
 ghost use Rattle.std.specs.Option.{option_map, option_copied};
-ghost use Rattle.schema_syntax.specs.Tree.{field_of, fields_of, definition_of};
+ghost use Rattle.schema_syntax.specs.Tree.{arguments_of, field_of, fields_of, definition_of};
 ghost use Rattle.gq_parser.specs.Tree.{type_of};
+ghost use Rattle.gq_schema.specs.Schemas.{condition_argument};
 ghost use Rattle.gq_schema.specs.Types.{tree_of, declared_root, query, root_in, type_in, kind_in, fields_in, field_in, has_value, can_be, possible_in, is_covariant};
 
+use crate::built_in::condition_arguments;
 use crate::entries::{TypeEntry, entry_of, field_entries};
 use crate::found::{FoundField, FoundType};
 use crate::index::{IndexedDefinition, NameIndices, index};
@@ -16,7 +18,7 @@ use crate::names::own_fields;
 use crate::possible::{Possible, possible_in};
 use crate::types::{declared_root, definition, kind, type_places};
 use gq_parser::TypeRef;
-use schema_syntax::{FieldDefinition as FieldDef, SchemaDocument};
+use schema_syntax::{ArgumentDefinition as ArgDef, FieldDefinition as FieldDef, SchemaDocument};
 use std::alloc::{AllocError, Global};
 use std::marker::Model;
 
@@ -31,6 +33,8 @@ pub struct Schema {
     // what the root is, and what the types of each definition's fields are
     root_entry: TypeEntry,
     field_entries: Vec<Vec<TypeEntry>>,
+    // the arguments of `skip` and of `include`
+    condition: Vec<ArgDef>,
 }
 
 impl Model for Schema {
@@ -50,7 +54,7 @@ impl Model for Schema {
     ghost view = { λ s. map definition_in s.definitions.items };
 
     ghost invariant = { λ s. IsIndexed s.definitions.items s.root s.types s.possible
-        s.root_entry s.field_entries.items };
+        s.root_entry s.field_entries.items s.condition.items };
 }
 
 impl Drop for Schema {
@@ -62,6 +66,7 @@ impl Drop for Schema {
             possible: _possible,
             root_entry: _root_entry,
             field_entries: _field_entries,
+            condition: _condition,
         } = self;
     }
 }
@@ -89,6 +94,7 @@ impl Schema {
         let possible = possible_in(alloc, &definitions)?;
         let root_entry = entry_of(&definitions, &types, root_name(&root));
         let field_entries = field_entries(alloc, &definitions, &types)?;
+        let condition = condition_arguments(alloc)?;
         Ok(Schema {
             definitions,
             root,
@@ -96,6 +102,7 @@ impl Schema {
             possible,
             root_entry,
             field_entries,
+            condition,
         })
     }
 
@@ -104,6 +111,14 @@ impl Schema {
         ensures { map definition_in result.now ≡ self.now }
     {
         &self.definitions
+    }
+
+    /// The arguments of `skip` and of `include`, the directives of every schema. Their places say nothing.
+    pub fn condition_arguments(&self) -> &[ArgDef]
+        ensures { arguments_of result.now
+            ≡ condition_argument ∷ [] }
+    {
+        &self.condition
     }
 
     /// Tells whether there is a `schema`.

@@ -9,12 +9,9 @@ use Rattle.load_memory.specs.Keys.{KeyOf}
 use Rattle.load_memory.specs.Outcomes.{item_of}
 use Rattle.load_memory.specs.declared.outcome.Item.{Item}
 use Rattle.load_queue.specs.Orders.{CutOf, OrderOf, asks}
-use Rattle.plan_requests.specs.Servers.{ServerOf}
 use Rattle.rounds_by_hand.specs.Pending.{order_in}
-use Rattle.rounds_by_hand.specs.declared.handed_in.HandedIn.{HandedIn}
 use Rattle.rounds_by_hand.specs.declared.pending.Pending.TheVariants.{Out}
-use Rattle.server.specs.Clients.{ClientOf}
-use Rattle.host_clients.specs.Clients.{KeepsOrStops, StopsAt, TakesAnswerTo, TakesReply, client_in, orders_in, pending_of}
+use Rattle.host_clients.specs.Clients.{KeepsOrStops, StopsAt, TakesReplyTo, TakesReply, client_in, orders_in, pending_of}
 use Rattle.host_clients.specs.Keyed.{KeyedRowsFault, OfOrder, TakesKeyed, keyed_refusal, of_order, of_rows}
 use Rattle.host_clients.specs.Lines.{by_at, keyed_by}
 use Rattle.host_clients.specs.Refused.{OrderFault}
@@ -23,44 +20,31 @@ use Rattle.host_clients.specs.declared.fault.Fault.{Fault}
 use Rattle.host_clients.specs.declared.fault.Fault.TheVariants as fault
 use Rattle.host_clients.specs.declared.keyed.KeyedRefusal.{KeyedRefusal}
 use Rattle.host_clients.specs.declared.keyed.KeyedRefusal.TheVariants.{Refused}
-use Rattle.host_clients.proofs.Refusals.{orders-of}
 
 -- ---- the order that waits
 
--- what is so of the order's keys, and of its loader's line
-pub of-waiting : (client : HostClient) (number : ℕ) (server : ServerOf) (order : CutOf) → MatchOption (client_in client) ⊥ (λ (c : ClientOf HandedIn). c.server ≡ server)
-    → slice_get (pending_of client) number ≡ Some (Out order) → (P : ByOf → List KeyOf → Type 0) → P (keyed_by (by_at server order.loader)) order.keys → OfOrder client number P
-of-waiting client number server order is-server at P holds = go (client_in client) is-server where
-  there : slice_get (orders_in client) number ≡ Some (asks order)
-  there = ap (λ os. slice_get os number) (orders-of client) ∙ slice_get-map order_in (pending_of client) number ∙ ap (option_map order_in) at
+module _ (client : HostClient) (number : ℕ) where
+  -- what is so of the order's keys, and of its loader's line
+  of-waiting : (order : CutOf) → slice_get (pending_of client) number ≡ Some (Out order) → (P : ByOf → List KeyOf → Type 0) → P (keyed_by (by_at (client_in client).server order.loader)) order.keys → OfOrder client number P
+  of-waiting order at P holds =
+      let there : slice_get (map order_in (pending_of client)) number ≡ Some (asks order) = slice_get-map order_in (pending_of client) number ∙ ap (option_map order_in) at in rw there holds
 
-  go : (o : Option (ClientOf HandedIn)) → MatchOption o ⊥ (λ (c : ClientOf HandedIn). c.server ≡ server)
-      → MatchOption o ⊥ (λ (c : ClientOf HandedIn). MatchOption (slice_get (orders_in client) number) ⊥ (λ (o : OrderOf). P (keyed_by (by_at c.server o.loader)) o.keys))
-  go None is = is
-  go (Some c) is = rw (there, is) holds
+  -- says the same of the keys as they are read, and of the columns as they are found
+  pub of-read : (order : CutOf) → slice_get (pending_of client) number ≡ Some (Out order) → (by : ByOf) → by ≡ keyed_by (by_at (client_in client).server order.loader) → (keys : List KeyOf) → keys ≡ order.keys
+      → (P : ByOf → List KeyOf → Type 0) → P by keys → OfOrder client number P
+  of-read order at by by-is keys keys-are P holds = of-waiting order at P (subst (λ (b : ByOf). P b order.keys) by-is (subst (P by) keys-are holds))
 
--- says the same of the keys as they are read, and of the columns as they are found
-pub of-read : (client : HostClient) (number : ℕ) (server : ServerOf) (order : CutOf) → MatchOption (client_in client) ⊥ (λ (c : ClientOf HandedIn). c.server ≡ server)
-    → slice_get (pending_of client) number ≡ Some (Out order) → (by : ByOf) → by ≡ keyed_by (by_at server order.loader) → (keys : List KeyOf) → keys ≡ order.keys
-    → (P : ByOf → List KeyOf → Type 0) → P by keys → OfOrder client number P
-of-read client number server order is-server at by by-is keys keys-are P holds =
-    of-waiting client number server order is-server at P (subst (λ (b : ByOf). P b order.keys) by-is (subst (P by) keys-are holds))
+  of-both : (P Q R : ByOf → List KeyOf → Type 0) → ((by : ByOf) (keys : List KeyOf) → P by keys → Q by keys → R by keys) → OfOrder client number P → OfOrder client number Q → OfOrder client number R
+  of-both P Q R both = go (slice_get (orders_in client) number) where
+    Holds : (ByOf → List KeyOf → Type 0) → Option OrderOf → Type 0
+    Holds X o = MatchOption o ⊥ (λ (o : OrderOf). X (keyed_by (by_at (client_in client).server o.loader)) o.keys)
 
-of-both : (client : HostClient) (number : ℕ) (P Q R : ByOf → List KeyOf → Type 0) → ((by : ByOf) (keys : List KeyOf) → P by keys → Q by keys → R by keys) → OfOrder client number P → OfOrder client number Q → OfOrder client number R
-of-both client number P Q R both = go (client_in client) where
-  at : (server : ServerOf) (o : Option OrderOf) → MatchOption o ⊥ (λ (o : OrderOf). P (keyed_by (by_at server o.loader)) o.keys) → MatchOption o ⊥ (λ (o : OrderOf). Q (keyed_by (by_at server o.loader)) o.keys)
-      → MatchOption o ⊥ (λ (o : OrderOf). R (keyed_by (by_at server o.loader)) o.keys)
-  at server None p q = p
-  at server (Some o) p q = both (keyed_by (by_at server o.loader)) o.keys p q
-
-  go : (o : Option (ClientOf HandedIn)) → MatchOption o ⊥ (λ (c : ClientOf HandedIn). MatchOption (slice_get (orders_in client) number) ⊥ (λ (o : OrderOf). P (keyed_by (by_at c.server o.loader)) o.keys))
-      → MatchOption o ⊥ (λ (c : ClientOf HandedIn). MatchOption (slice_get (orders_in client) number) ⊥ (λ (o : OrderOf). Q (keyed_by (by_at c.server o.loader)) o.keys))
-      → MatchOption o ⊥ (λ (c : ClientOf HandedIn). MatchOption (slice_get (orders_in client) number) ⊥ (λ (o : OrderOf). R (keyed_by (by_at c.server o.loader)) o.keys))
-  go None p q = p
-  go (Some c) p q = at c.server (slice_get (orders_in client) number) p q
+    go : (o : Option OrderOf) → Holds P o → Holds Q o → Holds R o
+    go None p q = p
+    go (Some o) p q = both (keyed_by (by_at (client_in client).server o.loader)) o.keys p q
 
 pub taken-by-key : (number : ℕ) (r : LaidRows) (old new : HostClient) (items : Vec Item) → OfOrder old number (λ by keys. map item_of items.items ≡ replied_items by keys r)
-    → OfOrder old number (λ by keys. IsKeyedReply by keys r) → TakesAnswerTo number (Ok items) old new → TakesKeyed number r old new
+    → OfOrder old number (λ by keys. IsKeyedReply by keys r) → TakesReplyTo number (Ok items) old new → TakesKeyed number r old new
 taken-by-key number r old new items are taken takes =
     of-both old number (λ by keys. map item_of items.items ≡ replied_items by keys r) (λ by keys. IsKeyedReply by keys r)
     (λ by keys. IsKeyedReply by keys r × TakesReply number (replied_items by keys r) old new)

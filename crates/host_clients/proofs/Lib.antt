@@ -2,12 +2,9 @@ pub mod Lines
 pub mod Lists
 pub mod NewLoaders
 pub mod Asking
-pub mod Beginning
 pub mod Underway
-pub mod Loadings
 pub mod ReadKeys
 pub mod LaidKeys
 pub mod Replies
-pub mod Refusals
 pub mod ByKey
 pub mod Crossing

@@ -35,9 +35,6 @@ abbrev pub SoFar : List ℕ → List ℕ → List LoaderLine → ℕ → List (L
 SoFar limits left lines i done = (more : List (LoaderOf HandedIn)) → AreNewLoaders handed_in left (map loader_of (drop i lines)) more
     → AreNewLoaders handed_in limits (map loader_of lines) (done ++ more)
 
-pub so-none : (limits : List ℕ) (lines : List LoaderLine) → SoFar limits limits lines 0 []
-so-none limits lines = λ more are. are
-
 pub so-next : (limits left rest : List ℕ) (lines : List LoaderLine) (i : ℕ) (line : LoaderLine) → i < length lines → line ≡ get_or lines i line → (done : List (LoaderOf HandedIn))
     (loader : LoaderOf HandedIn) → SoFar limits left lines i done → loader ≡ new_loader loader.identity (limit_at left) (loader_of line) handed_in → rest ≡ limits_after left
     → SoFar limits rest lines (i + 1) (done ++ loader ∷ [])

@@ -1,12 +1,8 @@
 -- Keys that are read one after another.
-use Rattle.std.proofs.Common.{◌≡◌, ◌∙◌, ◌<◌, ◌≤◌, ◌+◌, ◌++◌, ℕ, List, [], ◌∷◌, get_or, take, drop, length, refl, sym, ap}
+use Rattle.std.proofs.Common.{◌≡◌, ◌∙◌, ◌<◌, ◌≤◌, ◌+◌, ◌++◌, ℕ, List, [], ◌∷◌, get_or, take, drop, length, sym, ap}
 use Rattle.std.proofs.lemmas.List.{append_assoc, append-nil, drop_more, drop_all, drop-drop}
-use Rattle.load_memory.specs.Keys.{KeyOf, text, pair}
+use Rattle.load_memory.specs.Keys.{KeyOf}
 use Rattle.flat_orders.specs.Written.{key_said, keys_said}
-use Rattle.flat_rows.specs.declared.fault.FlatFault.{FlatFault}
-use Rattle.flat_rows.specs.declared.fault.FlatFault.TheVariants as flat
-use Rattle.host_clients.specs.AskedKeys.{IsKeyFault}
-use Rattle.host_clients.specs.Faults.{flat_fault}
 
 -- says what is said of the shapes and texts that are left is, after the keys that were read, what
 -- all say
@@ -25,20 +21,3 @@ module _ (shapes : List ℕ) (texts : List (List ℕ)) where
   pub so-all : (i at : ℕ) → length shapes ≤ i → (read : List KeyOf) → SoFar shapes texts i at read → read ≡ keys_said shapes texts
   unfolding keys_said
   so-all i at past read so = sym (ap (λ ss. read ++ keys_said ss (drop at texts)) (drop_all i shapes past) ∙ append-nil read) ∙ so
-
-module _ (texts : List (List ℕ)) (at : ℕ) where
-  pub said-one : at < length texts → key_said (take 1 (drop at texts)) ≡ text (get_or texts at [])
-  said-one lt = rw (drop_more texts at [] lt) refl
-
-  pub said-two : at < length texts → at + 1 < length texts → key_said (take 2 (drop at texts)) ≡ pair (get_or texts at []) (get_or texts (at + 1) [])
-  said-two lt next = rw (drop_more texts at [] lt, drop_more texts (at + 1) [] next) refl
-
--- a fault of flat texts says nothing of the client
-pub flat-of-keys : (e : FlatFault) → IsKeyFault (flat_fault e)
-flat-of-keys flat.NotUtf8 = (λ is. cc, λ is. cc)
-flat-of-keys flat.BadEnds = (λ is. cc, λ is. cc)
-flat-of-keys flat.TooFewTexts = (λ is. cc, λ is. cc)
-flat-of-keys flat.TextsLeft = (λ is. cc, λ is. cc)
-flat-of-keys flat.NoColumn = (λ is. cc, λ is. cc)
-flat-of-keys flat.TooManyRows = (λ is. cc, λ is. cc)
-flat-of-keys flat.NoMemory = (λ is. cc, λ is. cc)

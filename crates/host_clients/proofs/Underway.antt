@@ -1,118 +1,139 @@
--- Lemmas on what is on its way to the answer, after a call of what is done by hand.
-use Rattle.std.proofs.Common.{◌≡◌, ◌∙◌, ℕ, zero, suc, List, [], ◌∷◌, map, refl, sym, ap, subst, string_bytes, Ok, Err, Some}
-use Rattle.std.specs.Prelude.{Result, Option, IfSome, slice_get}
+-- Lemmas on what is on its way, after a call of what is done by hand.
+use Rattle.std.proofs.Common.{◌≡◌, ◌≤◌, ◌∙◌, length, ℕ, zero, suc, List, [], ◌∷◌, map, refl, sym, ap, subst, string_bytes, Ok, Err, Some}
+use Rattle.std.specs.Prelude.{◌⊎◌, ◌↔◌, true, Result, IfSome, OnOk, OnErr, slice_get}
+use Rattle.std.proofs.Math.Nat.{lt_of_not-le}
+use Rattle.std.proofs.lemmas.Bool.{false_from_ne_true}
 use Rattle.std.specs.List.{slice_set}
 use Rattle.std.specs.Global.{Vec}
 use Rattle.load_memory.specs.Keys.{KeyOf}
+use Rattle.load_memory.specs.Outcomes.{OutcomeOf, outcome_of}
 use Rattle.load_memory.specs.declared.outcome.Item.{Item}
+use Rattle.load_memory.specs.declared.outcome.Outcome.{Outcome}
 use Rattle.load_queue.specs.Fetched.{Fetched}
 use Rattle.load_queue.specs.Loaders.{LoaderOf}
 use Rattle.load_queue.specs.Orders.{OrderOf}
 use Rattle.load_queue.specs.declared.source.FetchFault.{FetchFault}
 use Rattle.load_queue.specs.declared.source.FetchFault.TheVariants.{Failed, NoMemory}
-use Rattle.load_rounds.specs.Histories.{any_tell}
+use Rattle.load_rounds.specs.Histories.{StoppedLoading, any_tell}
+use Rattle.load_rounds.specs.Reading.{KeysOf}
+use Rattle.load_rounds.specs.Sessions.{SessionOf}
+use Rattle.load_rounds.specs.SharedRounds.{report_of}
 use Rattle.load_rounds.specs.declared.answer.Answer.{Answer}
-use Rattle.rounds_by_hand.specs.Hands.{handed, pending_in, IsNewRound, IsOver}
-use Rattle.rounds_by_hand.specs.Pending.{MayAnswer, TakesAnswer, order_in}
+use Rattle.plan_requests.specs.Servers.{ServerOf}
+use Rattle.rounds_by_hand.specs.Hands.{FarOf, can_advance, handed, pending_in}
+use Rattle.rounds_by_hand.specs.Pending.{MayReply, TakesReply, RefusesReply, is_in_at, order_in}
+use Rattle.rounds_by_hand.specs.declared.fault.TakeFault.{TakeFault}
+use Rattle.rounds_by_hand.specs.declared.fault.TakeFault.TheVariants as take
+use Rattle.rounds_by_hand.specs.declared.handed_in.HandedIn.{HandedIn}
 use Rattle.rounds_by_hand.specs.declared.pending.Pending.{Pending}
 use Rattle.rounds_by_hand.specs.declared.pending.Pending.TheVariants.{In, Out}
-use Rattle.plan_requests.specs.Servers.{ServerOf}
-use Rattle.server.specs.Clients.{ClientOf, IsSameClient, client_of}
-use Rattle.server.specs.Hands.{ByHandOf, by_hand_of, IsUnderway, GoesOn, GoesOnIfMay, GivesUp, Responds, StoresReplies}
+use Rattle.rounds_by_hand.specs.declared.progress.Progress.TheVariants.{Done}
+use Rattle.server.specs.Clients.{ClientOf, IsClientCall, IsSameClient, client_of}
+use Rattle.server.specs.Hands.{ByHandOf, GivesUp, GoesOn, IsUnderway, Responds, StoresReplies, by_hand_of}
+use Rattle.server.specs.LoadsByHand.{LoadByHandOf, ClientLoads, ClientStopsLoad, ClientStores, LoadGoesOn, load_by_hand_of}
 use Rattle.server.specs.Planned.{PlannedOf, PlansAsked}
-use Rattle.load_rounds.specs.SharedRounds.{report_of}
-use Rattle.server.specs.declared.by_hand.ClientAdvance.TheVariants as step
-use Rattle.rounds_by_hand.specs.declared.handed_in.HandedIn.{HandedIn}
 use Rattle.host_clients.specs.Asked.{HostAsked, PlansHost, AnswersHost}
-use Rattle.host_clients.specs.Clients.{AnswersIt, Cancels, GoesOnWith, IsBegunWith, IsStopFault, IsStopped, MakesRound, Stops, StopsIt, Takes, WaitsAt}
+use Rattle.host_clients.specs.Clients.{GoesOnWith, IsBegunWith, IsGivenUp, IsSameWork, IsStopped, Takes, WaitsAt, client_in, orders_after, pending_of}
+use Rattle.host_clients.specs.Loads.{AreOutcomesOf, HoldsLoading, load_orders}
+use Rattle.host_clients.specs.UnderWay.{HoldsUnderWay, HoldsWork, IsAnswerOf, UnderWayOf, orders_out}
 use Rattle.host_clients.specs.declared.client.HostClient.{HostClient}
-use Rattle.host_clients.specs.declared.client.HostClient.TheVariants.{Idle, Asked, Answered, Loading, Loaded, Moved}
-use Rattle.host_clients.specs.declared.fault.Fault.{Fault}
-use Rattle.host_clients.specs.UnderWay.{UnderWayOf, IsOf, IsAnswerOf, HoldsUnderWay, orders_out}
+use Rattle.host_clients.specs.declared.client.HostClient.TheVariants.{Idle, Asked, Answered, Loading, Loaded}
 
--- a request is begun
-pub holds-begun : (hand : ByHandOf HandedIn) (c : ClientOf HandedIn) (server was : ServerOf) (planned : PlannedOf) (asked : HostAsked) (orders : List OrderOf) → hand ≡ by_hand_of c planned handed
-    → server ≡ was → PlansHost was c.most asked planned → orders ≡ [] → HoldsUnderWay server hand asked orders
-holds-begun hand c server was planned asked orders is same plans none = rw (is, same, none) (record {
-  is_of = record { begun = client_of was c.most c.session; of_server = refl; underway = refl; planned = plans };
-  orders_are = refl;
-})
-
-pub begun-with : (hand : ByHandOf HandedIn) (c : ClientOf HandedIn) (server was : ServerOf) (planned : PlannedOf) (asked : HostAsked) → hand ≡ by_hand_of c planned handed → server ≡ was → PlansHost was c.most asked planned
-    → (hand.client ≡ c) × IsBegunWith was asked (record { hand = hand; server = server; asked = asked })
-begun-with hand c server was planned asked is same plans = rw (is, same) (refl, record { server_is = refl; asked_is = refl; planned = plans; far = refl })
-
-plans-same : (s : ServerOf) (most : Option ℕ) (asked : HostAsked) (old new : PlannedOf) → new ≡ old → PlansHost s most asked old → PlansHost s most asked new
-plans-same s most asked old new e plans = subst (PlansHost s most asked) (sym e) plans
-
-module _ (old new : ByHandOf HandedIn) (goes : GoesOn any_tell old new) (same : new.planned ≡ old.planned) where
-  pub is-of-after : (server : ServerOf) (asked : HostAsked) → IsOf server old asked → IsOf server new asked
-  is-of-after server asked of = record {
-    begun = of.begun;
-    of_server = of.of_server;
-    underway = goes of.begun.session of.underway;
-    planned = plans-same of.begun.server of.begun.most asked old.planned new.planned same of.planned;
+-- what holds of what is on its way holds after a call that goes on with it, of the orders that are out then
+module _ {P E : Type 0} {gone goes : SessionOf HandedIn → Type 0} {planned plans : ClientOf HandedIn → Type 0} where
+  pub holds-after : (server later : ServerOf) (old new : FarOf P E) (before orders : List OrderOf) → later ≡ server → ((s : SessionOf HandedIn) → gone s → goes s)
+      → ((c : ClientOf HandedIn) → planned c → plans c) → orders ≡ map order_in (pending_in new) → HoldsWork server old gone planned before → HoldsWork later new goes plans orders
+  holds-after server later old new before orders same underway is are h = record {
+    begun = h.begun;
+    of_server = h.of_server ∙ sym same;
+    underway = underway h.begun.session h.underway;
+    planned = is h.begun h.planned;
+    orders_are = are;
   }
 
-  pub gives-up-before : (c : ClientOf HandedIn) → GivesUp any_tell new c → GivesUp any_tell old c
-  gives-up-before c gives = λ begun asked underway plans. gives begun asked (goes begun.session underway) (subst (PlansAsked begun asked) (sym same) plans)
+pub holds-under-way : (server : ServerOf) (old new : ByHandOf HandedIn) (asked : HostAsked) (before orders : List OrderOf) → GoesOn any_tell old new → new.planned ≡ old.planned → orders ≡ orders_out new
+    → HoldsUnderWay server old asked before → HoldsUnderWay server new asked orders
+holds-under-way server old new asked before orders goes same are h =
+    holds-after server server old.far new.far before orders refl goes (λ c plans. subst (PlansHost c.server c.most asked) (sym same) plans) are h
+
+pub holds-loading : (old new : LoadByHandOf HandedIn) (before orders : List OrderOf) → LoadGoesOn any_tell old new → IsSameClient old.client new.client → orders ≡ load_orders new
+    → HoldsLoading old before → HoldsLoading new orders
+holds-loading old new before orders goes same are h = holds-after old.client.server new.client.server old.far new.far before orders same.server goes (λ c is. is) are h
+
+-- what holds of what is begun
+pub holds-begun : (hand : ByHandOf HandedIn) (c : ClientOf HandedIn) (server : ServerOf) (planned : PlannedOf) (asked : HostAsked) (orders : List OrderOf) → hand ≡ by_hand_of c planned handed
+    → orders ≡ [] → PlansHost server c.most asked planned → HoldsUnderWay server hand asked orders
+holds-begun hand c server planned asked orders is none plans = rw (is, none) (record { begun = client_of server c.most c.session; of_server = refl; underway = refl; planned = plans; orders_are = refl })
+
+pub holds-load-begun : (hand : LoadByHandOf HandedIn) (c : ClientOf HandedIn) (keys : KeysOf) (orders : List OrderOf) → hand ≡ load_by_hand_of c keys handed → orders ≡ [] → HoldsLoading hand orders
+holds-load-begun hand c keys orders is none = rw (is, none) (record { begun = c; of_server = refl; underway = refl; planned = tt; orders_are = refl })
+
+pub begun-with : (hand : ByHandOf HandedIn) (c : ClientOf HandedIn) (server : ServerOf) (planned : PlannedOf) (asked : HostAsked) → hand ≡ by_hand_of c planned handed
+    → PlansHost server c.most asked planned → IsBegunWith server asked (record { hand = hand; server = server; asked = asked })
+begun-with hand c server planned asked is plans = rw is (record { server_is = refl; asked_is = refl; planned = plans; far = refl })
 
 -- an answer of what is under way answers what was asked
-pub answers-host : (old new : ByHandOf HandedIn) (answer : Answer) → Responds any_tell old new (step.Answered answer) → (c : ClientOf HandedIn) (asked : HostAsked)
+pub answers-host : (old new : ByHandOf HandedIn) (answer : Answer) → Responds any_tell old new (Done answer) → (c : ClientOf HandedIn) (asked : HostAsked)
     → IsUnderway any_tell c.session old → PlansHost c.server c.most asked old.planned → AnswersHost any_tell c asked (report_of answer) new.client.session
 answers-host old new answer responds c asked underway plans = record { asked = plans.asked; asks = plans.asks; answers = responds c plans.asked underway plans.plans }
 
-pub answer-of : (server : ServerOf) (old new : ByHandOf HandedIn) (asked : HostAsked) (answer : Answer) → IsOf server old asked
-    → Responds any_tell old new (step.Answered answer) → IsAnswerOf server asked (string_bytes answer.text) answer.rounds
-answer-of server old new asked answer of responds = record {
-  begun = of.begun;
+pub answer-of : (server : ServerOf) (old new : ByHandOf HandedIn) (asked : HostAsked) (orders : List OrderOf) (answer : Answer) → HoldsUnderWay server old asked orders
+    → Responds any_tell old new (Done answer) → IsAnswerOf server asked (string_bytes answer.text) answer.rounds
+answer-of server old new asked orders answer h responds = record {
+  begun = h.begun;
   later = new.client.session;
-  of_server = of.of_server;
-  answers = answers-host old new answer responds of.begun asked of.underway of.planned;
+  of_server = h.of_server;
+  answers = answers-host old new answer responds h.begun asked h.underway h.planned;
 }
 
--- a call on what is done by hand, and what it gives
-module _ (u : UnderWayOf) (new : ByHandOf HandedIn) (client : IsSameClient u.hand.client new.client) (c : ClientOf HandedIn) (is : c ≡ new.client) where
-  same-client : IsSameClient u.hand.client c
-  same-client = subst (IsSameClient u.hand.client) (sym is) client
+-- outcomes of what is loaded are those of its keys
+pub outcomes-of : (old new : LoadByHandOf HandedIn) (orders : List OrderOf) (outcomes : Vec Outcome) → HoldsLoading old orders → ClientLoads any_tell old new (Done outcomes) → (server : ServerOf) → server ≡ old.client.server
+    → (asked : KeysOf) → asked ≡ old.keys → (flat : List OutcomeOf) → flat ≡ map outcome_of outcomes.items → AreOutcomesOf server asked flat
+outcomes-of old new orders outcomes h loads server is asked asks flat are =
+    rw (is, asks, are) (record { begun = h.begun; later = new.client; of_server = h.of_server; loads = loads h.begun h.underway })
 
-  pub answers-it : (answer : Answer) → Responds any_tell u.hand new (step.Answered answer) → StoresReplies u.hand new.client
-      → AnswersIt u (record { client = c; server = u.server; asked = u.asked; text = string_bytes answer.text; rounds = answer.rounds })
-  answers-it answer responds stored = record {
-    server_is = refl;
-    asked_is = refl;
-    same = same-client;
-    stored = subst (StoresReplies u.hand) (sym is) stored;
-    answers = λ d underway plans. subst (λ (x : ClientOf HandedIn). AnswersHost any_tell d u.asked (report_of answer) x.session) (sym is)
-        (answers-host u.hand new answer responds d u.asked underway plans);
-  }
+-- ---- what a call makes of it, which leaves this client
 
-  pub stops-it : GoesOn any_tell u.hand new → new.planned ≡ u.hand.planned → GivesUp any_tell new c → StopsIt u c
-  stops-it goes same gives = record { same = same-client; stops = gives-up-before u.hand new goes same c gives }
+pub given-up : (u : UnderWayOf) (c : ClientOf HandedIn) → c ≡ u.hand.client → GivesUp any_tell u.hand c → IsGivenUp (Asked u) (Idle c)
+given-up u c is gives = (rw is (record { server = refl; most = refl }), gives)
 
-pub makes-round : (u : UnderWayOf) (new : ByHandOf HandedIn) → IsSameClient u.hand.client new.client → GoesOn any_tell u.hand new → new.planned ≡ u.hand.planned → StoresReplies u.hand new.client → IsNewRound new.far
-    → MakesRound u (record { hand = new; server = u.server; asked = u.asked })
-makes-round u new client goes same stored round = record { server_is = refl; asked_is = refl; planned_is = same; same = client; goes_on = goes; stored = stored; round = round }
+pub given-up-load : (l : LoadByHandOf HandedIn) (c : ClientOf HandedIn) → c ≡ l.client → ClientStopsLoad any_tell l c → IsGivenUp (Loading l) (Idle c)
+given-up-load l c is stops = (rw is (record { server = refl; most = refl }), stops)
 
-pub holds-after : (server : ServerOf) (old new : ByHandOf HandedIn) (asked : HostAsked) (orders : List OrderOf) → GoesOn any_tell old new → new.planned ≡ old.planned → IsOf server old asked
-    → orders ≡ orders_out new → HoldsUnderWay server new asked orders
-holds-after server old new asked orders goes same of are = record { is_of = is-of-after old new goes same server asked of; orders_are = are }
+module _ (u : UnderWayOf) (new : ByHandOf HandedIn) (same : IsSameClient u.hand.client new.client) (c : ClientOf HandedIn) (is : c ≡ new.client) where
+  pub answers-it : (answer : Answer) → StoresReplies u.hand new.client → Responds any_tell u.hand new (Done answer)
+      → GoesOnWith (Asked u) (Answered (record { client = c; server = u.server; asked = u.asked; text = string_bytes answer.text; rounds = answer.rounds })) (Ok (Done tt))
+  answers-it answer stored responds =
+      rw is (record { same = same; stored = stored }, record { server_is = refl; asked_is = refl; answers = λ d underway plans. answers-host u.hand new answer responds d u.asked underway plans })
 
--- the sources may answer anything
-fetched-any : (source : HandedIn) (keys : List KeyOf) (answer : Result (Vec Item) FetchFault) → Fetched (any_tell source keys) answer
+  pub gives-up : GoesOn any_tell u.hand new → new.planned ≡ u.hand.planned → GivesUp any_tell new c → IsGivenUp (Asked u) (Idle c)
+  gives-up goes planned gives = (
+    subst (IsSameClient u.hand.client) (sym is) same,
+    λ begun asked underway plans. gives begun asked (goes begun.session underway) (subst (PlansAsked begun asked) (sym planned) plans),
+  )
+
+module _ (l new : LoadByHandOf HandedIn) (keys : new.keys ≡ l.keys) (same : IsSameClient l.client new.client) (c : ClientOf HandedIn) (is : c ≡ new.client) where
+  pub loads-it : (outcomes : Vec Outcome) (asked : KeysOf) → asked ≡ l.keys → (flat : List OutcomeOf) → flat ≡ map outcome_of outcomes.items → can_advance l.far ≡ true → ClientStores l new.client
+      → ClientLoads any_tell l new (Done outcomes) → GoesOnWith (Loading l) (Loaded (record { client = c; asked = asked; outcomes = flat })) (Ok (Done tt))
+  loads-it outcomes asked asks flat are ready stored loads = rw (is, asks, are) (record { same = same; stored = stored }, record { ready = ready; asked_is = refl; loads = loads })
+
+  pub gives-up-load : LoadGoesOn any_tell l new → ClientStopsLoad any_tell new c → IsGivenUp (Loading l) (Idle c)
+  gives-up-load goes stops = (
+    subst (IsSameClient l.client) (sym is) same,
+    λ begun underway.
+        subst (λ (k : KeysOf). (c.session ≡ begun.session) ⊎ IsClientCall any_tell (StoppedLoading k.loader k.keys) begun c) keys (stops begun (goes begun.session underway)),
+  )
+
+-- ---- an order gets a reply
+
+-- the sources may give any
+fetched-any : (source : HandedIn) (keys : List KeyOf) (reply : Result (Vec Item) FetchFault) → Fetched (any_tell source keys) reply
 fetched-any source keys (Ok items) = tt
 fetched-any source keys (Err (Failed text)) = tt
 fetched-any source keys (Err NoMemory) = tt
 
-pub may-answer : (loaders : List (LoaderOf HandedIn)) (order : OrderOf) (answer : Result (Vec Item) FetchFault) → MayAnswer any_tell loaders order answer
-may-answer loaders order answer = λ asked is. fetched-any asked.source order.keys answer
-
--- an order that takes an answer goes on
-pub goes-on-with : (old new : ByHandOf HandedIn) (number : ℕ) (answer : Result (Vec Item) FetchFault) (one : Pending) → slice_get (pending_in old.far) number ≡ Some one
-    → IfSome (slice_get (pending_in old.far) number) (GoesOnIfMay any_tell answer old new) → GoesOn any_tell old new
-goes-on-with old new number answer one is goes = (rw is at goes) (may-answer old.client.session.loaders (order_in one) answer)
-
--- ---- an order takes an answer
+may-reply : (loaders : List (LoaderOf HandedIn)) (order : OrderOf) (reply : Result (Vec Item) FetchFault) → MayReply any_tell loaders order reply
+may-reply loaders order reply = λ asked is. fetched-any asked.source order.keys reply
 
 set-same : {X Y : Type 0} (f : X → Y) (xs : List X) (n : ℕ) (x y : X) → slice_get xs n ≡ Some x → f y ≡ f x → map f (slice_set xs n y) ≡ map f xs
 set-same f [] n x y is e = refl
@@ -120,73 +141,42 @@ set-same f (z ∷ zs) zero x y is e = let same : z ≡ x = cc in ap (λ w. w ∷
 set-same f (z ∷ zs) (suc n) x y is e = ap (λ ws. f z ∷ ws) (set-same f zs n x y is e)
 
 -- the orders stay the same
-pub orders-kept : (old new : List Pending) (number : ℕ) (answer : Result (Vec Item) FetchFault) → TakesAnswer old number answer new → map order_in new ≡ map order_in old
-orders-kept old new number answer t =
+orders-kept : (old new : List Pending) (number : ℕ) (reply : Result (Vec Item) FetchFault) → TakesReply old number reply new → map order_in new ≡ map order_in old
+orders-kept old new number reply t =
     let same : order_in (In t.reply) ≡ order_in (Out t.order) = rw (t.loader, t.keys) refl in
     ap (map order_in) t.put ∙ set-same order_in old number (Out t.order) (In t.reply) t.was same
 
-module _ (old new : ByHandOf HandedIn) (number : ℕ) (answer : Result (Vec Item) FetchFault) (takes : TakesAnswer (pending_in old.far) number answer (pending_in new.far))
-    (goes : IfSome (slice_get (pending_in old.far) number) (GoesOnIfMay any_tell answer old new)) (client : new.client ≡ old.client) (same : new.planned ≡ old.planned) where
-  pub goes-taken : GoesOn any_tell old new
-  goes-taken = goes-on-with old new number answer (Out takes.order) takes.was goes
+module _ (old new : List Pending) (number : ℕ) (reply : Result (Vec Item) FetchFault) where
+  -- it goes on, whatever the reply
+  pub goes-on : {Goes : Type 0} (loaders : List (LoaderOf HandedIn)) (r : Result (Unit {0}) TakeFault) → OnOk r (TakesReply old number reply new)
+      → OnOk r (IfSome (slice_get old number) (λ one. MayReply any_tell loaders (order_in one) reply → Goes)) → OnErr r Goes → Goes
+  goes-on loaders (Ok done) takes goes stops = (rw takes.was at goes) (may-reply loaders (order_in (Out takes.order)) reply)
+  goes-on loaders (Err e) takes goes stops = stops
 
-  pub holds-taken : (server : ServerOf) (asked : HostAsked) (orders : List OrderOf) → HoldsUnderWay server old asked orders → HoldsUnderWay server new asked orders
-  holds-taken server asked orders h = record {
-    is_of = is-of-after old new goes-taken same server asked h.is_of;
-    orders_are = h.orders_are ∙ sym (orders-kept _ _ number answer takes);
-  }
+  -- the orders are those of before, or none where memory ran out
+  pub orders-are : {H : Type 0} (was now : H) (IsOver : Type 0) (r : Result (Unit {0}) TakeFault) (orders : List OrderOf) → orders ≡ map order_in old → OnOk r (TakesReply old number reply new)
+      → RefusesReply old number was now IsOver r → (now ≡ was → new ≡ old) → (IsOver → new ≡ []) → orders_after r orders ≡ map order_in new
+  orders-are was now IsOver (Ok done) orders are takes refuses same over = are ∙ sym (orders-kept old new number reply takes)
+  orders-are was now IsOver (Err take.NoSuchOrder) orders are takes refuses same over = are ∙ ap (map order_in) (sym (same (refuses.none refl)))
+  orders-are was now IsOver (Err take.Replied) orders are takes refuses same over = are ∙ ap (map order_in) (sym (same (refuses.kept refl)))
+  orders-are was now IsOver (Err take.NoMemory) orders are takes refuses same over = ap (map order_in) (sym (over (refuses.over refl)))
 
-  pub takes-it : (server : ServerOf) (asked : HostAsked) → Takes number answer (record { hand = old; server = server; asked = asked }) (record { hand = new; server = server; asked = asked })
-  takes-it server asked = record { server_is = refl; asked_is = refl; planned_is = same; client_is = client; goes_on = goes-taken; takes = takes }
+-- an order waits at whose reply memory runs out
+pub waits-at : (pending : List Pending) (number : ℕ) (r : Result (Unit {0}) TakeFault) → r ≡ Err take.NoMemory → (r ≡ Err take.NoSuchOrder) ↔ (length pending ≤ number)
+    → (r ≡ Err take.Replied) ↔ (is_in_at (slice_get pending number) ≡ true) → WaitsAt number pending
+waits-at pending number r is none replied =
+    (lt_of_not-le (λ past. let e : r ≡ Err take.NoSuchOrder = none.1 past in cc), false_from_ne_true _ (λ there. let e : r ≡ Err take.Replied = replied.1 there in cc))
 
--- memory ran out at a reply
-pub stopped-at : (server : ServerOf) (old new : ByHandOf HandedIn) (number : ℕ) (asked : HostAsked) → GoesOn any_tell old new → new.client ≡ old.client → new.planned ≡ old.planned → WaitsAt number (pending_in old.far)
-    → IsOver new.far → Stops number (record { hand = old; server = server; asked = asked }) (record { hand = new; server = server; asked = asked })
-stopped-at server old new number asked goes client same waited over = record { server_is = refl; asked_is = refl; planned_is = same; client_is = client; goes_on = goes; waited = waited; is_over = over }
-
--- no orders are left where memory ran out
-pub holds-over : (server : ServerOf) (old new : ByHandOf HandedIn) (asked : HostAsked) (orders : List OrderOf) → GoesOn any_tell old new → new.planned ≡ old.planned → IsOver new.far
-    → orders ≡ [] → IsOf server old asked → HoldsUnderWay server new asked orders
-holds-over server old new asked orders goes same over none of = record {
-  is_of = is-of-after old new goes same server asked of;
-  orders_are = none ∙ sym (ap (λ far. map order_in (pending_in far)) over);
+-- what comes of a reply, of a request or of a load, by what is done by hand in it
+pub takes-it : {H O : Type 0} (client : H → HostClient) (was now : H) (number : ℕ) (reply : Result (Vec Item) FetchFault) (r : Result (Unit {0}) TakeFault)
+    → RefusesReply (pending_of (client was)) number was now O r → OnOk r (TakesReply (pending_of (client was)) number reply (pending_of (client now))) → IsSameWork (client was) (client now)
+    → client_in (client now) ≡ client_in (client was) → (O → IsStopped (client now)) → Takes number reply (client was) (client now) r
+takes-it client was now number reply (Ok done) refuses takes same is over = record { goes_on = same; client_is = is; takes = takes }
+takes-it client was now number reply (Err take.NoSuchOrder) refuses takes same is over = (ap client (refuses.none refl), refuses.no_order.0 refl)
+takes-it client was now number reply (Err take.Replied) refuses takes same is over = (ap client (refuses.kept refl), refuses.replied.0 refl)
+takes-it client was now number reply (Err take.NoMemory) refuses takes same is over = record {
+  goes_on = same;
+  client_is = is;
+  waited = waits-at (pending_of (client was)) number (Err take.NoMemory) refl refuses.no_order refuses.replied;
+  is_over = over (refuses.over refl);
 }
-
--- ---- it stops
-
-goes-through : (old mid new : ByHandOf HandedIn) → GoesOn any_tell old mid → GoesOn any_tell mid new → GoesOn any_tell old new
-goes-through old mid new first second = λ begun h. second begun (first begun h)
-
-module _ (old mid new : ByHandOf HandedIn) (goes : GoesOn any_tell old mid) (same : mid.planned ≡ old.planned) (given : GoesOn any_tell mid new) (kept : new.planned ≡ mid.planned) where
-  -- a call, and then the round that is out is given up
-  pub holds-ended : (server : ServerOf) (asked : HostAsked) (orders : List OrderOf) → IsOf server old asked → orders ≡ orders_out new → HoldsUnderWay server new asked orders
-  holds-ended server asked orders of are = holds-after server old new asked orders (goes-through old mid new goes given) (kept ∙ same) of are
-
-pub is-stopped : (u : UnderWayOf) (mid new : ByHandOf HandedIn) → GoesOn any_tell u.hand mid → mid.planned ≡ u.hand.planned → IsSameClient u.hand.client mid.client
-    → GoesOn any_tell mid new → new.planned ≡ mid.planned → new.client ≡ mid.client → IsStopped u (record { hand = new; server = u.server; asked = u.asked })
-is-stopped u mid new goes same client given kept is = record {
-  server_is = refl;
-  asked_is = refl;
-  planned_is = kept ∙ same;
-  same = subst (IsSameClient u.hand.client) (sym is) client;
-  goes_on = goes-through u.hand mid new goes given;
-}
-
-same-through : (old mid new : ClientOf HandedIn) → IsSameClient old mid → IsSameClient mid new → IsSameClient old new
-same-through old mid new first second = record { server = second.server ∙ first.server; most = second.most ∙ first.most }
-
--- what is stopped is given up
-pub stops-as : (u v : UnderWayOf) (fault : Fault) → IsStopped u v → IsStopFault u fault → (new : HostClient) (result : Result (Unit {0}) Fault) → Cancels (Asked v) new result → GoesOnWith u new (Err fault)
-stops-as u v fault stopped is (Idle c) (Ok done) stops = (
-  record {
-    same = same-through u.hand.client v.hand.client c stopped.same stops.same;
-    stops = gives-up-before u.hand v.hand stopped.goes_on stopped.planned_is c stops.stops;
-  },
-  is,
-)
-stops-as u v fault stopped is (Idle c) (Err e) stops = absurd stops
-stops-as u v fault stopped is (Asked w) result stops = absurd stops
-stops-as u v fault stopped is (Answered a) result stops = absurd stops
-stops-as u v fault stopped is (Loading l) result stops = absurd stops
-stops-as u v fault stopped is (Loaded d) result stops = absurd stops
-stops-as u v fault stopped is Moved result stops = absurd stops

@@ -50,7 +50,7 @@ flat_fault flat.NoMemory = fault.NoMemory
 
 abbrev pub take_fault : TakeFault → Fault
 take_fault take.NoSuchOrder = fault.NoOrder
-take_fault take.Answered = fault.Replied
+take_fault take.Replied = fault.Replied
 take_fault take.NoMemory = fault.NoMemory
 
 abbrev pub session_fault : SessionFault → Fault

@@ -4,8 +4,6 @@ use Rattle.flat_rows.specs.Keyed.{ByOf, IsKeyedReply, KeyedReplyFault, LaidRows,
 use Rattle.flat_rows.specs.declared.keyed.KeyedFault.{KeyedFault}
 use Rattle.flat_rows.specs.declared.keyed.KeyedFault.TheVariants as keyed
 use Rattle.load_memory.specs.Keys.{KeyOf}
-use Rattle.rounds_by_hand.specs.declared.handed_in.HandedIn.{HandedIn}
-use Rattle.server.specs.Clients.{ClientOf}
 use Rattle.host_clients.specs.Clients.{TakesReply, client_in, orders_in, pending_of}
 use Rattle.host_clients.specs.Faults.{flat_fault}
 use Rattle.host_clients.specs.Lines.{by_at, keyed_by}
@@ -19,9 +17,8 @@ use Rattle.host_clients.specs.declared.keyed.KeyedRefusal.TheVariants.{NotAsked,
 -- This holds of the order of that number in the round that is out: of the columns in which rows have their keys, by its loader's line,
 -- and of its keys.
 abbrev pub OfOrder : HostClient → ℕ → (ByOf → List KeyOf → Type 0) → Type 0
-OfOrder client number holds = MatchOption (client_in client) ⊥ (λ (c : ClientOf HandedIn).
-    MatchOption (slice_get (orders_in client) number) ⊥
-    (λ o. holds (keyed_by (by_at c.server o.loader)) o.keys))
+OfOrder client number holds = MatchOption (slice_get (orders_in client) number) ⊥
+    (λ o. holds (keyed_by (by_at (client_in client).server o.loader)) o.keys)
 
 -- An order takes rows that are laid out so: each key gets its fault, if it has one, and else the rows that have it, in the order given. No
 -- row has another key.

@@ -1,5 +1,5 @@
 -- Definitions of what calls make of what a client knows. Each lets an answer go.
-use Rattle.std.specs.Prelude.{ℕ, ◌≡◌, ◌⊎◌, Bool, List, [], ◌∷◌, Option, MatchOption, is_none, is_some}
+use Rattle.std.specs.Prelude.{ℕ, ◌≡◌, ◌⊎◌, Bool, List, [], ◌∷◌, Option, is_none, is_some}
 use Rattle.load_memory.specs.Keys.{KeyOf}
 use Rattle.load_memory.specs.Outcomes.{ItemOf}
 use Rattle.load_memory.specs.Cells.{cut}
@@ -24,7 +24,7 @@ key_in ends bytes = key_said (cut bytes 0 ends)
 -- a client of which nothing is asked becomes another
 abbrev pub OnClient : (ClientOf HandedIn → ClientOf HandedIn → Type 0)
     → HostClient → HostClient → Type 0
-OnClient becomes old (Idle d) = MatchOption (client_in old) ⊥ (λ c. becomes c d)
+OnClient becomes old (Idle d) = becomes (client_in old) d
 OnClient becomes old new = ⊥
 
 -- a call is made in the client's session. The server answers it as before, and within the same limit.

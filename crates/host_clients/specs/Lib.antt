@@ -9,6 +9,7 @@ pub mod Laid
 pub mod LoaderTexts
 pub mod Lines
 pub mod Clients
+pub mod Lending
 pub mod Logs
 pub mod Known
 pub mod Refused

@@ -5,8 +5,6 @@ use Rattle.gq_bindings.specs.Tree.{LoaderOf}
 use Rattle.load_memory.specs.Keys.{KeyOf, all, text, pair}
 use Rattle.flat_rows.specs.Keyed as keyed
 use Rattle.plan_requests.specs.Servers.{ServerOf}
-use Rattle.rounds_by_hand.specs.declared.handed_in.HandedIn.{HandedIn}
-use Rattle.server.specs.Clients.{ClientOf}
 use Rattle.server.specs.Opening.{mode_of}
 use Rattle.host_clients.specs.LoaderTexts.{width_by}
 
@@ -22,10 +20,6 @@ by_at server loader = by_in (slice_get server.bindings.loaders loader)
 
 abbrev pub width_at : ServerOf → ℕ → ℕ
 width_at server loader = width_by (by_at server loader)
-
-abbrev pub width_of : Option (ClientOf HandedIn) → ℕ → ℕ
-width_of None loader = 0
-width_of (Some c) loader = width_at c.server loader
 
 -- ---- in which columns rows have their keys
 

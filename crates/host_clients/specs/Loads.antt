@@ -13,25 +13,20 @@ use Rattle.rounds_by_hand.specs.Pending.{order_in}
 use Rattle.server.specs.Clients.{ClientOf, IsClientCall}
 use Rattle.server.specs.LoadsByHand.{LoadByHandOf, IsLoadUnderway}
 use Rattle.rounds_by_hand.specs.declared.handed_in.HandedIn.{HandedIn}
+use Rattle.host_clients.specs.UnderWay.{HoldsWork}
 
 -- the keys of a host's texts, which end at these places: for each key the number of its texts
 abbrev pub keys_in : List ℕ → List ℕ → List ℕ → List KeyOf
 keys_in shapes ends bytes = keys_said shapes (cut bytes 0 ends)
-
--- It was begun on some client, as it was then. Since then nothing but its round was made in the client's session.
-pub record IsLoadOf (hand : LoadByHandOf HandedIn) : Type 0 where
-  pub begun : ClientOf HandedIn
-  pub of_server : hand.client.server ≡ begun.server
-  pub underway : IsLoadUnderway any_tell begun.session hand
 
 -- the orders of the round that is out
 abbrev pub load_orders : LoadByHandOf HandedIn → List OrderOf
 load_orders hand = map order_in (pending_in hand.far)
 
 -- says what holds between calls
-pub record HoldsLoading (hand : LoadByHandOf HandedIn) (orders : List OrderOf) : Type 0 where
-  pub is_of : IsLoadOf hand
-  pub orders_are : orders ≡ load_orders hand
+abbrev pub HoldsLoading : LoadByHandOf HandedIn → List OrderOf → Type 0
+HoldsLoading hand orders = HoldsWork hand.client.server hand.far
+    (λ s. IsLoadUnderway any_tell s hand) (λ c. Unit {0}) orders
 
 -- a client with the outcomes of the keys that it loaded last
 pub record LoadedOf : Type 0 where

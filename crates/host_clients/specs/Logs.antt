@@ -30,5 +30,4 @@ pub record AreBatches (log : List AskedOf) (rounds stored : List ℕ)
 
 -- of the log of a client's loader this holds
 abbrev pub LogHolds : (List AskedOf → Type 0) → HostClient → ℕ → Type 0
-LogHolds holds client loader =
-    MatchOption (client_in client) ⊥ (λ c. MatchOption (log_in c loader) ⊥ holds)
+LogHolds holds client loader = MatchOption (log_in (client_in client) loader) ⊥ holds

@@ -1,10 +1,10 @@
 -- Why calls of a client are refused: each fault comes only where this holds, and no other fault comes. Of memory these say nothing, but
 -- that no fault comes in its place.
-use Rattle.std.specs.Prelude.{ℕ, ◌≡◌, ◌≢◌, ◌≤◌, ◌⊎◌, List, true, length, slice_get, IsUtf8, MatchOption}
+use Rattle.std.specs.Prelude.{ℕ, ◌≡◌, ◌≢◌, ◌≤◌, ◌⊎◌, List, true, false, length, slice_get, IsUtf8}
 use Rattle.rounds_by_hand.specs.Pending.{is_in_at}
 use Rattle.rounds_by_hand.specs.declared.pending.Pending.{Pending}
 use Rattle.plan_requests.specs.Servers.{ServerOf}
-use Rattle.host_clients.specs.Clients.{HasCount, HasLoader, LacksLoader, ServerFault, WaitsAt, client_in, is_busy, pending_of, width_in}
+use Rattle.host_clients.specs.Clients.{HasCount, HasLoader, IsOther, LacksLoader, WaitsAt, client_in, is_busy, pending_of, width_in}
 use Rattle.host_clients.specs.Laid.{AreKeyTexts, IsReplyFault, KeyFault, KeysFault, LaidKeys, LaidReply, TextsOf, items_at}
 use Rattle.host_clients.specs.declared.client.HostClient.{HostClient}
 use Rattle.host_clients.specs.declared.fault.Fault.{Fault}
@@ -25,8 +25,11 @@ BeginFault client e = ⊥
 
 -- the client is busy; or what it is asked is planned by a server with another number of loaders, or memory ran out
 abbrev pub AskFault : ServerOf → HostClient → Fault → Type 0
-AskFault server client e = BusyFault client e
-    ⊎ MatchOption (client_in client) ⊥ (λ c. ServerFault server c e)
+AskFault server client fault.Busy = is_busy client ≡ true
+AskFault server client fault.OtherServer = (is_busy client ≡ false)
+    × IsOther server (client_in client)
+AskFault server client fault.NoMemory = is_busy client ≡ false
+AskFault server client e = ⊥
 
 -- the client is busy, or has no loader of that number
 abbrev pub LoaderFault : ℕ → HostClient → Fault → Type 0

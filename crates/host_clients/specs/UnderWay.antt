@@ -5,7 +5,7 @@ use Rattle.load_rounds.specs.Histories.{any_tell}
 use Rattle.load_rounds.specs.Sessions.{SessionOf}
 use Rattle.load_rounds.specs.SharedRounds.{ReportOf}
 use Rattle.plan_requests.specs.Servers.{ServerOf}
-use Rattle.rounds_by_hand.specs.Hands.{pending_in}
+use Rattle.rounds_by_hand.specs.Hands.{FarOf, pending_in}
 use Rattle.rounds_by_hand.specs.Pending.{order_in}
 use Rattle.server.specs.Clients.{ClientOf}
 use Rattle.server.specs.Hands.{ByHandOf, IsUnderway}
@@ -18,23 +18,26 @@ pub record UnderWayOf : Type 0 where
   pub server : ServerOf
   pub asked : HostAsked
 
--- It was begun on some client of this server, as it was then, and planned for it. Since then nothing but its rounds was made in the
--- client's session.
-pub record IsOf (server : ServerOf) (hand : ByHandOf HandedIn) (asked : HostAsked) : Type 0 where
+-- What is on its way was begun on some client of this server, as it was then, of which the last holds. Since then nothing but its rounds was
+-- made in the client's session. These are the orders of the round that is out.
+pub record HoldsWork {P E : Type 0} (server : ServerOf) (far : FarOf P E)
+    (has_gone : SessionOf HandedIn → Type 0) (is_for : ClientOf HandedIn → Type 0)
+    (orders : List OrderOf) : Type 0 where
   pub begun : ClientOf HandedIn
   pub of_server : begun.server ≡ server
-  pub underway : IsUnderway any_tell begun.session hand
-  pub planned : PlansHost begun.server begun.most asked hand.planned
+  pub underway : has_gone begun.session
+  pub planned : is_for begun
+  pub orders_are : orders ≡ map order_in (pending_in far)
+
+-- says what holds of a request between calls: it is planned for the client that it was begun on
+abbrev pub HoldsUnderWay : ServerOf → ByHandOf HandedIn → HostAsked → List OrderOf → Type 0
+HoldsUnderWay server hand asked orders =
+    HoldsWork server hand.far (λ s. IsUnderway any_tell s hand)
+    (λ c. PlansHost c.server c.most asked hand.planned) orders
 
 -- the orders of the round that is out
 abbrev pub orders_out : ByHandOf HandedIn → List OrderOf
 orders_out hand = map order_in (pending_in hand.far)
-
--- says what holds between calls
-pub record HoldsUnderWay (server : ServerOf) (hand : ByHandOf HandedIn) (asked : HostAsked)
-    (orders : List OrderOf) : Type 0 where
-  pub is_of : IsOf server hand asked
-  pub orders_are : orders ≡ orders_out hand
 
 -- a client with the answer to what it was asked last, and the server that it was planned by
 pub record AnsweredOf : Type 0 where

@@ -67,13 +67,6 @@ impl AnsweredClient {
         self.rounds
     }
 
-    /// The client.
-    pub fn client(&self) -> &ClientSession<HandedIn>
-        ensures { result.now ≡ self.now.client }
-    {
-        &self.client
-    }
-
     /// The client, without the answer.
     pub fn into_client(self) -> ClientSession<HandedIn>
         ensures { result ≡ self.client }

@@ -1,12 +1,14 @@
 //! Clients whose rounds another language runs.
-ghost use Rattle.std.specs.Prelude.{◌≡◌, ◌≢◌, ◌<◌, ◌↔◌, true, false, length, Some, IfOk, IfErr, IfSome, IfNone, OnOk, OnErr, IsErrOf};
+ghost use Rattle.std.specs.Prelude.{◌≡◌, ◌≢◌, ◌<◌, ◌≤◌, ◌↔◌, true, false, length, Some, IfOk, IfErr, IfSome, IfNone, OnOk, OnErr, IsErrOf};
 ghost use Rattle.std.specs.Prelude.{option_map, slice_get, IsUtf8};
+ghost use Rattle.std.specs.Borrow.{sem};
 ghost use Rattle.flat_orders.specs.Orders.{keys_of};
 ghost use Rattle.host_clients.specs.AskedKeys.{flat_keys};
-ghost use Rattle.host_clients.specs.Clients.{Advances, CanEndWith, Cancels, EndsWith, HasCount, HasLoader, IsBegun, IsBegunLoad, LacksLoader, LoadsOn, TakesAnswerTo, TakesFailure, TakesReply};
+ghost use Rattle.host_clients.specs.Clients.{Advances, Cancels, HasCount, HasLoader, IsBegun, IsBegunLoad, IsGivenUp, LacksLoader, TakesFailure, TakesReply, TakesReplyTo};
 ghost use Rattle.host_clients.specs.Clients.{KeepsOrStops, StopsAt, client_in, is_busy, orders_in, pending_of, width_in};
 ghost use Rattle.host_clients.specs.Known.{items_in};
 ghost use Rattle.host_clients.specs.Laid.{AreKeys, laid_keys, laid_reply};
+ghost use Rattle.host_clients.specs.Lending.{LendsClient};
 ghost use Rattle.host_clients.specs.Refused.{AskFault, FailureFault, LoadFault, LoaderFault, OrderFault, RowsFault};
 ghost use Rattle.host_clients.specs.Texts.{asked_in};
 
@@ -17,25 +19,17 @@ use crate::fault::Fault;
 use crate::loaded::LoadedClient;
 use crate::loaders::key_width;
 use crate::loading::LoadUnderWay;
-use crate::under_way::{Step, UnderWay};
+use crate::note::AskedNote;
+use crate::under_way::UnderWay;
+use core::mem::replace_with;
 use flat_rows::FlatReply;
 use load_memory::Item;
 use load_queue::FetchFault;
-use rounds_by_hand::HandedIn;
-use server::{Answer, ClientSession, PlannedLoad, Queries};
+use rounds_by_hand::{HandedIn, Pending, Progress};
+use server::{ClientSession, PlannedLoad, Queries, Server};
 use std::alloc::Global;
-use std::{mem, str};
-
-/// Progress of a client after a call of [`HostClient::advance`].
-#[derive(Clone, Copy, Debug, PartialEq, Eq)]
-pub enum ClientProgress {
-    /// There is an answer, or there are the outcomes of what is loaded.
-    Done,
-    /// A new round is out.
-    Round,
-    /// Nothing: an order of the round that is out has no reply.
-    Waiting,
-}
+use std::snapshot::Snapshot;
+use std::str;
 
 /// A client of a server, whose host runs its rounds: it has a memory of what was replied, and answers one request at a time, or loads keys.
 #[derive(Drop)]
@@ -50,39 +44,65 @@ pub enum HostClient {
     Loading(LoadUnderWay),
     /// The keys that it was to load last are loaded.
     Loaded(LoadedClient),
-    /// Only within a call.
-    Moved,
 }
 
 impl HostClient {
-    /// The client, without its answer or outcomes; or the same, where it is busy.
-    pub(crate) fn into_idle(self) -> Result<ClientSession<HandedIn>, HostClient>
-        ensures idle { IfOk result (λ c. (client_in self ≡ Some c) × (is_busy self ≡ false)) }
-        ensures busy { IfErr result (λ same.
-            (same ≡ self) × (is_busy self ≡ true)) }
+    // The client alone: what is on its way is given up, and an answer or outcomes are let go.
+    fn into_client(self) -> ClientSession<HandedIn>
+        ensures client { result ≡ client_in self }
+        ensures stopped { is_busy self ≡ true → IsGivenUp self (HostClient.Idle result) }
     {
         match self {
-            HostClient::Idle(client) => Ok(client),
-            HostClient::Answered(answered) => Ok(answered.into_client()),
-            HostClient::Loaded(loaded) => Ok(loaded.into_client()),
-            HostClient::Asked(under_way) => Err(HostClient::Asked(under_way)),
-            HostClient::Loading(loading) => Err(HostClient::Loading(loading)),
-            HostClient::Moved => Err(HostClient::Moved),
+            HostClient::Idle(client) => client,
+            HostClient::Asked(under_way) => under_way.into_client(),
+            HostClient::Answered(answered) => answered.into_client(),
+            HostClient::Loading(loading) => loading.into_client(),
+            HostClient::Loaded(loaded) => loaded.into_client(),
         }
     }
 
+    // Becomes idle.
+    fn settle(&mut self)
+        ensures client { self.new ≡ HostClient.Idle (client_in self.old) }
+        ensures stopped { is_busy self.old ≡ true → IsGivenUp self.old self.new }
+    {
+        replace_with(
+            self,
+            (),
+            |old, ()| (HostClient::Idle(old.into_client()), ()),
+        );
+    }
+
     /// The client, unless it is busy.
-    pub(crate) fn idle(&self) -> Option<&ClientSession<HandedIn>>
-        ensures idle { IfSome result (λ client.
-            (client_in self.now ≡ Some client.now) × (is_busy self.now ≡ false)) }
-        ensures busy { IfNone result
-            (is_busy self.now ≡ true) }
+    pub(crate) fn idle(&self) -> Result<&ClientSession<HandedIn>, Fault>
+        ensures client { IfOk result (λ client. client_in self.now ≡ client.now) }
+        ensures idle { OnOk result (is_busy self.now ≡ false) }
+        ensures busy { OnErr result (is_busy self.now ≡ true) }
+        ensures fault { IfErr result (λ fault. fault ≡ Fault.Busy) }
     {
         match self {
-            HostClient::Idle(client) => Some(client),
-            HostClient::Answered(answered) => Some(answered.client()),
-            HostClient::Loaded(loaded) => Some(loaded.client()),
-            HostClient::Asked(_) | HostClient::Loading(_) | HostClient::Moved => None,
+            HostClient::Idle(client) => Ok(client),
+            HostClient::Answered(answered) => Ok(&answered.client),
+            HostClient::Loaded(loaded) => Ok(&loaded.client),
+            HostClient::Asked(_) | HostClient::Loading(_) => Err(Fault::Busy),
+        }
+    }
+
+    /// The client, unless it is busy, without an answer or outcomes, which are let go.
+    pub(crate) fn idle_mut(&mut self) -> Result<&mut ClientSession<HandedIn>, Fault>
+        ensures* lends { sem 𝓛 (LendsClient self.entry result) }
+        ensures client { IfOk result (λ client. client_in self.old ≡ client.now) }
+        ensures idle { OnOk result (is_busy self.old ≡ false) }
+        ensures busy { OnErr result (is_busy self.old ≡ true) }
+        ensures fault { IfErr result (λ fault. fault ≡ Fault.Busy) }
+    {
+        if self.is_busy() {
+            return Err(Fault::Busy);
+        }
+        self.settle();
+        match self {
+            HostClient::Idle(client) => Ok(client),
+            _ => Err(Fault::Busy),
         }
     }
 
@@ -92,14 +112,11 @@ impl HostClient {
     ///
     /// [`Busy`](Fault::Busy), [`NoLoader`](Fault::NoLoader).
     pub(crate) fn client_with(&self, loader: usize) -> Result<&ClientSession<HandedIn>, Fault>
-        ensures client { IfOk result (λ client. (client_in self.now ≡ Some client.now)
-            × (loader < length client.now.session.loaders)) }
+        ensures client { IfOk result (λ client. client_in self.now ≡ client.now) }
         ensures there { OnOk result (HasLoader self.now loader) }
         ensures fault { IfErr result (LoaderFault loader self.now) }
     {
-        let Some(client) = self.idle() else {
-            return Err(Fault::Busy);
-        };
+        let client = self.idle()?;
         if loader >= client.session().loaders().len() {
             return Err(Fault::NoLoader);
         }
@@ -112,15 +129,21 @@ impl HostClient {
     {
         match self {
             HostClient::Idle(_) | HostClient::Answered(_) | HostClient::Loaded(_) => false,
-            HostClient::Asked(_) | HostClient::Loading(_) | HostClient::Moved => true,
+            HostClient::Asked(_) | HostClient::Loading(_) => true,
         }
     }
 
-    /// Becomes the next one, whatever it was.
-    pub(crate) fn put(&mut self, next: HostClient)
-        ensures { self.new ≡ next }
+    /// The server of the client.
+    pub(crate) fn server(&self) -> &Server
+        ensures { result.now ≡ (client_in self.now).server }
     {
-        *self = next;
+        match self {
+            HostClient::Idle(client) => client.server(),
+            HostClient::Asked(under_way) => under_way.hand.server(),
+            HostClient::Answered(answered) => answered.client.server(),
+            HostClient::Loading(loading) => loading.hand.server(),
+            HostClient::Loaded(loaded) => loaded.client.server(),
+        }
     }
 
     /// Begins the answer to what is asked, as the server of `queries` answers it, within the client's limit. What it does wrong is answered.
@@ -138,27 +161,27 @@ impl HostClient {
     ) -> Result<(), Fault>
         ensures begun { OnOk result
             (IsBegun queries.old self.old (asked_in asked.now) self.new) }
-        ensures kept { OnErr result
-            (client_in self.new ≡ client_in self.old) }
+        ensures kept { OnErr result (self.new ≡ self.old) }
         ensures busy { IsErrOf result Fault.Busy
             ↔ (is_busy self.old ≡ true) }
-        ensures unchanged { is_busy self.old ≡ true
-            → self.new ≡ self.old }
         ensures fault { IfErr result
             (AskFault queries.old self.old) }
         ensures same { queries.new ≡ queries.old }
     {
-        match mem::replace(self, HostClient::Moved).into_idle() {
-            Err(busy) => {
-                self.put(busy);
-                Err(Fault::Busy)
-            }
-            Ok(client) => {
-                let (begun, result) = UnderWay::begin(alloc, client, queries, asked);
-                self.put(begun);
-                result
-            }
+        let client = self.idle()?;
+        let loaders = queries.server().bindings().loaders().len();
+        if loaders != client.session().loaders().len() {
+            return Err(Fault::OtherServer);
         }
+        let planned = asked.plan(alloc, queries, client.max_answer())?;
+        let note = AskedNote::of(asked);
+        let planned_by = Snapshot::of(&*queries);
+        replace_with(self, (), |old, ()| {
+            let client = old.into_client();
+            let under_way = UnderWay::begin(alloc, client, planned, note, planned_by);
+            (HostClient::Asked(under_way), ())
+        });
+        Ok(())
     }
 
     /// Begins to load keys of a loader: those that aren't known are asked for in one round, of equal keys only the first, and then there is
@@ -183,75 +206,49 @@ impl HostClient {
         let client = self.client_with(keys.loader)?;
         let read = keys.read(alloc, key_width(client.server(), keys.loader))?;
         let planned = PlannedLoad::new(keys.loader, read)?;
-        match mem::replace(self, HostClient::Moved).into_idle() {
-            Err(busy) => {
-                self.put(busy);
-                Err(Fault::Busy)
-            }
-            Ok(client) => {
-                let loading = LoadUnderWay::begin(alloc, client, planned);
-                self.put(HostClient::Loading(loading));
-                Ok(())
-            }
-        }
+        replace_with(self, (), |old, ()| {
+            let loading = LoadUnderWay::begin(alloc, old.into_client(), planned);
+            (HostClient::Loading(loading), ())
+        });
+        Ok(())
     }
 
-    /// Goes on: stores the round that is out, if each of its orders has a reply, and answers, gives the outcomes or makes the next round.
+    /// The client after a call to go on, and what came of that: it stores the round that is out, if each of its orders has a reply, and
+    /// answers, gives the outcomes or makes the next round. It is over where memory ran out before: then it is given up, and the finished
+    /// rounds stay known.
     ///
     /// # Errors
     ///
-    /// [`Idle`](Fault::Idle) where nothing is asked; [`NoMemory`](Fault::NoMemory) and, where memory ran out before,
-    /// [`Stopped`](Fault::Stopped): it is given up, and the finished rounds stay known.
-    pub fn advance(&mut self, alloc: Global) -> Result<ClientProgress, Fault>
-        ensures { Advances self.old self.new result }
+    /// [`Idle`](Fault::Idle) where nothing is asked; [`NoMemory`](Fault::NoMemory): it is given up, as where it is over.
+    pub fn advance(self, alloc: Global) -> (HostClient, Result<Progress<()>, Fault>)
+        ensures { Advances self result.0 result.1 }
     {
         match self {
-            HostClient::Idle(_) | HostClient::Moved => Err(Fault::Idle),
-            HostClient::Answered(_) | HostClient::Loaded(_) => Ok(ClientProgress::Done),
-            HostClient::Loading(_) => self.load_on(alloc),
-            HostClient::Asked(under_way) => match under_way.step() {
-                Ok(Step::Round) => Ok(ClientProgress::Round),
-                Ok(Step::Waiting) => Ok(ClientProgress::Waiting),
-                Ok(Step::Answered(answer)) => {
-                    self.end_with(answer);
-                    Ok(ClientProgress::Done)
-                }
-                Err(fault) => {
-                    let _ = self.cancel();
-                    Err(fault)
-                }
-            },
+            HostClient::Idle(client) => (HostClient::Idle(client), Err(Fault::Idle)),
+            HostClient::Asked(under_way) => under_way.advance(),
+            HostClient::Loading(loading) => loading.advance(alloc),
+            HostClient::Answered(_) | HostClient::Loaded(_) => (self, Ok(Progress::Done(()))),
         }
     }
 
-    // Ends what is being answered with the answer that a step gave.
-    fn end_with(&mut self, answer: Answer)
-        requires { CanEndWith self.old answer }
-        ensures { EndsWith answer self.old self.new }
+    // The orders of the round that is out, with the replies that are there.
+    fn pending(&self) -> &[Pending]
+        ensures { result.now ≡ pending_of self.now }
     {
-        match mem::replace(self, HostClient::Moved) {
-            HostClient::Asked(under_way) => {
-                self.put(HostClient::Answered(under_way.into_answered(answer)));
-            }
-            other => self.put(other),
+        match self {
+            HostClient::Asked(under_way) => under_way.hand.orders(),
+            HostClient::Loading(loading) => loading.hand.orders(),
+            HostClient::Idle(_) | HostClient::Answered(_) | HostClient::Loaded(_) => &[],
         }
     }
 
-    // Goes on with the keys that are loaded.
-    fn load_on(&mut self, alloc: Global) -> Result<ClientProgress, Fault>
-        ensures { LoadsOn self.old self.new result }
+    /// The order of this number in the round that is out.
+    pub(crate) fn order(&self, number: usize) -> Option<&Pending>
+        ensures some { IfSome result (λ found.
+            slice_get (pending_of self.now) number ≡ Some found.now) }
+        ensures none { IfNone result (length (pending_of self.now) ≤ number) }
     {
-        match mem::replace(self, HostClient::Moved) {
-            HostClient::Loading(loading) => {
-                let (gone, result) = loading.advance(alloc);
-                self.put(gone);
-                result
-            }
-            other => {
-                self.put(other);
-                Err(Fault::Idle)
-            }
-        }
+        self.pending().get(number)
     }
 
     // Returns how many keys the order of this number in the round that is out has, if there is one.
@@ -263,17 +260,16 @@ impl HostClient {
             HostClient::Asked(under_way) => under_way.orders().count(number),
             HostClient::Loading(loading) => loading.orders().count(number),
             HostClient::Idle(_) | HostClient::Answered(_) | HostClient::Loaded(_) => None,
-            HostClient::Moved => None,
         }
     }
 
-    /// Takes the answer to an order.
+    /// Takes the reply to an order.
     pub(crate) fn take(
         &mut self,
         number: usize,
-        answer: Result<Vec<Item>, FetchFault>,
+        reply: Result<Vec<Item>, FetchFault>,
     ) -> Result<(), Fault>
-        ensures taken { OnOk result (TakesAnswerTo number answer self.old self.new) }
+        ensures taken { OnOk result (TakesReplyTo number reply self.old self.new) }
         ensures kept { IfErr result (λ fault.
             fault ≢ Fault.NoMemory → self.new ≡ self.old) }
         ensures stopped { IfErr result (λ fault.
@@ -282,8 +278,8 @@ impl HostClient {
             (OrderFault (pending_of self.old) number) }
     {
         match self {
-            HostClient::Asked(under_way) => Ok(under_way.take(number, answer)?),
-            HostClient::Loading(loading) => Ok(loading.take(number, answer)?),
+            HostClient::Asked(under_way) => Ok(under_way.take(number, reply)?),
+            HostClient::Loading(loading) => Ok(loading.take(number, reply)?),
             _ => Err(Fault::NoOrder),
         }
     }
@@ -334,7 +330,7 @@ impl HostClient {
         ensures fault { IfErr result
             (FailureFault number text.now self.old) }
     {
-        if self.count(number).is_none() {
+        if self.order(number).is_none() {
             return Err(Fault::NoOrder);
         }
         let Ok(text) = str::from_utf8(text) else {
@@ -352,19 +348,10 @@ impl HostClient {
     pub fn cancel(&mut self) -> Result<(), Fault>
         ensures { Cancels self.old self.new result }
     {
-        match mem::replace(self, HostClient::Moved) {
-            HostClient::Asked(under_way) => {
-                self.put(HostClient::Idle(under_way.into_client()));
-                Ok(())
-            }
-            HostClient::Loading(loading) => {
-                self.put(HostClient::Idle(loading.into_client()));
-                Ok(())
-            }
-            other => {
-                self.put(other);
-                Err(Fault::Idle)
-            }
+        if !self.is_busy() {
+            return Err(Fault::Idle);
         }
+        self.settle();
+        Ok(())
     }
 }

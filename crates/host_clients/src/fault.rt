@@ -230,7 +230,7 @@ impl From<TakeFault> for Fault {
     fn from(e: TakeFault) -> Fault {
         match e {
             TakeFault::NoSuchOrder => Fault::NoOrder,
-            TakeFault::Answered => Fault::Replied,
+            TakeFault::Replied => Fault::Replied,
             TakeFault::NoMemory => Fault::NoMemory,
         }
     }

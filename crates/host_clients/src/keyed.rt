@@ -1,10 +1,10 @@
 //! Rows in any order: each goes to the key that it has in the columns of the order's loader, unless that key has a fault.
-ghost use Rattle.std.specs.Prelude.{◌≡◌, ◌≢◌, ◌≤◌, MatchOption, Some, IfOk, IfErr, IfSome, IfNone, OnOk, length, map, option_map, slice_get};
+ghost use Rattle.std.specs.Prelude.{◌≡◌, ◌≢◌, IfOk, IfErr, OnOk, map, option_map};
 ghost use Rattle.flat_rows.specs.Keyed.{IsKeyedReply, by_of as keyed_by_of, laid_rows, replied_items};
 ghost use Rattle.gq_bindings.specs.Seen.{by_of};
 ghost use Rattle.load_memory.specs.Keys.{borrowed_of};
 ghost use Rattle.load_memory.specs.Outcomes.{item_of};
-ghost use Rattle.host_clients.specs.Clients.{KeepsOrStops, client_in, pending_of};
+ghost use Rattle.host_clients.specs.Clients.{KeepsOrStops};
 ghost use Rattle.host_clients.specs.Keyed.{KeyedRowsFault, OfOrder, TakesKeyed};
 ghost use Rattle.host_clients.specs.Lines.{by_at, columns_in, keyed_by};
 
@@ -97,22 +97,6 @@ fn keyed_by(server: &Server, loader: usize) -> KeyedBy<'_>
 }
 
 impl HostClient {
-    // The order of this number in the round that is out, and the server whose loader it is of.
-    fn order(&self, number: usize) -> Option<(&Server, &Pending)>
-        ensures server { IfSome result (λ found.
-            MatchOption (client_in self.now) ⊥ (λ c. c.server ≡ found.0.now)) }
-        ensures some { IfSome result (λ found.
-            slice_get (pending_of self.now) number ≡ Some found.1.now) }
-        ensures none { IfNone result (length (pending_of self.now) ≤ number) }
-    {
-        match self {
-            HostClient::Asked(under_way) => under_way.order(number),
-            HostClient::Loading(loading) => loading.order(number),
-            HostClient::Idle(_) | HostClient::Answered(_) | HostClient::Loaded(_) => None,
-            HostClient::Moved => None,
-        }
-    }
-
     // What rows in any order, with faults of keys, say of the keys of an order that waits.
     fn keyed_items(
         &self,
@@ -127,13 +111,13 @@ impl HostClient {
         ensures fault { IfErr result
             (KeyedRowsFault number (laid_rows reply.now) self.now) }
     {
-        let Some((server, order)) = self.order(number) else {
+        let Some(order) = self.order(number) else {
             return Err(KeyedRefusal::Refused(Fault::NoOrder));
         };
         match order {
             Pending::In(_) => Err(KeyedRefusal::Refused(Fault::Replied)),
             Pending::Out(order) => {
-                let by = keyed_by(server, order.loader());
+                let by = keyed_by(self.server(), order.loader());
                 Ok(reply.items(alloc, &by, order.keys())?)
             }
         }

@@ -17,7 +17,6 @@ use crate::log::BatchLog;
 use flat_rows::{FlatReply, FlatTexts};
 use load_memory::{Item, Key};
 use std::alloc::Global;
-use std::mem;
 
 /// The key of these texts, each from where the one before it ends, of a loader whose keys have `width`.
 ///
@@ -77,18 +76,7 @@ impl HostClient {
         ensures fault { IfErr result (KnownFault loader self.old) }
     {
         self.client_with(loader)?;
-        match mem::replace(self, HostClient::Moved).into_idle() {
-            Err(busy) => {
-                self.put(busy);
-                Err(Fault::Busy)
-            }
-            Ok(client) => {
-                let mut client = client;
-                let added = client.prime(loader, key, item);
-                self.put(HostClient::Idle(client));
-                Ok(added?)
-            }
-        }
+        Ok(self.idle_mut()?.prime(loader, key, item)?)
     }
 
     /// Does what [`prime`](HostClient::prime) does with the key of these texts, and the one item of a reply.
@@ -179,18 +167,7 @@ impl HostClient {
         ensures fault { IfErr result (KnownFault loader self.old) }
     {
         self.client_with(loader)?;
-        match mem::replace(self, HostClient::Moved).into_idle() {
-            Err(busy) => {
-                self.put(busy);
-                Err(Fault::Busy)
-            }
-            Ok(client) => {
-                let mut client = client;
-                let there = client.clear(loader, key);
-                self.put(HostClient::Idle(client));
-                Ok(there?)
-            }
-        }
+        Ok(self.idle_mut()?.clear(loader, key)?)
     }
 
     /// Forgets all keys of a loader.
@@ -208,18 +185,7 @@ impl HostClient {
         ensures fault { IfErr result (LoaderFault loader self.old) }
     {
         self.client_with(loader)?;
-        match mem::replace(self, HostClient::Moved).into_idle() {
-            Err(busy) => {
-                self.put(busy);
-                Err(Fault::Busy)
-            }
-            Ok(client) => {
-                let mut client = client;
-                let cleared = client.clear_all(loader);
-                self.put(HostClient::Idle(client));
-                Ok(cleared?)
-            }
-        }
+        Ok(self.idle_mut()?.clear_all(loader)?)
     }
 
     /// Forgets all keys, logs and rounds. The documents of queries stay.
@@ -238,18 +204,7 @@ impl HostClient {
         ensures fault { IfErr result
             (BeginFault self.old) }
     {
-        match mem::replace(self, HostClient::Moved).into_idle() {
-            Err(busy) => {
-                self.put(busy);
-                Err(Fault::Busy)
-            }
-            Ok(client) => {
-                let mut client = client;
-                let restarted = client.restart();
-                self.put(HostClient::Idle(client));
-                Ok(restarted?)
-            }
-        }
+        Ok(self.idle_mut()?.restart()?)
     }
 
     /// From now on the text of an answer has at most `most` bytes, that of each value of an array by itself; `None` is no limit.
@@ -265,18 +220,8 @@ impl HostClient {
         ensures fault { IfErr result
             (BusyFault self.old) }
     {
-        match mem::replace(self, HostClient::Moved).into_idle() {
-            Err(busy) => {
-                self.put(busy);
-                Err(Fault::Busy)
-            }
-            Ok(client) => {
-                let mut client = client;
-                client.limit_answers(most);
-                self.put(HostClient::Idle(client));
-                Ok(())
-            }
-        }
+        self.idle_mut()?.limit_answers(most);
+        Ok(())
     }
 
     /// The batches that a loader was asked for since the client was made or started again.
@@ -292,10 +237,7 @@ impl HostClient {
             → LacksLoader self.now loader }
         ensures fault { IfErr result (KnownFault loader self.now) }
     {
-        let Some(client) = self.idle() else {
-            return Err(Fault::Busy);
-        };
-        match client.session().logs(loader) {
+        match self.idle()?.session().logs(loader) {
             Some(entries) => Ok(BatchLog::of(alloc, entries)?),
             None => Err(Fault::NoLoader),
         }

@@ -56,13 +56,6 @@ impl LoadedClient {
         &self.outcomes
     }
 
-    /// The client.
-    pub fn client(&self) -> &ClientSession<HandedIn>
-        ensures { result.now ≡ self.now.client }
-    {
-        &self.client
-    }
-
     /// The client, without the outcomes.
     pub fn into_client(self) -> ClientSession<HandedIn>
         ensures { result ≡ self.client }

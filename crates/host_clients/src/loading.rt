@@ -1,24 +1,22 @@
 //! Keys that a client loads, on their way to the outcomes.
 //!
 //! A load goes on in the turns of a request, so that a host has one loop for both.
-ghost use Rattle.std.specs.Prelude.{◌≡◌, ◌<◌, ◌≤◌, Some, IfErr, IfSome, IfNone, OnOk, IsErrOf, length, slice_get};
-ghost use Rattle.rounds_by_hand.specs.Hands.{handed, IsOver, pending_in};
+ghost use Rattle.std.specs.Prelude.{◌≡◌, ◌<◌, length};
+ghost use Rattle.rounds_by_hand.specs.Hands.{handed};
 ghost use Rattle.server.specs.LoadsByHand.{load_by_hand_of};
-ghost use Rattle.host_clients.specs.Clients.{LoadsOnWith, StopsForLoad, StopsLoad, TakesForLoad};
-ghost use Rattle.host_clients.specs.Faults.{take_fault};
+ghost use Rattle.host_clients.specs.Clients.{Advances, IsGivenUp, Takes};
 ghost use Rattle.host_clients.specs.Loads.{load_orders};
-ghost use Rattle.host_clients.specs.Refused.{OrderFault};
 
-use crate::client::{ClientProgress, HostClient};
+use crate::client::HostClient;
 use crate::fault::Fault;
 use crate::loaded::LoadedClient;
-use crate::under_way::write_orders;
+use crate::under_way::{stepped, taken};
 use flat_orders::FlatOrders;
 use flat_outcomes::FlatOutcomes;
 use load_memory::Item;
 use load_queue::FetchFault;
-use rounds_by_hand::{HandedIn, Pending, TakeFault};
-use server::{ClientSession, LoadAdvance, LoadByHand, PlannedLoad, Server};
+use rounds_by_hand::{HandedIn, Progress, TakeFault};
+use server::{ClientSession, LoadByHand, PlannedLoad};
 use std::alloc::Global;
 use std::marker::Model;
 use std::snapshot::Snapshot;
@@ -27,7 +25,7 @@ use std::snapshot::Snapshot;
 ///
 /// A contract sees what is loaded by hand. What holds between calls is `HoldsLoading`.
 pub struct LoadUnderWay {
-    hand: LoadByHand<HandedIn>,
+    pub(crate) hand: LoadByHand<HandedIn>,
     orders: FlatOrders,
 }
 
@@ -74,21 +72,21 @@ impl LoadUnderWay {
         }
     }
 
-    /// Returns what comes of it: the outcomes, or the round of the keys that aren't known is out, or nothing while an order of it has
-    /// no reply.
+    /// Goes on: stores the round that is out, if each of its orders has a reply, and gives the outcomes, or makes the round of the keys that
+    /// aren't known.
     ///
     /// # Errors
     ///
-    /// [`NoMemory`](Fault::NoMemory), and [`Stopped`](Fault::Stopped) where memory ran out before: it is given up.
-    pub(crate) fn advance(self, alloc: Global) -> (HostClient, Result<ClientProgress, Fault>)
-        ensures { LoadsOnWith self result.0 result.1 }
+    /// [`NoMemory`](Fault::NoMemory): it is given up, as it is where memory ran out before.
+    pub(crate) fn advance(self, alloc: Global) -> (HostClient, Result<Progress<()>, Fault>)
+        ensures { Advances (HostClient.Loading self) result.0 result.1 }
     {
         let LoadUnderWay {
             mut hand,
             mut orders,
         } = self;
-        match hand.advance() {
-            Ok(LoadAdvance::Loaded(outcomes)) => match FlatOutcomes::of(alloc, &outcomes) {
+        match stepped(hand.advance(), &mut orders, hand.orders()) {
+            Ok(Progress::Done(outcomes)) => match FlatOutcomes::of(alloc, &outcomes) {
                 Ok(outcomes) => {
                     let snapshot = Snapshot::of(&hand);
                     let loaded = LoadedClient {
@@ -96,22 +94,19 @@ impl LoadUnderWay {
                         outcomes,
                         loaded: snapshot,
                     };
-                    (HostClient::Loaded(loaded), Ok(ClientProgress::Done))
+                    (HostClient::Loaded(loaded), Ok(Progress::Done(())))
                 }
                 Err(_) => (HostClient::Idle(hand.into_client()), Err(Fault::NoMemory)),
             },
-            Ok(LoadAdvance::Round) => match write_orders(&mut orders, hand.orders()) {
-                Ok(()) => {
-                    let loading = LoadUnderWay { hand, orders };
-                    (HostClient::Loading(loading), Ok(ClientProgress::Round))
-                }
-                Err(_) => (HostClient::Idle(hand.into_client()), Err(Fault::NoMemory)),
-            },
-            Ok(LoadAdvance::Waiting) => {
+            Ok(Progress::Round) => {
                 let loading = LoadUnderWay { hand, orders };
-                (HostClient::Loading(loading), Ok(ClientProgress::Waiting))
+                (HostClient::Loading(loading), Ok(Progress::Round))
             }
-            Ok(LoadAdvance::Over) => (HostClient::Idle(hand.into_client()), Err(Fault::Stopped)),
+            Ok(Progress::Waiting) => {
+                let loading = LoadUnderWay { hand, orders };
+                (HostClient::Loading(loading), Ok(Progress::Waiting))
+            }
+            Ok(Progress::Over) => (HostClient::Idle(hand.into_client()), Ok(Progress::Over)),
             Err(_) => (HostClient::Idle(hand.into_client()), Err(Fault::NoMemory)),
         }
     }
@@ -123,49 +118,21 @@ impl LoadUnderWay {
         &self.orders
     }
 
-    /// The order of this number in the round that is out, and the server whose loader it is of.
-    pub(crate) fn order(&self, number: usize) -> Option<(&Server, &Pending)>
-        ensures some { IfSome result (λ found. (found.0.now ≡ self.now.client.server)
-            × (slice_get (pending_in self.now.far) number ≡ Some found.1.now)) }
-        ensures none { IfNone result
-            (length (pending_in self.now.far) ≤ number) }
-    {
-        let order = self.hand.orders().get(number)?;
-        Some((self.hand.server(), order))
-    }
-
-    /// Takes the answer to the order of this number. When out of memory, it is over, and nothing is stored.
+    /// Takes the reply to the order of this number. When out of memory, it is over, and nothing is stored.
     pub(crate) fn take(
         &mut self,
         number: usize,
-        answer: Result<Vec<Item>, FetchFault>,
+        reply: Result<Vec<Item>, FetchFault>,
     ) -> Result<(), TakeFault>
-        ensures taken { OnOk result
-            (TakesForLoad number answer self.old self.new) }
-        ensures none { IsErrOf result TakeFault.NoSuchOrder
-            → self.new ≡ self.old }
-        ensures kept { IsErrOf result TakeFault.Answered
-            → self.new ≡ self.old }
-        ensures over { IsErrOf result TakeFault.NoMemory
-            → IsOver self.new.far }
-        ensures stopped { IsErrOf result TakeFault.NoMemory
-            → StopsForLoad number self.old self.new }
-        ensures fault { IfErr result (λ e.
-            OrderFault (pending_in self.old.far) number (take_fault e)) }
+        ensures { Takes number reply (HostClient.Loading self.old) (HostClient.Loading self.new) result }
     {
-        match self.hand.answer(number, answer) {
-            Ok(()) => Ok(()),
-            Err(TakeFault::NoMemory) => {
-                self.orders.clear();
-                Err(TakeFault::NoMemory)
-            }
-            Err(fault) => Err(fault),
-        }
+        taken(&mut self.orders, self.hand.reply(number, reply))
     }
 
     /// Gives it up.
     pub(crate) fn into_client(self) -> ClientSession<HandedIn>
-        ensures { StopsLoad self result }
+        ensures client { result ≡ self.client }
+        ensures stopped { IsGivenUp (HostClient.Loading self) (HostClient.Idle result) }
     {
         let LoadUnderWay {
             hand,

@@ -1,46 +1,29 @@
 //! Requests on their way to the answer.
-ghost use Rattle.std.specs.Prelude.{◌≡◌, ◌≤◌, ◌++◌, ◌∷◌, [], Some, IfOk, IfErr, IfSome, IfNone, OnOk, OnErr, IsErrOf, length, map, slice_get, string_bytes};
-ghost use Rattle.rounds_by_hand.specs.Hands.{IsOver, pending_in};
+ghost use Rattle.std.specs.Prelude.{◌≡◌, ◌≤◌, ◌++◌, ◌∷◌, [], Ok, IfOk, OnOk, OnErr, length, map};
 ghost use Rattle.rounds_by_hand.specs.Pending.{order_in};
-ghost use Rattle.load_rounds.specs.Histories.{any_tell};
-ghost use Rattle.server.specs.Hands.{GoesOn};
-ghost use Rattle.host_clients.specs.Clients.{Begins, StepsTo, Stops, StopsIt, Takes, answered_by};
-ghost use Rattle.host_clients.specs.Faults.{take_fault};
-ghost use Rattle.host_clients.specs.Refused.{OrderFault};
-ghost use Rattle.host_clients.specs.Texts.{asked_in};
-ghost use Rattle.host_clients.specs.UnderWay.{IsAnswerOf, orders_out};
+ghost use Rattle.host_clients.specs.Asked.{PlansHost};
+ghost use Rattle.host_clients.specs.Clients.{Advances, IsBegunWith, IsGivenUp, Takes, orders_after, orders_then};
+ghost use Rattle.host_clients.specs.UnderWay.{orders_out};
 
 use crate::answered::AnsweredClient;
-use crate::asked::FlatAsked;
 use crate::client::HostClient;
 use crate::fault::Fault;
 use crate::note::AskedNote;
 use flat_orders::FlatOrders;
 use load_memory::Item;
 use load_queue::FetchFault;
-use rounds_by_hand::{HandedIn, Pending, TakeFault};
-use server::{Answer, ByHand, ClientAdvance, ClientSession, Queries, Server};
+use rounds_by_hand::{HandedIn, Pending, Progress, TakeFault};
+use server::{Answer, ByHand, ClientSession, PlannedRequest, Queries};
 use std::alloc::{AllocError, Global};
 use std::marker::Model;
 use std::snapshot::Snapshot;
-
-/// What a step of a request comes to.
-#[derive(Drop)]
-pub(crate) enum Step {
-    /// There is an answer.
-    Answered(Answer),
-    /// A new round is out.
-    Round,
-    /// Nothing: an order of the round that is out has no reply.
-    Waiting,
-}
 
 /// Holds what a client was asked, on its way to the answer, with the orders of the round that is out.
 ///
 /// A contract sees what is answered by hand, the server that it was planned by, and what was asked. What holds between calls is
 /// `HoldsUnderWay`.
 pub struct UnderWay {
-    hand: ByHand<HandedIn>,
+    pub(crate) hand: ByHand<HandedIn>,
     orders: FlatOrders,
     note: AskedNote,
     // what planned it, for contracts alone: it takes no memory
@@ -104,96 +87,104 @@ pub(crate) fn write_orders(orders: &mut FlatOrders, pending: &[Pending]) -> Resu
     Ok(())
 }
 
-// Gives up the round that is out, if one is, and lets its orders go.
-fn give_up(hand: &mut ByHand<HandedIn>, orders: &mut FlatOrders)
-    ensures out { orders.new ≡ orders_out hand.new }
-    ensures underway { GoesOn any_tell hand.old hand.new }
-    ensures client { hand.new.client ≡ hand.old.client }
-    ensures planned { hand.new.planned
-        ≡ hand.old.planned }
+/// Says what came of a step. The orders of a round that is out since then are written, to be copied out.
+pub(crate) fn stepped<T>(
+    did: Result<Progress<T>, AllocError>,
+    orders: &mut FlatOrders,
+    pending: &[Pending],
+) -> Result<Progress<T>, AllocError>
+    ensures did { IfOk result (λ step. did ≡ Ok step) }
+    ensures orders { IfOk result (λ step.
+        orders.new ≡ orders_then step (map order_in pending.now) orders.old) }
 {
-    hand.give_up();
-    orders.clear();
+    match did? {
+        Progress::Round => {
+            write_orders(orders, pending)?;
+            Ok(Progress::Round)
+        }
+        did => Ok(did),
+    }
+}
+
+/// Says what came of a reply. Where memory ran out no orders are out any more.
+pub(crate) fn taken(orders: &mut FlatOrders, reply: Result<(), TakeFault>) -> Result<(), TakeFault>
+    ensures same { result ≡ reply }
+    ensures orders { orders.new ≡ orders_after reply orders.old }
+{
+    if let Err(TakeFault::NoMemory) = reply {
+        orders.clear();
+    }
+    reply
 }
 
 impl UnderWay {
-    /// Plans what the client is asked of the server of `queries`, or refuses it. Nothing is done of it yet.
+    /// A request of a client, as it is planned. Nothing is done of it yet.
     pub(crate) fn begin(
         alloc: Global,
         client: ClientSession<HandedIn>,
-        queries: &mut Queries,
-        asked: &FlatAsked<'_>,
-    ) -> (HostClient, Result<(), Fault>)
-        ensures begun { Begins queries.old client
-            (asked_in asked.now) result.0 result.1 }
-        ensures same { queries.new ≡ queries.old }
+        planned: PlannedRequest,
+        note: AskedNote,
+        queries: Snapshot<Queries>,
+    ) -> UnderWay
+        requires fits { planned.loaders ≤ length client.session.loaders }
+        requires plans { PlansHost queries.value client.most note.asked planned }
+        ensures client { result.hand.client ≡ client }
+        ensures begun { IsBegunWith queries.value note.asked result }
     {
-        let loaders = queries.server().bindings().loaders().len();
-        if loaders != client.session().loaders().len() {
-            return (HostClient::Idle(client), Err(Fault::OtherServer));
-        }
-        let Ok(planned) = asked.plan(alloc, queries, client.max_answer()) else {
-            return (HostClient::Idle(client), Err(Fault::NoMemory));
-        };
-        let note = AskedNote::of(asked);
-        let planned_by = Snapshot::of(&*queries);
-        let under_way = UnderWay {
+        UnderWay {
             hand: client.by_hand(planned),
             orders: FlatOrders::new(alloc),
             note,
-            queries: planned_by,
-        };
-        (HostClient::Asked(under_way), Ok(()))
+            queries,
+        }
     }
 
     /// Goes on: stores the round that is out, if each of its orders has a reply, and answers or makes the next round.
     ///
     /// # Errors
     ///
-    /// [`NoMemory`](Fault::NoMemory), and [`Stopped`](Fault::Stopped) where memory ran out before: it is to be given up.
-    pub(crate) fn step(&mut self) -> Result<Step, Fault>
-        ensures { StepsTo self.old self.new result }
-    {
-        match self.hand.advance() {
-            Ok(ClientAdvance::Answered(answer)) => {
-                give_up(&mut self.hand, &mut self.orders);
-                Ok(Step::Answered(answer))
-            }
-            Ok(ClientAdvance::Round) => match write_orders(&mut self.orders, self.hand.orders()) {
-                Ok(()) => Ok(Step::Round),
-                Err(_) => {
-                    give_up(&mut self.hand, &mut self.orders);
-                    Err(Fault::NoMemory)
-                }
-            },
-            Ok(ClientAdvance::Waiting) => Ok(Step::Waiting),
-            Ok(ClientAdvance::Over) => Err(Fault::Stopped),
-            Err(_) => {
-                give_up(&mut self.hand, &mut self.orders);
-                Err(Fault::NoMemory)
-            }
-        }
-    }
-
-    /// The client with the answer that a step gave.
-    pub(crate) fn into_answered(self, answer: Answer) -> AnsweredClient
-        requires { IsAnswerOf self.server self.asked
-            (string_bytes answer.text) answer.rounds }
-        ensures { result ≡ answered_by self answer }
+    /// [`NoMemory`](Fault::NoMemory): it is given up, as it is where memory ran out before.
+    pub(crate) fn advance(self) -> (HostClient, Result<Progress<()>, Fault>)
+        ensures { Advances (HostClient.Asked self) result.0 result.1 }
     {
         let UnderWay {
-            hand,
-            orders: _orders,
+            mut hand,
+            mut orders,
             note,
             queries,
         } = self;
-        let Answer { text, rounds } = answer;
-        AnsweredClient {
-            client: hand.into_client(),
-            text,
-            rounds,
-            note,
-            queries,
+        match stepped(hand.advance(), &mut orders, hand.orders()) {
+            Ok(Progress::Done(answer)) => {
+                let Answer { text, rounds } = answer;
+                let answered = AnsweredClient {
+                    client: hand.into_client(),
+                    text,
+                    rounds,
+                    note,
+                    queries,
+                };
+                (HostClient::Answered(answered), Ok(Progress::Done(())))
+            }
+            Ok(Progress::Round) => {
+                let under_way = UnderWay {
+                    hand,
+                    orders,
+                    note,
+                    queries,
+                };
+                (HostClient::Asked(under_way), Ok(Progress::Round))
+            }
+            Ok(Progress::Waiting) => {
+                let under_way = UnderWay {
+                    hand,
+                    orders,
+                    note,
+                    queries,
+                };
+                (HostClient::Asked(under_way), Ok(Progress::Waiting))
+            }
+            Ok(Progress::Over) => (HostClient::Idle(hand.into_client()), Ok(Progress::Over)),
+            Err(_) => (HostClient::Idle(hand.into_client()), Err(Fault::NoMemory)),
         }
     }
 
@@ -204,49 +195,21 @@ impl UnderWay {
         &self.orders
     }
 
-    /// The order of this number in the round that is out, and the server whose loader it is of.
-    pub(crate) fn order(&self, number: usize) -> Option<(&Server, &Pending)>
-        ensures some { IfSome result (λ found. (found.0.now ≡ self.now.hand.client.server)
-            × (slice_get (pending_in self.now.hand.far) number ≡ Some found.1.now)) }
-        ensures none { IfNone result
-            (length (pending_in self.now.hand.far) ≤ number) }
-    {
-        let order = self.hand.orders().get(number)?;
-        Some((self.hand.server(), order))
-    }
-
-    /// Takes the answer to the order of this number. When out of memory, it is over, and nothing is stored.
+    /// Takes the reply to the order of this number. When out of memory, it is over, and nothing is stored.
     pub(crate) fn take(
         &mut self,
         number: usize,
-        answer: Result<Vec<Item>, FetchFault>,
+        reply: Result<Vec<Item>, FetchFault>,
     ) -> Result<(), TakeFault>
-        ensures taken { OnOk result
-            (Takes number answer self.old self.new) }
-        ensures none { IsErrOf result TakeFault.NoSuchOrder
-            → self.new ≡ self.old }
-        ensures kept { IsErrOf result TakeFault.Answered
-            → self.new ≡ self.old }
-        ensures over { IsErrOf result TakeFault.NoMemory
-            → IsOver self.new.hand.far }
-        ensures stopped { IsErrOf result TakeFault.NoMemory
-            → Stops number self.old self.new }
-        ensures fault { IfErr result (λ e.
-            OrderFault (pending_in self.old.hand.far) number (take_fault e)) }
+        ensures { Takes number reply (HostClient.Asked self.old) (HostClient.Asked self.new) result }
     {
-        match self.hand.answer(number, answer) {
-            Ok(()) => Ok(()),
-            Err(TakeFault::NoMemory) => {
-                self.orders.clear();
-                Err(TakeFault::NoMemory)
-            }
-            Err(fault) => Err(fault),
-        }
+        taken(&mut self.orders, self.hand.reply(number, reply))
     }
 
     /// Gives it up.
     pub(crate) fn into_client(self) -> ClientSession<HandedIn>
-        ensures { StopsIt self result }
+        ensures client { result ≡ self.hand.client }
+        ensures stopped { IsGivenUp (HostClient.Asked self) (HostClient.Idle result) }
     {
         let UnderWay {
             hand,

@@ -14,7 +14,7 @@ use Rattle.load_queue.proofs.PieceLaws.{are-batches}
 use Rattle.execution.specs.Loads.{Load, Memory, read, IsOneOf}
 use Rattle.execution.specs.Front.{keys_for, missing}
 use Rattle.execution.specs.Rounds.{rule_of, orders_from, round_orders, AreLimited}
-use Rattle.execution.specs.Sessions.{Cell, key_cell, cell_of, AreApart, order_cells, Step, Forgot, AskedLoads, Lost, Primed, Cleared, ClearedAll, Restarted, AreMissing}
+use Rattle.execution.specs.Sessions.{Cell, key_cell, cell_of, AreApart, order_cells, Step, AskedLoads, Lost, Restarted, AreMissing}
 use Rattle.execution.proofs.Same.{one-left, one-right, one-either}
 use Rattle.execution.proofs.ReplyLaws.{firsts-apart}
 use Rattle.load_rounds.specs.Sessions.{StateOf, rules_of, entry, logged_from, after_step, after_steps}

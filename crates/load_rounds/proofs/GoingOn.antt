@@ -2,11 +2,10 @@
 use Rattle.std.proofs.Common.{◌≡◌, ◌≢◌, ◌||◌, ℕ, zero, suc, ◌<◌, ◌≤◌, Bool, true, false, List, [], ◌∷◌, ◌++◌, map, take, length, get_or, Option, Some, None, is_none, is_some, refl, ap, subst, ◌∙◌, sym, arith, inl, inr, append_assoc, append-nil}
 use Rattle.std.proofs.lemmas.List.Elements.{All-head, All-tail}
 use Rattle.std.specs.List.{list_any}
-use Rattle.std.proofs.lemmas.List.{length-map}
 use Rattle.std.specs.Prelude.{All, slice_set, option_map}
 use Rattle.load_memory.specs.Pairs.{MemoryOf, look}
 use Rattle.load_memory.specs.declared.key.KeyMode.{KeyMode}
-use Rattle.load_queue.specs.Wanted.{WantedOf, nothing_wanted, with_wanted}
+use Rattle.load_queue.specs.Wanted.{WantedOf, with_wanted}
 use Rattle.execution.specs.Loads.{Load, Reader, Memory, read}
 use Rattle.execution.specs.Program.{ListOf, Program, Under, tree, trees, needs, all_needs}
 use Rattle.execution.specs.Completion.{is_open, any_open, AnsweredOf}
@@ -17,13 +16,20 @@ use Rattle.execution.proofs.Same.{one-either, reads-more}
 use Rattle.execution.proofs.SharedLaws.{below-front}
 use Rattle.execution.proofs.Wanting.{wanting-firsts, with-modes}
 use Rattle.execution.specs.Executes.{GrowsTo}
-use Rattle.load_rounds.specs.Sessions.{StateOf, session_modes}
 use Rattle.execution.specs.Executes.{IsTextOf}
 use Rattle.load_rounds.specs.SharedRounds.{RequestOf, ReportOf, request_of, report_of, requests, needs_of_all, front_of_all, items_from, together}
-use Rattle.load_rounds.specs.Executions.{PartOf, IsDone, TellsAt, FindsAll, fronts, plans_in, reports_in, given_to, some_unreported, FitsPart, FitParts, GoesOn, GoOn}
+use Rattle.load_rounds.specs.Executions.{PartOf, IsDone, TellsAt, plans_in, reports_in, given_to, FitsPart, FitParts, GoesOn}
 use Rattle.load_rounds.specs.declared.answer.Answer.{Answer}
-use Rattle.load_rounds.proofs.Following.{nothing-modes, rules-size, wants-are}
-use Rattle.load_rounds.proofs.Lacking.{missing-append, wanting-append, length-wanting}
+use Rattle.load_rounds.proofs.Lacking.{missing-append, wanting-append}
+
+-- gives what each of several plans needs and the memory lacks, one after another
+abbrev pub fronts : {P : Type 0} → (P → Program) → MemoryOf → List P → List Load
+fronts program m [] = []
+fronts program m (p ∷ ps) = front m.modes (program p) (look m.pairs) ++ fronts program m ps
+
+-- some has no answer yet
+abbrev pub some_unreported : {P E : Type 0} → List (PartOf P E) → Bool
+some_unreported parts = list_any (λ part. is_none part.report) parts
 
 -- of several executions one changes, and their plans stay
 pub plans-set : {P E : Type 0} (n : ℕ) (xs : List (PartOf P E)) (d y : PartOf P E) → n < length xs → d ≡ get_or xs n d → y.plan ≡ d.plan → plans_in (slice_set xs n y) ≡ plans_in xs
@@ -68,6 +74,13 @@ or-left true b h = absurd (cc h)
 or-left false b h = (refl, h)
 
 module _ {P E : Type 0} (program : P → Program) (text_of : P → AnsweredOf → List ℕ) (loaders : P → ℕ) (fits : P → E → MemoryOf → Type 0) where
+  -- all of them went on over a memory, after `rounds` rounds
+  abbrev pub GoOn : ℕ → MemoryOf → List (PartOf P E) → List (PartOf P E) → Type 0
+  GoOn rounds m [] [] = Unit {0}
+  GoOn rounds m [] (y ∷ ys) = ⊥
+  GoOn rounds m (x ∷ xs) [] = ⊥
+  GoOn rounds m (x ∷ xs) (y ∷ ys) = GoesOn program text_of loaders fits rounds m x y × GoOn rounds m xs ys
+
   -- the first `n` have gone on
   abbrev pub FirstGoOn : ℕ → ℕ → MemoryOf → List (PartOf P E) → List (PartOf P E) → Type 0
   FirstGoOn n rounds m [] [] = Unit {0}
@@ -80,7 +93,7 @@ module _ {P E : Type 0} (program : P → Program) (text_of : P → AnsweredOf �
   none-go-on rounds m [] = tt
   none-go-on rounds m (x ∷ xs) = (refl, none-go-on rounds m xs)
 
-  pub all-go-on : (n rounds : ℕ) (m : MemoryOf) (xs ys : List (PartOf P E)) → length ys ≤ n → FirstGoOn n rounds m xs ys → GoOn program text_of loaders fits rounds m xs ys
+  pub all-go-on : (n rounds : ℕ) (m : MemoryOf) (xs ys : List (PartOf P E)) → length ys ≤ n → FirstGoOn n rounds m xs ys → GoOn rounds m xs ys
   all-go-on n rounds m [] [] le h = tt
   all-go-on zero rounds m (x ∷ xs) (y ∷ ys) le h = absurd (omega (arith, le))
   all-go-on (suc n) rounds m (x ∷ xs) (y ∷ ys) le h = (h.0, all-go-on n rounds m xs ys (omega (arith, le)) h.1)
@@ -131,18 +144,18 @@ module _ {P E : Type 0} (program : P → Program) (text_of : P → AnsweredOf �
   one-front n next rounds m xs ys d is lt at h = absurd h
 
   -- then they fit what is known later
-  pub gone-fit : (rounds : ℕ) (m later : MemoryOf) (xs ys : List (PartOf P E)) → GoOn program text_of loaders fits rounds m xs ys → GrowsTo m later → FitParts program text_of loaders fits ys later
+  pub gone-fit : (rounds : ℕ) (m later : MemoryOf) (xs ys : List (PartOf P E)) → GoOn rounds m xs ys → GrowsTo m later → FitParts program text_of loaders fits ys later
   gone-fit rounds m later [] [] h grown = tt
   gone-fit rounds m later (x ∷ xs) (y ∷ ys) h grown = (h.0.fitting later grown, gone-fit rounds m later xs ys h.1 grown)
   gone-fit rounds m later xs ys h grown = absurd h
 
-  pub gone-plans : (rounds : ℕ) (m : MemoryOf) (xs ys : List (PartOf P E)) → GoOn program text_of loaders fits rounds m xs ys → plans_in ys ≡ plans_in xs
+  pub gone-plans : (rounds : ℕ) (m : MemoryOf) (xs ys : List (PartOf P E)) → GoOn rounds m xs ys → plans_in ys ≡ plans_in xs
   gone-plans rounds m [] [] h = refl
   gone-plans rounds m (x ∷ xs) (y ∷ ys) h = rw (h.0.same, gone-plans rounds m xs ys h.1) refl
   gone-plans rounds m xs ys h = absurd h
 
   -- each needs loaders below a number
-  pub gone-within : (n rounds count : ℕ) (m : MemoryOf) (xs ys : List (PartOf P E)) → GoOn program text_of loaders fits rounds m xs ys → All (λ plan. loaders plan ≤ count) (plans_in xs) → HasLoaders count (Under ListOf (items_from n (requests program text_of (plans_in xs))))
+  pub gone-within : (n rounds count : ℕ) (m : MemoryOf) (xs ys : List (PartOf P E)) → GoOn rounds m xs ys → All (λ plan. loaders plan ≤ count) (plans_in xs) → HasLoaders count (Under ListOf (items_from n (requests program text_of (plans_in xs))))
   gone-within n rounds count m [] [] h all R load one = absurd one
   gone-within n rounds count m [] (y ∷ ys) h all R load one = absurd h
   gone-within n rounds count m (x ∷ xs) [] h all R load one = absurd h
@@ -165,7 +178,7 @@ module _ {P E : Type 0} (program : P → Program) (text_of : P → AnsweredOf �
   report-some rounds loads old None h e = h.0
   report-some rounds loads old (Some t) h e = absurd (cc e)
 
-  gone-closed : (n rounds : ℕ) (m : MemoryOf) (xs ys : List (PartOf P E)) → GoOn program text_of loaders fits rounds m xs ys → some_unreported ys ≡ false → any_open (trees (items_from n (requests program text_of (plans_in xs))) (read m.modes (look m.pairs))) ≡ false
+  gone-closed : (n rounds : ℕ) (m : MemoryOf) (xs ys : List (PartOf P E)) → GoOn rounds m xs ys → some_unreported ys ≡ false → any_open (trees (items_from n (requests program text_of (plans_in xs))) (read m.modes (look m.pairs))) ≡ false
   gone-closed n rounds m [] [] h e = refl
   gone-closed n rounds m (x ∷ xs) (y ∷ ys) h e =
       let parts = or-left (is_none y.report) (some_unreported ys) e in
@@ -173,11 +186,11 @@ module _ {P E : Type 0} (program : P → Program) (text_of : P → AnsweredOf �
       rw (own, gone-closed (suc n) rounds m xs ys h.1 parts.1) refl
   gone-closed n rounds m xs ys h e = absurd h
 
-  pub gone-lacks-none : (rounds : ℕ) (m : MemoryOf) (xs ys : List (PartOf P E)) → GoOn program text_of loaders fits rounds m xs ys → some_unreported ys ≡ false → front m.modes (together (requests program text_of (plans_in xs))) (look m.pairs) ≡ []
+  pub gone-lacks-none : (rounds : ℕ) (m : MemoryOf) (xs ys : List (PartOf P E)) → GoOn rounds m xs ys → some_unreported ys ≡ false → front m.modes (together (requests program text_of (plans_in xs))) (look m.pairs) ≡ []
   gone-lacks-none rounds m xs ys h e = (front-open m.modes (together (requests program text_of (plans_in xs))) (look m.pairs)).1 (gone-closed 0 rounds m xs ys h e)
 
   -- something is missing for one that has no answer
-  pub front-below : (n rounds : ℕ) (m : MemoryOf) (xs ys : List (PartOf P E)) → GoOn program text_of loaders fits rounds m xs ys → some_unreported ys ≡ true
+  pub front-below : (n rounds : ℕ) (m : MemoryOf) (xs ys : List (PartOf P E)) → GoOn rounds m xs ys → some_unreported ys ≡ true
       → (p : Program) × IsBelow p (items_from n (requests program text_of (plans_in xs))) × (front m.modes p (look m.pairs) ≢ [])
   front-below n rounds m [] [] h e = absurd (cc e)
   front-below n rounds m (x ∷ xs) (y ∷ ys) h e = go (is_none y.report) refl e (front-below (suc n) rounds m xs ys h.1)
@@ -188,7 +201,7 @@ module _ {P E : Type 0} (program : P → Program) (text_of : P → AnsweredOf �
       go false is e later = let rest = later e in (rest.0, inr rest.1, rest.2)
   front-below n rounds m xs ys h e = absurd h
 
-  pub gone-lacks : (rounds : ℕ) (m : MemoryOf) (xs ys : List (PartOf P E)) → GoOn program text_of loaders fits rounds m xs ys → some_unreported ys ≡ true → front m.modes (together (requests program text_of (plans_in xs))) (look m.pairs) ≢ []
+  pub gone-lacks : (rounds : ℕ) (m : MemoryOf) (xs ys : List (PartOf P E)) → GoOn rounds m xs ys → some_unreported ys ≡ true → front m.modes (together (requests program text_of (plans_in xs))) (look m.pairs) ≢ []
   gone-lacks rounds m xs ys h e =
       let one = front-below 0 rounds m xs ys h e in
       λ none. one.2 (below-front m.modes ListOf (items_from 0 (requests program text_of (plans_in xs))) one.0 (look m.pairs) one.1 none)
@@ -250,21 +263,6 @@ module _ {P E : Type 0} (program : P → Program) (text_of : P → AnsweredOf �
   pub part-fits : (progress : E) (report : Option ReportOf) → report ≡ None → FitsPart program text_of loaders fits plan progress report m → fits plan progress m
   part-fits progress None none fit = fit
   part-fits progress (Some report) none fit = absurd (cc none)
-
--- the wants of all are those of the front
-pub found-wants : {S P : Type 0} (program : P → Program) (text_of : P → AnsweredOf → List ℕ) (m : MemoryOf) (s : StateOf S) (plans : List P) (none wants : List WantedOf) → m.modes ≡ session_modes s → look m.pairs ≡ s.memory → none ≡ map nothing_wanted m.modes
-    → wants ≡ wanting none (fronts program m plans) → front m.modes (together (requests program text_of plans)) (look m.pairs) ≢ [] → FindsAll (together (requests program text_of plans)) s (Some wants)
-found-wants program text_of m s plans none wants modes pairs nothing are lacks =
-    let p : Program = together (requests program text_of plans) in
-    let same : front m.modes p (look m.pairs) ≡ front (session_modes s) p s.memory = ap (λ ms. front ms p (look m.pairs)) modes ∙ ap (λ (M : Memory). front (session_modes s) p M) pairs in
-    let loads : List Load = front (session_modes s) p s.memory in
-    let start : none ≡ map nothing_wanted (session_modes s) = nothing ∙ ap (λ ms. map nothing_wanted ms) modes in
-    let all : wants ≡ wanting (map nothing_wanted (session_modes s)) loads =
-    are ∙ wanting-all program text_of m none plans (ap modes_wanted nothing ∙ nothing-modes m.modes) ∙ ap (wanting none) same ∙ ap (λ ws. wanting ws loads) start in (
-      λ e. lacks (same ∙ e),
-      ap length all ∙ length-wanting (map nothing_wanted (session_modes s)) loads ∙ length-map (session_modes s) nothing_wanted ∙ rules-size s,
-      wants-are (session_modes s) p s.memory wants all,
-    )
 
 -- one more has begun, of which nothing is done
 module _ {P E : Type 0} (program : P → Program) (text_of : P → AnsweredOf → List ℕ) (loaders : P → ℕ) (fits : P → E → MemoryOf → Type 0) where

@@ -1,3 +1,4 @@
+pub mod Advancing
 pub mod Cutting
 pub mod Following
 pub mod Gaining
@@ -6,6 +7,8 @@ pub mod Growing
 pub mod Histories
 pub mod Holding
 pub mod KeyByKey
+pub mod Lending
+pub mod Limiting
 pub mod Reading
 pub mod Lacking
 pub mod Numbering

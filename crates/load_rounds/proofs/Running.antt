@@ -1,6 +1,6 @@
 -- Orders that run one after another, and loaders that are marked one after another.
 use Rattle.std.proofs.Common.{◌≡◌, ℕ, zero, suc, ◌<◌, List, [], ◌∷◌, ◌++◌, map, take, drop, length, get_or, refl, ap, ◌∙◌, arith, append_assoc}
-use Rattle.std.proofs.lemmas.List.{map-append}
+use Rattle.std.proofs.lemmas.List.{map-append, length_push}
 use Rattle.std.specs.Prelude.{slice_set}
 use Rattle.load_memory.specs.Keys.{KeyOf}
 use Rattle.load_memory.specs.Replies.{ReplyOf, reply_of}
@@ -45,3 +45,8 @@ length-replaced f (suc i) (a ∷ all) = ap suc (length-replaced f i all)
 pub none-left : {X : Type 0} (xs : List X) → length xs ≡ 0 → xs ≡ []
 none-left [] e = refl
 none-left (x ∷ xs) e = absurd (omega (arith, e))
+
+-- a list of one is what is taken off its end
+pub only : {X : Type 0} (all rest : List X) (x : X) → all ≡ rest ++ x ∷ [] → length all ≡ 1 → all ≡ x ∷ []
+only all [] x is one = is
+only all (y ∷ rest) x is one = absurd (omega (arith, one, ap length is, length_push (y ∷ rest) x))

@@ -18,9 +18,9 @@ use Rattle.execution.proofs.SharedLaws.{own-chain, own-sparing}
 use Rattle.load_rounds.specs.Sessions.{SessionOf, StateOf, state_of, rules_of, session_modes, memory_of}
 use Rattle.load_rounds.specs.Headline.{MakesRounds}
 use Rattle.load_rounds.specs.SharedRounds.{ReportOf, requests, items_from, together, greatest, AreShared, SharedHeadline}
-use Rattle.load_rounds.specs.Executions.{PartOf, TellsAt, CountsRounds, CountRounds, plans_in, program_in, reports_in, given_to, some_unreported, FitsPart, FitParts, GoOn}
+use Rattle.load_rounds.specs.Executions.{PartOf, TellsAt, CountsRounds, CountRounds, plans_in, program_in, reports_in, given_to, FitsPart, FitParts}
 use Rattle.load_rounds.proofs.Stepping.{made-recorded}
-use Rattle.load_rounds.proofs.GoingOn.{or-left, gone-lacks}
+use Rattle.load_rounds.proofs.GoingOn.{some_unreported, GoOn, or-left, gone-lacks}
 
 -- a round more is one of a program's own if something was missing for it
 own-one : (others : ℕ → List KeyOf → AnswerOf → Type 0) (rules : List RuleOf) (q p : Program) (M mid : Memory) (log : List (List ReplyOf)) (r : List ReplyOf) → AreRounds others rules q M log mid

@@ -20,14 +20,14 @@ use Rattle.load_rounds.specs.Sessions.{SessionOf, StateOf, state_of, rules_of, m
 use Rattle.load_rounds.specs.Calls.{RoundLost, RoundRan}
 use Rattle.load_rounds.specs.Headline.{MakesRounds, Headline, StopsAnswering}
 use Rattle.load_rounds.specs.SharedRounds.{RequestOf, ReportOf, request_of, requests, together, joint, AreTexts, SharedHeadline}
-use Rattle.load_rounds.specs.Executions.{PartOf, plans_in, reports_in, first_report, given_to, some_unreported, CountRounds, FitsPart, FitParts, GoOn, AreBegun}
+use Rattle.load_rounds.specs.Executions.{PartOf, plans_in, reports_in, first_report, given_to, CountRounds, FitsPart, FitParts, AreBegun}
 use Rattle.load_rounds.specs.ByHand.{front_in, orders_in, received, AreReceived, ReceivesReplies, IsAsked, IsRound, IsUnasked, IsOut}
 use Rattle.load_rounds.specs.Runs.{RunOf, program_of, IsReady, IsAway, IsFinished, IsRunAt, IsRun, GoesOnFrom, FitAt, Holds, Begins}
 use Rattle.load_rounds.specs.declared.rounds.Stage.{Stage}
 use Rattle.load_rounds.specs.declared.rounds.Stage.TheVariants.{Ready, Out, Finished, Failed}
 use Rattle.load_rounds.proofs.Cutting.{length-logged}
 use Rattle.load_rounds.proofs.Following.{InRounds, in-more, in-more-log, in-loaders}
-use Rattle.load_rounds.proofs.GoingOn.{or-left, gone-fit, gone-plans, gone-within}
+use Rattle.load_rounds.proofs.GoingOn.{some_unreported, GoOn, or-left, gone-fit, gone-plans, gone-within}
 use Rattle.load_rounds.proofs.Growing.{same-grows, received-grows, grows-trans}
 use Rattle.load_rounds.proofs.Requests.{headline-one, stops-one}
 use Rattle.load_rounds.proofs.Runs.{between-in, between-stops, round-counted, round-orders, asked-ran, out-stops}
@@ -135,10 +135,10 @@ received-size old new shown is = ap (λ (s : StateOf _). length s.loaders) is �
 -- calls of a run, by what they say of it before and after
 module _ {P E : Type 0} (program : P → Program) (text_of : P → AnsweredOf → List ℕ) (loaders : P → ℕ) (fits : P → E → MemoryOf → Type 0) {S : Type 0} where
   module _ (may : S → List KeyOf → AnswerOf → Type 0) where
-    pub fails : (old new : StateOf S) (run self later : RunOf P E) → run ≡ self → run.stage ≡ Ready → later.stage ≡ Failed → plans_in later.parts ≡ plans_in run.parts → IsUnasked (program_of program text_of run) old new → GoesOnFrom program text_of may old new self later
-    fails old new run self later view ready failed plans lost = subst (λ r. GoesOnFrom program text_of may old new r later) view (λ begun is.
+    pub fails : (old new : StateOf S) (run later : RunOf P E) → run.stage ≡ Ready → later.stage ≡ Failed → plans_in later.parts ≡ plans_in run.parts → IsUnasked (program_of program text_of run) old new → GoesOnFrom program text_of may old new run later
+    fails old new run later ready failed plans lost = λ begun is.
         let was : IsReady program text_of may begun old run.parts run.rounds = rw ready at is in
-        rw (failed, plans) (ready-stops program text_of loaders fits may begun old new run was lost))
+        rw (failed, plans) (ready-stops program text_of loaders fits may begun old new run was lost)
 
     -- the orders that were cut are those of a round
     pub round-is : (s : SessionOf S) (new : StateOf S) (run later : RunOf P E) (orders : List CutOf) → GoOn program text_of loaders fits run.rounds (memory_of s) run.parts later.parts → All (λ plan. loaders plan ≤ length s.loaders) (plans_in run.parts)
@@ -148,17 +148,17 @@ module _ {P E : Type 0} (program : P → Program) (text_of : P → AnsweredOf �
         let within = gone-within program text_of loaders fits 0 run.rounds (length s.loaders) (memory_of s) run.parts later.parts gone enough in
         record { lacks = lacks; batches = batches; cut = cut; entered = entered; counted = round-counted (state_of s) new (program_of program text_of run) (length s.loaders) within (omega arith) lacks entered; numbered = numbered }
 
-    pub finishes : (s : SessionOf S) (new : StateOf S) (run self later : RunOf P E) → run ≡ self → new ≡ state_of s → run.stage ≡ Ready → later.stage ≡ Finished → GoOn program text_of loaders fits run.rounds (memory_of s) run.parts later.parts
-        → All (λ plan. loaders plan ≤ length s.loaders) (plans_in run.parts) → AreLimited (rules_of (state_of s)) → front_in (state_of s) (program_of program text_of run) ≡ [] → later.rounds ≡ run.rounds → GoesOnFrom program text_of may (state_of s) new self later
-    finishes s new run self later view same ready finished gone enough limited none one = subst (λ r. GoesOnFrom program text_of may (state_of s) new r later) view (λ begun is.
+    pub finishes : (s : SessionOf S) (new : StateOf S) (run later : RunOf P E) → new ≡ state_of s → run.stage ≡ Ready → later.stage ≡ Finished → GoOn program text_of loaders fits run.rounds (memory_of s) run.parts later.parts
+        → All (λ plan. loaders plan ≤ length s.loaders) (plans_in run.parts) → AreLimited (rules_of (state_of s)) → front_in (state_of s) (program_of program text_of run) ≡ [] → later.rounds ≡ run.rounds → GoesOnFrom program text_of may (state_of s) new run later
+    finishes s new run later same ready finished gone enough limited none one = λ begun is.
         let was : IsReady program text_of may begun (state_of s) run.parts run.rounds = rw ready at is in
-        rw (finished, same) (ready-finished program text_of loaders fits may begun s run later was gone enough limited none one))
+        rw (finished, same) (ready-finished program text_of loaders fits may begun s run later was gone enough limited none one)
 
-    pub goes-out : (s : SessionOf S) (new : StateOf S) (run self later : RunOf P E) (orders : List CutOf) → run ≡ self → run.stage ≡ Ready → later.stage ≡ Out → GoOn program text_of loaders fits run.rounds (memory_of s) run.parts later.parts → later.rounds ≡ run.rounds + 1
-        → IsRound (program_of program text_of run) (state_of s) new orders → GoesOnFrom program text_of may (state_of s) new self later
-    goes-out s new run self later orders view ready out gone one round = subst (λ r. GoesOnFrom program text_of may (state_of s) new r later) view (λ begun is.
+    pub goes-out : (s : SessionOf S) (new : StateOf S) (run later : RunOf P E) (orders : List CutOf) → run.stage ≡ Ready → later.stage ≡ Out → GoOn program text_of loaders fits run.rounds (memory_of s) run.parts later.parts → later.rounds ≡ run.rounds + 1
+        → IsRound (program_of program text_of run) (state_of s) new orders → GoesOnFrom program text_of may (state_of s) new run later
+    goes-out s new run later orders ready out gone one round = λ begun is.
         let was : IsReady program text_of may begun (state_of s) run.parts run.rounds = rw ready at is in
-        rw out (ready-out program text_of loaders fits may begun s run later was gone new orders one round))
+        rw out (ready-out program text_of loaders fits may begun s run later was gone new orders one round)
 
     pub takes : (now new : StateOf S) (run self : RunOf P E) (shown : List ReplyOf) → run ≡ self → new ≡ received now shown → run.stage ≡ Out → AreLimited (rules_of now) → AreReceived (may_at may now.loaders) (orders_in now (program_of program text_of run)) shown
         → GoesOnFrom program text_of may now new self (record run { stage = Ready })
@@ -189,6 +189,9 @@ module _ {P E : Type 0} (program : P → Program) (text_of : P → AnsweredOf �
 
   pub fails-holds : (old new : SessionOf S) (run later : RunOf P E) → later.stage ≡ Failed → plans_in later.parts ≡ plans_in run.parts → length new.loaders ≡ length old.loaders → All (λ plan. loaders plan ≤ length old.loaders) (plans_in run.parts) → Holds program text_of loaders fits later new
   fails-holds old new run later failed plans size enough = record { enough = enough-later old new run later plans size enough; fitting = rw failed tt }
+
+  pub finished-holds : (old new : SessionOf S) (run later : RunOf P E) → later.stage ≡ Finished → plans_in later.parts ≡ plans_in run.parts → length new.loaders ≡ length old.loaders → All (λ plan. loaders plan ≤ length old.loaders) (plans_in run.parts) → Holds program text_of loaders fits later new
+  finished-holds old new run later finished plans size enough = record { enough = enough-later old new run later plans size enough; fitting = rw finished tt }
 
   pub out-holds : (old new : SessionOf S) (run later : RunOf P E) → later.stage ≡ Out → plans_in later.parts ≡ plans_in run.parts → length new.loaders ≡ length old.loaders → All (λ plan. loaders plan ≤ length old.loaders) (plans_in run.parts)
       → GoOn program text_of loaders fits run.rounds (memory_of old) run.parts later.parts → GrowsTo (memory_of old) (memory_of new) → Holds program text_of loaders fits later new

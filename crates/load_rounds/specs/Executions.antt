@@ -1,17 +1,13 @@
 -- Executions of several plans, which share rounds: what contracts see of them, and how far each is.
-use Rattle.std.specs.Prelude.{◌≡◌, ◌≢◌, ◌⊎◌, ◌++◌, ℕ, Bool, List, [], ◌∷◌, map, length, Option, Some, None, is_none}
-use Rattle.std.specs.List.{list_any}
+use Rattle.std.specs.Prelude.{◌≡◌, ◌≢◌, ◌⊎◌, ◌++◌, ℕ, List, [], ◌∷◌, map, length, Option, Some, None}
 use Rattle.load_memory.specs.Pairs.{MemoryOf, look}
 use Rattle.load_memory.specs.Replies.{ReplyOf}
-use Rattle.load_queue.specs.Wanted.{WantedOf}
 use Rattle.execution.specs.Loads.{Load, Memory, read}
 use Rattle.execution.specs.Program.{Program}
 use Rattle.execution.specs.Completion.{AnsweredOf}
 use Rattle.execution.specs.Front.{front}
-use Rattle.execution.specs.Rounds.{RuleOf, AreLimited, HasLoaders, own_rounds}
+use Rattle.execution.specs.Rounds.{RuleOf, HasLoaders, own_rounds}
 use Rattle.execution.specs.Executes.{GrowsTo}
-use Rattle.load_rounds.specs.Sessions.{SessionOf, StateOf, state_of, rules_of, session_modes}
-use Rattle.load_rounds.specs.Rounds.{AreWanted}
 use Rattle.execution.specs.Executes.{IsTextOf}
 use Rattle.load_rounds.specs.SharedRounds.{RequestOf, ReportOf, request_of, joint}
 
@@ -39,22 +35,6 @@ abbrev pub CountsRounds : List RuleOf → Memory
 CountsRounds rules M log p None = own_rounds rules p M log ≡ length log
 CountsRounds rules M log p (Some report) = own_rounds rules p M log ≡ report.rounds
 
--- no key is missing for any of them, or these are wanted
-abbrev pub FindsAll : {S : Type 0} → Program → StateOf S → Option (List WantedOf) → Type 0
-FindsAll p s None = front (session_modes s) p s.memory ≡ []
-FindsAll p s (Some wants) = (front (session_modes s) p s.memory ≢ [])
-    × (length wants ≡ length s.loaders) × AreWanted wants (front (session_modes s) p s.memory)
-
--- the session is as it was, and no loader's limit is 0
-pub record StaysLimited {S : Type 0} (old new : SessionOf S) : Type 0 where
-  pub same : new ≡ old
-  pub limited : AreLimited (rules_of (state_of old))
-
--- gives what each of several plans needs and the memory lacks, one after another
-abbrev pub fronts : {P : Type 0} → (P → Program) → MemoryOf → List P → List Load
-fronts program m [] = []
-fronts program m (p ∷ ps) = front m.modes (program p) (look m.pairs) ++ fronts program m ps
-
 abbrev pub given_to : Option ReportOf → List ReportOf
 given_to None = []
 given_to (Some report) = report ∷ []
@@ -76,10 +56,6 @@ module _ {P E : Type 0} where
   abbrev pub reports_in : List (PartOf P E) → List ReportOf
   reports_in [] = []
   reports_in (x ∷ xs) = given_to x.report ++ reports_in xs
-
-  -- some has no answer yet
-  abbrev pub some_unreported : List (PartOf P E) → Bool
-  some_unreported parts = list_any (λ part. is_none part.report) parts
 
   -- each has counted the rounds of a log
   abbrev pub CountRounds : (P → Program) → List RuleOf → Memory
@@ -108,13 +84,6 @@ module _ {P E : Type 0} where
       pub fitting : (later : MemoryOf) → GrowsTo m later
           → FitsPart new.plan new.progress new.report later
       pub within : HasLoaders (loaders new.plan) (program new.plan)
-
-    -- all of them
-    abbrev pub GoOn : ℕ → MemoryOf → List (PartOf P E) → List (PartOf P E) → Type 0
-    GoOn rounds m [] [] = Unit {0}
-    GoOn rounds m [] (y ∷ ys) = ⊥
-    GoOn rounds m (x ∷ xs) [] = ⊥
-    GoOn rounds m (x ∷ xs) (y ∷ ys) = GoesOn rounds m x y × GoOn rounds m xs ys
 
     -- those of these plans, of which nothing is done
     pub record AreBegun (plans : List P) (parts : List (PartOf P E)) : Type 0 where

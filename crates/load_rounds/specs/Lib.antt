@@ -6,6 +6,8 @@ pub mod Headline
 pub mod Held
 pub mod Histories
 pub mod KeyByKey
+pub mod Lending
+pub mod Limits
 pub mod Reading
 pub mod Rounds
 pub mod Runs

@@ -37,7 +37,7 @@ impl<S: LocalSource> Session<S> {
             (state_of self.new) (P.program plan.now)) }
     {
         let mut rounds = self.begin(plan);
-        rounds.run(self)?;
+        while rounds.turn(self)? {}
         match rounds.into_answer() {
             Some(answer) => Ok(answer),
             None => unreachable!(),
@@ -64,7 +64,7 @@ impl<S: LocalSource> Session<S> {
             (state_of self.new) (joint P.program P.text_of plans.items)) }
     {
         let mut rounds = self.begin_all(plans)?;
-        rounds.run(self)?;
+        while rounds.turn(self)? {}
         rounds.into_answers(self.alloc())
     }
 }

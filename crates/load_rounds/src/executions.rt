@@ -3,16 +3,14 @@
 //! Several plans are one program, the items of a list, each of nullable type. So the log of shared rounds is lawful by the same
 //! definition as any other, and a plan's own rounds are those in which its own front isn't empty. The execution of a plan alone takes
 //! no list.
-ghost use Rattle.std.specs.Prelude.{◌≡◌, ◌≤◌, ◌∷◌, [], All, length, map, option_map, IfOk, OnOk};
-ghost use Rattle.execution.specs.Front.{wanting, modes_wanted};
+ghost use Rattle.std.specs.Prelude.{◌≡◌, ◌<◌, ◌∷◌, [], length, map, option_map, slice_index_or, IfOk};
+ghost use Rattle.std.specs.Borrow.{sem};
 ghost use Rattle.load_rounds.specs.SharedRounds.{report_of};
-ghost use Rattle.load_rounds.specs.Executions.{AreBegun, FitParts, GoOn, plans_in, reports_in, first_report, fronts, some_unreported};
+ghost use Rattle.load_rounds.specs.Executions.{AreBegun, plans_in, reports_in, first_report};
 
 use crate::answer::Answer;
-use crate::plan_execution::{PlanExecution, answers_in, go_on_all};
+use crate::plan_execution::{PlanExecution, answers_in};
 use execution::Execute;
-use load_memory::Memory;
-use load_queue::Wants;
 use std::alloc::{AllocError, Global};
 use std::marker::Model;
 
@@ -39,6 +37,57 @@ impl<P, E> Model for Executions<P, E> {
     ghost view = { λ e. executions_held e.held };
 }
 
+impl<P, E> Held<P, E> {
+    ghost use Rattle.load_rounds.specs.Held.{executions_held};
+    ghost use Rattle.load_rounds.specs.Lending.{LendsHeld};
+
+    // The execution at a place.
+    fn execution_mut(&mut self, at: usize) -> &mut PlanExecution<P, E>
+        requires { at < length (executions_held self.old) }
+        ensures* lends { sem 𝓛 (LendsHeld P.row E.row self.entry at result) }
+        ensures value { result.now ≡ slice_index_or (executions_held self.old) at result.now }
+    {
+        match self {
+            Held::One(execution) => execution,
+            Held::Several(executions) => &mut executions[at],
+        }
+    }
+}
+
+impl<P, E> Executions<P, E> {
+    ghost use Rattle.load_rounds.specs.Lending.{LendsExecution};
+
+    /// How many they are.
+    pub(crate) fn len(&self) -> usize
+        ensures { result ≡ length self.now }
+    {
+        match &self.held {
+            Held::One(_) => 1,
+            Held::Several(executions) => executions.len(),
+        }
+    }
+
+    /// The plan at a place, from 0.
+    pub(crate) fn plan(&self, at: usize) -> &P
+        requires { at < length self.now }
+        ensures { result.now ≡ slice_index_or (plans_in self.now) at result.now }
+    {
+        match &self.held {
+            Held::One(execution) => execution.plan(),
+            Held::Several(executions) => executions[at].plan(),
+        }
+    }
+
+    /// The execution at a place, from 0.
+    pub(crate) fn execution_mut(&mut self, at: usize) -> &mut PlanExecution<P, E>
+        requires { at < length self.old }
+        ensures* lends { sem 𝓛 (LendsExecution P.row E.row self.entry at result) }
+        ensures value { result.now ≡ slice_index_or self.old at result.now }
+    {
+        self.held.execution_mut(at)
+    }
+}
+
 impl<E, P: Execute<E>> Executions<P, E> {
     /// The execution of a plan of which nothing is done.
     pub(crate) fn of_one(plan: P) -> Executions<P, E>
@@ -46,33 +95,6 @@ impl<E, P: Execute<E>> Executions<P, E> {
     {
         Executions {
             held: Held::One(PlanExecution::start(plan)),
-        }
-    }
-
-    /// Goes on with each that has no answer yet, in order, over the memory. If loads are missing, adds them to the wants and
-    /// returns true.
-    pub(crate) fn go_on(
-        &mut self,
-        alloc: Global,
-        memory: &Memory,
-        rounds: u32,
-        wants: &mut Wants,
-    ) -> Result<bool, AllocError>
-        requires enough { All (λ plan. P.loaders plan ≤ length memory.now.modes)
-            (plans_in self.old) }
-        requires lined_up { modes_wanted wants.old
-            ≡ memory.now.modes }
-        requires fits { FitParts P.program P.text_of P.loaders P.fits self.old memory.now }
-        ensures went { OnOk result (GoOn P.program P.text_of
-            P.loaders P.fits rounds memory.now self.old self.new) }
-        ensures wanted { OnOk result
-            (wants.new ≡ wanting wants.old (fronts P.program memory.now (plans_in self.old))) }
-        ensures missing { IfOk result (λ missing. missing ≡ some_unreported self.new) }
-        ensures kept { plans_in self.new ≡ plans_in self.old }
-    {
-        match &mut self.held {
-            Held::One(execution) => execution.go_on(alloc, memory, rounds, wants),
-            Held::Several(executions) => go_on_all(executions, alloc, memory, rounds, wants),
         }
     }
 }
@@ -83,6 +105,13 @@ impl<E: Drop, P: Execute<E> + Drop> Executions<P, E> {
         ensures { IfOk result (AreBegun P.program
             P.text_of P.loaders P.fits plans.items) }
     {
+        if plans.len() == 1 {
+            let mut plans = plans;
+            let Some(plan) = plans.pop() else {
+                unreachable!();
+            };
+            return Ok(Executions::of_one(plan));
+        }
         let mut executions = Vec::with_capacity(alloc, plans.len())?;
         for plan in plans {
             executions.push(PlanExecution::start(plan))?;

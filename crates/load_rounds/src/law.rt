@@ -1,10 +1,10 @@
 //! Laws of the calls of a session, one after another. Each function does nothing: its contract is the law.
-ghost use Rattle.std.specs.Prelude.{◌≡◌, ◌⊎◌, ◌∷◌, [], List, true, length, map};
+ghost use Rattle.std.specs.Prelude.{◌≡◌, ◌≤◌, ◌⊎◌, ◌∷◌, [], List, true, length, map};
 ghost use Rattle.std.specs.List.{list_any};
 ghost use Rattle.load_queue.specs.Loaders.{as_made};
 ghost use Rattle.execution.specs.Front.{front};
 ghost use Rattle.execution.specs.Logs.{HasPair};
-ghost use Rattle.execution.specs.Loads.{Memory};
+ghost use Rattle.execution.specs.Loads.{Extends, Memory, read};
 ghost use Rattle.execution.specs.Rounds.{AreLimited};
 ghost use Rattle.execution.specs.Sessions.{Forgot, AreApart};
 ghost use Rattle.execution.specs.Rounds.{direct};
@@ -19,6 +19,7 @@ ghost use Rattle.load_rounds.specs.SharedKeyByKey.{AreAnsweredAlike, AreAnswered
 ghost use Rattle.execution.specs.Front.{front_of_keys};
 ghost use Rattle.load_rounds.specs.Calls.{AreKnown};
 ghost use Rattle.load_rounds.specs.Headline.{StopsAnswering};
+ghost use Rattle.load_rounds.specs.Limits.{work_of_all};
 ghost use Rattle.load_rounds.specs.Reading.{CanLoad, HasRead, reading};
 ghost use Rattle.load_rounds.specs.Histories.{Call, Loading, StoppedExecuting, StoppedLoading, IsMadeOf, AreMadeOf, Leads, IsCall, AreCalls, clears_at, IsFrom, gained_cells, AskTwice, IsFailedAt};
 
@@ -113,4 +114,11 @@ pub fn keys_are_a_program<S: LocalSource>()
         → AreKnown new l ks os → IsCall S.may_tell (Loading l ks os) old new }
     ensures stopped { (old new : StateOf S) (l ks : _) → CanLoad old l → StopsAnswering S.may_tell
         old new (reading l ks) → IsCall S.may_tell (StoppedLoading l ks) old new }
+{}
+
+/// *Refused rightly*: over a memory that has more, the work of requests is at least as much. So where it is over a limit, whoever answers them
+/// over such a memory has answers over the limit.
+pub fn refused_rightly()
+    ensures { (modes : List KeyMode) (rs : List RequestOf) (M N : Memory) → Extends M N
+        → work_of_all rs (read modes M) ≤ work_of_all rs (read modes N) }
 {}

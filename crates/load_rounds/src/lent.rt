@@ -1,7 +1,7 @@
 //! Plans that are lent to a run.
 ghost use Rattle.std.specs.Prelude.{◌≡◌};
 
-use execution::Execute;
+use execution::{CountWork, Execute};
 use futures::task::Poll;
 use load_memory::Memory;
 use load_queue::Wants;
@@ -49,5 +49,16 @@ impl<'p, E, P: Execute<E>> Execute<E> for Lent<'p, P> {
         wants: &mut Wants,
     ) -> Result<Poll<String>, AllocError> {
         self.plan.execute(progress, alloc, memory, wants)
+    }
+}
+
+impl<'p, E, P: CountWork<E>> CountWork<E> for Lent<'p, P> {
+    fn work_left(
+        &self,
+        alloc: Global,
+        memory: &Memory,
+        most: usize,
+    ) -> Result<Option<usize>, AllocError> {
+        self.plan.work_left(alloc, memory, most)
     }
 }

@@ -19,6 +19,9 @@
 //!
 //! Several plans are answered in rounds that they share, in turn ([`Session::answer_all`]) or by the caller ([`Session::begin_all`]):
 //! there is one log, and each answer has a headline of its own (`specs::SharedRounds`, `SharedHeadline`).
+//!
+//! Answers may have limits ([`Limits`]), on the work of their plans and on their rounds ([`Session::answer_within`], `specs::Limits`). Whoever
+//! advances a run asks [`Rounds::excess`] before each round.
 #![tactic(auto)]
 
 pub mod answer;
@@ -28,6 +31,7 @@ pub mod fault;
 pub mod keys;
 pub mod law;
 pub mod lent;
+pub mod limits;
 mod plan_execution;
 mod restart;
 mod round;
@@ -40,5 +44,6 @@ pub use execution::Execute;
 pub use fault::SessionFault;
 pub use keys::KeysToLoad;
 pub use lent::Lent;
+pub use limits::{Excess, Limits};
 pub use rounds::{Rounds, Stage};
 pub use session::Session;

@@ -1,10 +1,10 @@
 //! Executions of plans: each with its answer once nothing that it needs is missing.
-ghost use Rattle.std.specs.Prelude.{◌≡◌, ◌≤◌, All, length, map, is_none, None, option_map, IfOk, OnOk};
-ghost use Rattle.execution.specs.Front.{front, wanting, modes_wanted};
+ghost use Rattle.std.specs.Prelude.{◌≡◌, map, is_none, None, option_map, IfOk, OnOk};
+ghost use Rattle.execution.specs.Front.{front, wanting};
 ghost use Rattle.load_memory.specs.Pairs.{look};
 ghost use Rattle.execution.specs.Executes.{CanExecute};
 ghost use Rattle.load_rounds.specs.SharedRounds.{report_of};
-ghost use Rattle.load_rounds.specs.Executions.{FitParts, GoOn, plans_in, reports_in, fronts, some_unreported};
+ghost use Rattle.load_rounds.specs.Executions.{reports_in};
 
 use crate::answer::Answer;
 use execution::Execute;
@@ -30,6 +30,15 @@ impl<P, E> Model for PlanExecution<P, E> {
     ghost Value = { PartOf P E };
 
     ghost view = { λ p. record { plan = p.plan; progress = p.progress; report = option_map report_of p.answer } };
+}
+
+impl<P, E> PlanExecution<P, E> {
+    /// The plan.
+    pub(crate) fn plan(&self) -> &P
+        ensures { result.now ≡ self.now.plan }
+    {
+        &self.plan
+    }
 }
 
 impl<E, P: Execute<E>> PlanExecution<P, E> {
@@ -81,36 +90,6 @@ impl<E, P: Execute<E>> PlanExecution<P, E> {
             Poll::Pending => Ok(true),
         }
     }
-}
-
-/// Goes on with each of them, in order. Returns true if loads are missing.
-pub(crate) fn go_on_all<E, P: Execute<E>>(
-    executions: &mut Vec<PlanExecution<P, E>>,
-    alloc: Global,
-    memory: &Memory,
-    rounds: u32,
-    wants: &mut Wants,
-) -> Result<bool, AllocError>
-    requires enough { All (λ plan. P.loaders plan ≤ length memory.now.modes)
-        (plans_in executions.old.items) }
-    requires lined_up { modes_wanted wants.old
-        ≡ memory.now.modes }
-    requires fits { FitParts P.program P.text_of
-        P.loaders P.fits executions.old.items memory.now }
-    ensures went { OnOk result (GoOn P.program P.text_of P.loaders
-        P.fits rounds memory.now executions.old.items executions.new.items) }
-    ensures wanted { OnOk result (wants.new
-        ≡ wanting wants.old (fronts P.program memory.now (plans_in executions.old.items))) }
-    ensures missing { IfOk result (λ missing.
-        missing ≡ some_unreported executions.new.items) }
-    ensures kept { plans_in executions.new.items ≡ plans_in executions.old.items }
-{
-    let mut is_missing = false;
-    for at in 0..executions.len() {
-        let is_next_missing = executions[at].go_on(alloc, memory, rounds, wants)?;
-        is_missing = is_missing | is_next_missing;
-    }
-    Ok(is_missing)
 }
 
 impl<P: Drop, E: Drop> PlanExecution<P, E> {

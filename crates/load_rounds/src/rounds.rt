@@ -13,7 +13,7 @@ use crate::lent::Lent;
 use crate::session::Session;
 use execution::Execute;
 use load_memory::{Receipt, Reply, Shelf};
-use load_queue::{LocalSource, Order, Wants};
+use load_queue::{LocalSource, Order};
 use std::alloc::{AllocError, Global};
 use std::marker::Model;
 
@@ -41,7 +41,7 @@ pub enum Stage {
 /// A run that is dropped while a round is out loses that round: its batches stay in the logs as not stored.
 #[derive(Drop)]
 pub struct Rounds<P, E> {
-    executions: Executions<P, E>,
+    pub(crate) executions: Executions<P, E>,
     rounds: u32,
     stage: Stage,
 }
@@ -152,39 +152,11 @@ impl<P: Drop, E: Drop> Rounds<P, E> {
 }
 
 impl<E, P: Execute<E>> Rounds<P, E> {
-    ghost use Rattle.load_rounds.specs.Executions.{FindsAll, FitParts, GoOn, StaysLimited, plans_in};
-    ghost use Rattle.load_rounds.specs.Sessions.{state_of, memory_of};
+    ghost use Rattle.load_rounds.specs.Executions.{plans_in};
+    ghost use Rattle.load_rounds.specs.Sessions.{state_of};
     ghost use Rattle.load_rounds.specs.Histories.{any_tell};
     ghost use Rattle.load_rounds.specs.ByHand.{AreReceiptsIn, AreReceivedIn, AwaitsReplies, RunsReceipts};
     ghost use Rattle.load_rounds.specs.Runs.{FailsToAsk, FailsToTake, GoesOnFrom, GoesOnIfReceived, Holds, IsNext, IsTurn, KeepsPlans, MayRun, TakesReplies, program_of};
-
-    // Goes on with each execution that has no answer yet, in order, over what is known. Returns what is missing for all of them, and
-    // nothing once each has its answer.
-    fn find<S>(&mut self, session: &mut Session<S>) -> Result<Option<Wants>, AllocError>
-        requires loaders { All (λ plan.
-            P.loaders plan ≤ length session.old.loaders) (plans_in self.old.parts) }
-        requires fits { FitParts P.program P.text_of P.loaders
-            P.fits self.old.parts (memory_of session.old) }
-        ensures found { IfOk result (FindsAll
-            (program_of P.program P.text_of self.old) (state_of session.old)) }
-        ensures went { OnOk result (GoOn P.program P.text_of P.loaders P.fits
-            self.old.rounds (memory_of session.old) self.old.parts self.new.parts) }
-        ensures stays { StaysLimited session.old session.new }
-        ensures kept { KeepsPlans session.old session.new self.old self.new }
-        ensures same { (self.new.rounds ≡ self.old.rounds)
-            × (self.new.stage ≡ self.old.stage) }
-    {
-        let alloc = session.alloc();
-        let rounds = self.rounds;
-        let mut wants = session.begin_wants()?;
-        let memory = session.memory();
-        let is_missing = self.executions.go_on(alloc, memory, rounds, &mut wants)?;
-        if is_missing {
-            return Ok(Some(wants));
-        }
-        session.keep_wants(wants);
-        Ok(None)
-    }
 
     /// Goes on with each plan that isn't finished, in order. Returns the orders of the next round, by number of loader and then by
     /// piece, which is then out, and nothing if nothing is missing any more.
@@ -216,19 +188,25 @@ impl<E, P: Execute<E>> Rounds<P, E> {
         ensures kept { KeepsPlans session.old session.new self.old self.new }
     {
         self.stage = Stage::Failed;
-        match self.find(session)? {
-            None => {
-                self.stage = Stage::Finished;
-                Ok(None)
-            }
-            Some(wants) => {
-                let rounds = self.rounds.checked_add(1).ok_or(AllocError)?;
-                let orders = session.cut(wants)?;
-                self.rounds = rounds;
-                self.stage = Stage::Out;
-                Ok(Some(orders))
-            }
+        let alloc = session.alloc();
+        let mut wants = session.begin_wants()?;
+        let memory = session.memory();
+        let mut is_missing = false;
+        for at in 0..self.executions.len() {
+            let execution = self.executions.execution_mut(at);
+            let is_next_missing = execution.go_on(alloc, memory, self.rounds, &mut wants)?;
+            is_missing = is_missing | is_next_missing;
         }
+        if !is_missing {
+            session.keep_wants(wants);
+            self.stage = Stage::Finished;
+            return Ok(None);
+        }
+        let rounds = self.rounds.checked_add(1).ok_or(AllocError)?;
+        let orders = session.cut(wants)?;
+        self.rounds = rounds;
+        self.stage = Stage::Out;
+        Ok(Some(orders))
     }
 
     /// Stores the replies to the round that is out, given by their receipts in any order. The session is as the round left it: where
@@ -333,18 +311,5 @@ impl<E, P: Execute<E>> Rounds<P, E> {
         session.run(orders)?;
         self.stage = Stage::Ready;
         Ok(true)
-    }
-
-    /// Makes round after round in turn until nothing is missing.
-    pub(crate) fn run<S: LocalSource>(&mut self, session: &mut Session<S>) -> Result<(), AllocError>
-        requires ready { self.old.stage ≡ Stage.Ready }
-        requires holds { Holds P.program P.text_of P.loaders P.fits self.old session.old }
-        ensures finished { OnOk result (self.new.stage ≡ Stage.Finished) }
-        ensures run { GoesOnFrom P.program P.text_of S.may_tell
-            (state_of session.old) (state_of session.new) self.old self.new }
-        ensures kept { KeepsPlans session.old session.new self.old self.new }
-    {
-        while self.turn(session)? {}
-        Ok(())
     }
 }

@@ -1,14 +1,14 @@
--- The first field of each response key, as fields are seen one after the other.
+-- Fields that agree under one response key: in pairs, and with the first of each key, as they are seen one after the other.
 use Rattle.std.proofs.Common.{◌≡◌, ◌∙◌, sym, ap, subst, refl, ℕ, ◌+◌, ◌<◌, ◌≤◌, inl, inr, Bool, true, false, List, length, Option, Some, None, arith, if◌then◌else◌}
 use Rattle.std.specs.Prelude.{slice_get, bytes_eq}
-use Rattle.std.proofs.lemmas.Bool.{cases_eq}
+use Rattle.std.proofs.lemmas.Bool.{cases_eq, cases_lt}
 use Rattle.std.proofs.lemmas.Slice.Eq.{bytes_eq-Decides}
 use Rattle.rules_parts.specs.Parts.{FieldPart, PartsOf}
 use Rattle.merging_members.specs.Fragments.{or_else}
 use Rattle.merging_members.proofs.Placing.{there, got-below}
-use Rattle.merging_fields.specs.Agreeing.{AgreeByKey, FieldsAgree, AreSeen}
+use Rattle.merging_fields.specs.Agreeing.{AgreeByKey, AgreeUnderOneKey, FieldsAgree, AreSeen}
 use Rattle.merging_fields.specs.Compare.{response_key, do_agree, are_alike}
-use Rattle.merging_fields.proofs.Classes.{same-selected, same-shape}
+use Rattle.merging_fields.proofs.Classes.{same-key, same-selected, same-shape}
 
 text-same : (xs ys : List ℕ) → bytes_eq xs ys ≡ true → xs ≡ ys
 text-same xs ys e = (bytes_eq-Decides xs ys).0 e
@@ -22,6 +22,21 @@ module _ (p : PartsOf) where
   own-agrees n f g hf hg =
       let same : f ≡ g = cc in
       subst (λ (x : FieldPart). (do_agree f x ≡ true) × (are_alike p.definitions f x ≡ true)) same ((same-selected).own f, (same-shape p.definitions).own f)
+
+  -- says where all pairs are compared
+  pub pairs-all : (n : ℕ) → length p.fields ≤ n → ((a b : ℕ) → a < b → b < n → AgreeUnderOneKey p a b) → AgreeByKey p
+  pairs-all n le pairs a b f g ha hb e =
+      let la = got-below p.fields a f ha in
+      let lb = got-below p.fields b g hb in
+      elim (cases_lt a b) [
+        | inl lt ↦ pairs a b lt (omega (arith, lb, le)) f g ha hb e
+        | inr ge ↦ elim (cases_eq a b) [
+          | inl same ↦ own-agrees a f g ha (ap (slice_get p.fields) same ∙ hb)
+          | inr ne ↦
+              let other = pairs b a (omega (arith, ge, ne)) (omega (arith, la, le)) g f hb ha ((same-key).swap g f ∙ e) in
+              ((same-selected).swap f g ∙ other.0, (same-shape p.definitions).swap f g ∙ other.1)
+        ]
+      ]
 
   pub none-seen : (first : List ℕ → Option ℕ) → ((q : List ℕ) → first q ≡ None) → AreSeen p first 0
   none-seen first none = record {

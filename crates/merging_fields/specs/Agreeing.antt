@@ -3,13 +3,16 @@ use Rattle.std.specs.Prelude.{◌≡◌, ◌<◌, ℕ, true, List, length, Optio
 use Rattle.rules_parts.specs.Parts.{FieldPart, PartsOf}
 use Rattle.merging_fields.specs.Compare.{response_key, have_one_key, do_agree, are_alike}
 
--- fields of one response key have equal names and arguments, and alike types
-abbrev pub AgreeByKey : PartsOf → Type 0
-AgreeByKey p = (a b : ℕ) (f g : FieldPart) → slice_get p.fields a ≡ Some f
+-- two fields have equal names and arguments, and alike types, if they have one response key
+abbrev pub AgreeUnderOneKey : PartsOf → ℕ → ℕ → Type 0
+AgreeUnderOneKey p a b = (f g : FieldPart) → slice_get p.fields a ≡ Some f
     → slice_get p.fields b ≡ Some g → have_one_key f g ≡ true
     → (do_agree f g ≡ true) × (are_alike p.definitions f g ≡ true)
 
--- two fields that are there do
+abbrev pub AgreeByKey : PartsOf → Type 0
+AgreeByKey p = (a b : ℕ) → AgreeUnderOneKey p a b
+
+-- two fields do whatever their keys
 abbrev pub FieldsAgree : PartsOf → ℕ → ℕ → Type 0
 FieldsAgree p a b = (f g : FieldPart) → slice_get p.fields a ≡ Some f
     → slice_get p.fields b ≡ Some g → (do_agree f g ≡ true) × (are_alike p.definitions f g ≡ true)

@@ -9,4 +9,3 @@ pub mod Orders
 pub mod FieldSelectionMerging
 pub mod Reports
 pub mod Selected
-pub mod Lone

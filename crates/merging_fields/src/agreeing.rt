@@ -3,12 +3,15 @@
 ghost use Rattle.std.specs.Prelude.{◌≡◌, ◌<◌, ◌+◌, ℕ, List, Some, None, length, IsTrue, IfOk, OnOk, bytes_eq, if◌then◌else◌};
 ghost use Rattle.rules_parts.specs.Parts.{parts_in};
 ghost use Rattle.merging_members.specs.Fragments.{or_else, target_at};
-ghost use Rattle.merging_fields.specs.Agreeing.{AgreeByKey, FieldsAgree, AreSeen};
+ghost use Rattle.merging_fields.specs.Agreeing.{AgreeByKey, AgreeUnderOneKey, FieldsAgree, AreSeen};
 
-use crate::attributes::{are_alike, do_agree, response_key};
+use crate::attributes::{are_alike, do_agree, have_one_key, response_key};
 use rules_parts::Parts;
 use std::alloc::{AllocError, Global};
 use std::collections::HashMap;
+
+/// The number of fields from which on the first one of a response key is found by hash.
+const MANY_FIELDS: usize = 32;
 
 /// The number of the first field of each response key.
 type FirstFields<'d> = HashMap<&'d str, usize>;
@@ -59,11 +62,41 @@ fn agrees_with_first<'d>(
     }
 }
 
-/// Tells whether all fields of one response key agree, in one pass through the fields.
+// Tells whether two fields agree, if they have one response key.
+fn agree_under_one_key(parts: &Parts, one: usize, other: usize) -> bool
+    requires one { one < length
+        (parts_in parts.now).fields }
+    requires other { other < length
+        (parts_in parts.now).fields }
+    ensures { IsTrue result
+        → AgreeUnderOneKey (parts_in parts.now) one other }
+{
+    !have_one_key(&parts.fields[one], &parts.fields[other]) || agree(parts, one, other)
+}
+
+// Tells whether all fields of one response key agree, by a look at each two.
+fn agree_in_pairs(parts: &Parts) -> bool
+    ensures { IsTrue result
+        → AgreeByKey (parts_in parts.now) }
+{
+    for number in 0..parts.fields.len() {
+        for earlier in 0..number {
+            if !agree_under_one_key(parts, earlier, number) {
+                return false;
+            }
+        }
+    }
+    true
+}
+
+/// Tells whether all fields of one response key agree. A few are compared in pairs, without memory; many in one pass.
 pub fn agree_by_key(alloc: Global, parts: &Parts) -> Result<bool, AllocError>
     ensures { IfOk result (λ agree.
         IsTrue agree → AgreeByKey (parts_in parts.now)) }
 {
+    if parts.fields.len() < MANY_FIELDS {
+        return Ok(agree_in_pairs(parts));
+    }
     let mut seen: FirstFields = HashMap::new(alloc);
     for number in 0..parts.fields.len() {
         if !agrees_with_first(parts, &mut seen, number)? {

@@ -37,7 +37,8 @@ pub fn response_key<'d>(field: &FieldPart<'d>) -> &'d str
     }
 }
 
-fn have_one_key(one: &FieldPart, other: &FieldPart) -> bool
+/// Tells whether two fields have one response key.
+pub fn have_one_key(one: &FieldPart, other: &FieldPart) -> bool
     ensures { result ≡ have_one_key
         (field_part_of one.now) (field_part_of other.now) }
 {

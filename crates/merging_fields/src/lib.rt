@@ -13,7 +13,6 @@ mod fields;
 mod grounds;
 mod known;
 mod law;
-mod lone;
 mod ranks;
 mod rules;
 

@@ -1,8 +1,9 @@
 -- Lemmas on what is looked up in a memory: of the loads of its loaders what it says, and of others
 -- nothing.
-use Rattle.std.proofs.Common.{◌≡◌, ℕ, ◌<◌, ◌≤◌, Bool, true, false, List, [], length, Option, Some, None, refl, ap, ◌∙◌, arith, if◌then◌else◌}
+use Rattle.std.proofs.Common.{◌≡◌, ℕ, ◌<◌, ◌≤◌, Bool, true, false, List, [], length, Option, Some, None, refl, sym, ap, ◌∙◌, arith, if◌then◌else◌}
 use Rattle.std.specs.Prelude.{nat_lt}
 use Rattle.std.proofs.lemmas.Bool.Decides.{nat_tests}
+use Rattle.load_memory.specs.Keys.{KeyOf, folded, mode_at}
 use Rattle.load_memory.specs.Outcomes.{OutcomeOf}
 use Rattle.load_memory.specs.Pairs.{MemoryOf, look}
 use Rattle.load_memory.specs.declared.key.KeyMode.{KeyMode}
@@ -16,6 +17,10 @@ below-true a b h = grind (arith, nat_tests)
 -- the memory has the loader
 pub lookup-same : (m : MemoryOf) (n : ℕ) → n ≤ length m.modes → (load : Load) → load.loader < n → lookup m load ≡ reader m load
 lookup-same m n le load lt = let e : nat_lt load.loader (length m.modes) ≡ true = below-true load.loader (length m.modes) (omega arith) in rw e refl
+
+-- what its pairs say of a key of the loader is what is looked up
+pub looked-up : (m : MemoryOf) (loader : ℕ) (key : KeyOf) → loader < length m.modes → look m.pairs loader (folded (mode_at m.modes loader) key) ≡ lookup m (record { loader = loader; key = key })
+looked-up m loader key lt = sym (lookup-same m (length m.modes) (omega arith) (record { loader = loader; key = key }) lt)
 
 -- a memory of no pairs says nothing
 pub lookup-nothing : (m : MemoryOf) (load : Load) → m.pairs ≡ [] → lookup m load ≡ None

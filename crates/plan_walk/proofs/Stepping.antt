@@ -39,15 +39,6 @@ reach-step R start from steps i s row there reached lt is step = λ non_null def
     ∙ ap (λ (ss : List StepOf). puts non_null (joined_object defs objects below ss row) R) (step-there steps i s lt is)
     ∙ step non_null (joined_object defs objects below (drop (i + 1) (map step_of steps)))
 
--- the last row is reached where no step is left
-pub reach-end : (R : Reader) (start : List StepOf) (from : RowOf) (steps : List ViaLoader) (i : ℕ) (row : RowOf) → Reaches R start from (drop i (map step_of steps)) row → length steps ≤ i → Reaches R start from [] row
-reach-end R start from steps i row reached le = λ non_null defs objects below.
-    reached non_null defs objects below
-    ∙ ap (λ (ss : List StepOf). puts non_null (joined_object defs objects below ss row) R) (drop_all i (map step_of steps) (omega (arith, le, length-map steps step_of)))
-
 -- those that are left after the step of a number
 pub left-after : (steps : List ViaLoader) (i n : ℕ) → i < length steps → n ≡ length steps - i - 1 → drop (i + 1) (map step_of steps) ≡ last_steps n (map step_of steps)
 left-after steps i n lt e = let same : i + 1 ≡ length (map step_of steps) - n = omega (arith, length-map steps step_of, e, lt) in ap (λ k. drop k (map step_of steps)) same
-
-pub left-first : (steps : List ViaLoader) (n i : ℕ) → i ≡ length steps - n → last_steps n (map step_of steps) ≡ drop i (map step_of steps)
-left-first steps n i e = let same : length (map step_of steps) - n ≡ i = omega (arith, length-map steps step_of, e) in ap (λ k. drop k (map step_of steps)) same

@@ -8,7 +8,7 @@ ghost use Rattle.plan_walk.specs.Reading.{lookup};
 ghost use Rattle.plan_walk.specs.Following.{StepsTo, ComesTo, FollowsTo};
 
 use crate::keys::{KeyOver, column_over};
-use crate::reading::look_up;
+use crate::reading::knows_nothing;
 use gq_bindings::ViaLoader;
 use load_memory::{KeyRef, Memory, Outcome, Probe, Row};
 use plan_program::{LeafValue, no_column_message};
@@ -56,7 +56,10 @@ fn step_from<'r>(
             return Ok(ViaRow::LeafValue(LeafValue::Fault(fault)));
         }
     };
-    match look_up(alloc, memory, probe, step.loader, key)? {
+    if knows_nothing(memory, step.loader) {
+        return Ok(ViaRow::Missing(key));
+    }
+    match memory.look_up(alloc, probe, step.loader, key)? {
         Some(outcome) => first_row_of(outcome),
         None => Ok(ViaRow::Missing(key)),
     }

@@ -1,30 +1,19 @@
-//! Reads of the memory, for a load.
+//! What is known of a memory before a load is looked up in it.
 
-ghost use Rattle.std.specs.Prelude.{◌≡◌, IfOk, option_map};
-ghost use Rattle.std.specs.Option.{option_copied};
-ghost use Rattle.load_memory.specs.Keys.{borrowed_of};
-ghost use Rattle.load_memory.specs.Outcomes.{outcome_of};
+ghost use Rattle.std.specs.Prelude.{◌≡◌, ◌<◌, IsTrue, false, length, None};
+ghost use Rattle.load_memory.specs.Keys.{KeyOf};
 ghost use Rattle.plan_walk.specs.Reading.{lookup};
 
-use load_memory::{KeyRef, Memory, Outcome, Probe};
-use std::alloc::{AllocError, Global};
+use load_memory::Memory;
 
-/// Returns what the memory says of a key of a loader; nothing where there is no such loader.
-pub fn look_up<'m>(
-    alloc: Global,
-    memory: &'m Memory,
-    probe: &mut Probe,
-    loader: usize,
-    key: KeyRef<'_>,
-) -> Result<Option<&'m Outcome>, AllocError>
-    ensures { IfOk result (λ outcome. option_map outcome_of (option_copied outcome)
-        ≡ lookup memory.now (record { loader = loader; key = borrowed_of key.entry })) }
+/// Tells whether it is seen without a look-up that a memory says nothing of a loader's keys: it is empty, or has no such loader.
+pub fn knows_nothing(memory: &Memory, loader: usize) -> bool
+    ensures nothing { IsTrue result → (key : KeyOf)
+        → lookup memory.now (record { loader = loader; key = key }) ≡ None }
+    ensures there { result ≡ false → loader < length memory.now.modes }
 {
     if memory.is_empty() {
-        return Ok(None);
+        return true;
     }
-    if loader >= memory.modes().len() {
-        return Ok(None);
-    }
-    memory.look_up(alloc, probe, loader, key)
+    loader >= memory.modes().len()
 }

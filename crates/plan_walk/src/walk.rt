@@ -8,8 +8,8 @@
 ghost use Rattle.std.specs.Prelude.{◌∷◌, [], OnOk, option_map};
 ghost use Rattle.load_memory.specs.Keys.{key_of, borrowed_of};
 ghost use Rattle.load_memory.specs.Outcomes.{outcome_of};
-ghost use Rattle.plan_program.specs.Prepared.{key_from_seen, keys_seen};
-ghost use Rattle.plan_program.specs.PlanPrograms.{with_rows, read_from, read_key, read_if};
+ghost use Rattle.plan_program.specs.Prepared.{keys_seen};
+ghost use Rattle.plan_program.specs.PlanPrograms.{with_rows, read_key, read_if};
 ghost use Rattle.plan_walk.specs.Groups.{AreOnly};
 ghost use Rattle.plan_walk.specs.Positions.{is_non_null, onward_of};
 ghost use Rattle.plan_walk.specs.Walks.{WalksMembers, WalksAsks, WalksAt, WalksList, WalksLater, WalksRow, WalksTyped, LetsGo, after_load, items_after, items_read};
@@ -22,11 +22,11 @@ use crate::loading_fields::{
     steps_of, taken_of,
 };
 use crate::positions::{Items, Leaf, Nullability, Onward, PositionKind};
-use crate::reading::look_up;
+use crate::reading::knows_nothing;
 use crate::sink::Sink;
 use gq_check::Plan;
 use load_memory::{Key, KeyRef, Memory, Outcome, Probe, Row};
-use plan_program::{KeyFrom, LeafValue, no_column_message};
+use plan_program::{LeafValue, no_column_message};
 use std::alloc::{AllocError, Global};
 
 /// Holds what a walk goes over.
@@ -113,7 +113,14 @@ impl<'w> Walk<'w> {
                     onward: Onward::at(*group, levels),
                     nullability,
                 };
-                self.read_from(at, to, *loader, key, row)
+                match key_over(key, row) {
+                    KeyOver::Known(key) => self.read(at, to, *loader, key),
+                    KeyOver::Null => at.out.leaf_value(&LeafValue::Null, nullability),
+                    KeyOver::Lacking(column) => {
+                        let fault = LeafValue::Fault(no_column_message(self.alloc, column)?);
+                        at.out.leaf_value(&fault, nullability)
+                    }
+                }
             }
             FieldResolver::Each {
                 loader,
@@ -121,29 +128,6 @@ impl<'w> Walk<'w> {
                 items,
                 group,
             } => self.each(at, Onward::at(*group, levels), *loader, keys, *items),
-        }
-    }
-
-    // A load by a key that may stand in the row.
-    #[cycle(walk)]
-    fn read_from<S: Sink>(
-        &self,
-        at: &mut Progress<S>,
-        to: LoadingPosition,
-        loader: usize,
-        key: &KeyFrom,
-        row: &Row,
-    ) -> Result<(), AllocError>
-        ensures { OnOk result (WalksAt S.goes S.below self.now to (λ v.
-            read_from loader (key_from_seen key.now) row.now (after_load to v)) at.old at.new) }
-    {
-        match key_over(key, row) {
-            KeyOver::Known(key) => self.read(at, to, loader, key),
-            KeyOver::Null => at.out.leaf_value(&LeafValue::Null, to.nullability),
-            KeyOver::Lacking(column) => {
-                let fault = LeafValue::Fault(no_column_message(self.alloc, column)?);
-                at.out.leaf_value(&fault, to.nullability)
-            }
         }
     }
 
@@ -159,7 +143,10 @@ impl<'w> Walk<'w> {
         ensures { OnOk result (WalksAt S.goes S.below self.now to (λ v.
             read_key loader (borrowed_of key.entry) (after_load to v)) at.old at.new) }
     {
-        match look_up(self.alloc, self.memory, &mut at.probe, loader, key)? {
+        if knows_nothing(self.memory, loader) {
+            return at.out.wait(to.onward, loader, key);
+        }
+        match self.memory.look_up(self.alloc, &mut at.probe, loader, key)? {
             Some(outcome) => self.go_on(at, to, outcome),
             None => at.out.wait(to.onward, loader, key),
         }

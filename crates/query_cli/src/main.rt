@@ -13,12 +13,13 @@ use query_run::{program_words, run};
 use server_lines::CountedDevice;
 use std::io;
 use std::process::ExitCode;
+use world_files::System;
 
 fn main(rt: HostRuntime) -> ExitCode {
     let mut input = CountedDevice::new(rt.reader());
     let mut output = CountedDevice::new(io::writer(&rt));
     let end = match program_words(&rt) {
-        Ok(words) => run(&rt, &words, &mut input, &mut output),
+        Ok(words) => run(&rt, &mut System::new(&rt), &words, &mut input, &mut output),
         Err(stop) => End::from(stop),
     };
     let line = end.stop.line();

@@ -114,10 +114,6 @@ IsProgramRun holds written (word ∷ words) d end = Keeps d.unread d.rest
 
 -- ---- the same, as the functions of a run see it
 
--- a folder that doesn't tell what its files hold
-abbrev pub unknown : Holdings
-unknown path = None
-
 -- lines were served with the workers and the trace of a run's words
 abbrev pub ServesFor : {R : Type 0} → Holdings → RunContext R
     → Service → DevicesOf → LocatedRunEnd → Type 0

@@ -2,7 +2,7 @@
 //!
 //! The layer above may rely on this: what [`run`] wrote is the output of the lines that it read (`specs/Runs.antt`), each answered in the
 //! session of one client over a world, which starts again before it. Without words that is the sample world, without a limit; else it is
-//! one with the limits that the words give. [`run_in`] says of a folder that tells what its files hold that the world is of all that the
+//! one with the limits that the words give. Of a folder that tells what its files hold it says that the world is of all that the
 //! named files hold, and the lines are those of the named file; and of a file that the words name for a trace, that it holds then the trace
 //! of each line that was answered (`specs/Tracing.antt`), and that no other is written. How it ends is a [`RunEnd`](query_command::RunEnd).
 //! [`program_words`] are the words of a command after its name.
@@ -12,4 +12,4 @@ mod context;
 mod running;
 mod tracing;
 
-pub use running::{program_words, run, run_in};
+pub use running::{program_words, run};

@@ -8,7 +8,7 @@ ghost use Rattle.server_lines.specs.Devices.{device_of, devices};
 ghost use Rattle.server_lines.specs.Lines.{line_feed};
 ghost use Rattle.server_lines.specs.Output.{IsCut};
 ghost use Rattle.query_run.specs.Serving.{IsServed, IsServedBy};
-ghost use Rattle.query_run.specs.Runs.{IsShown, EndsAsRefused, IsSampleRun, IsPlaced, IsPlacedTrace, RunsFiles, RunsIn, SaysWhere, ServesFor, unknown, IsWordless, WritesTrace, WritesOnlyTrace};
+ghost use Rattle.query_run.specs.Runs.{IsShown, EndsAsRefused, IsSampleRun, IsPlaced, IsPlacedTrace, RunsFiles, RunsIn, SaysWhere, ServesFor, IsWordless, WritesTrace, WritesOnlyTrace};
 ghost use Rattle.query_run.specs.Tracing.{TracesTo};
 ghost use Rattle.world_answers.specs.Services.{service_of};
 ghost use Rattle.world_files.specs.Folders.{WritesNoOther};
@@ -21,11 +21,11 @@ use server_lines::{CountedDevice, DeviceFault, ServeFault};
 use std::alloc::Global;
 use std::env;
 use std::io::{ErrorKind, Read, Write};
-use std::rt::{Env, Files};
+use std::rt::Env;
 use std::sync::Wait;
 use std::thread::Threads;
 use world_answers::{Service, lines_are_direct};
-use world_files::{Folder, System, create_trace, open_requests, open_world, sample_world};
+use world_files::{Folder, create_trace, open_requests, open_world, sample_world};
 
 /// Words of `clap` on words that are no text.
 const NOT_TEXT: &str = "error: invalid UTF-8 was detected in one or more arguments";
@@ -276,36 +276,17 @@ fn tell<W: Write>(stop: RunEnd, writer: &mut CountedDevice<W>) -> RunEnd
     }
 }
 
-/// A run of the words after the command's name. Without any it serves the sample world from the reader; else it serves the
-/// files that the words name, and reads nothing of the reader. Help is written to the writer. Where the words ask for it, the end
-/// also says in which file a fault is.
+/// A run of the words after the command's name, over the files of a folder. Without any words it serves the sample world from the
+/// reader; else it serves the files that the words name, and reads nothing of the reader. Help is written to the writer. Where the
+/// words ask for it, the end also says in which file a fault is. The file of a trace is created once all other files are opened; when
+/// the run ends, it is closed. No other file is written.
 ///
 /// # Headline
 ///
 /// the clause `run`, by `IsProgramRun`: the lines were served for one client of a service (`ServesClient`), each as
 /// `AnswersLine` says: with `ServesLine` in that client's session, and with the text of direct execution
 /// (`IsAnswer`)
-pub fn run<R: Files + Threads + Wait + AllocGlobal + Sync, I: Read, W: Write>(
-    rt: &R,
-    words: &[String],
-    reader: &mut CountedDevice<I>,
-    writer: &mut CountedDevice<W>,
-) -> End
-    ensures run { RunsIn unknown unknown words.now
-        (devices I.remaining W.contents reader.old reader.new writer.old writer.new) result }
-    ensures explained { IfSome result.explanation (λ text.
-        SaysWhere (map string_bytes words.now) result.stop (string_bytes text)) }
-{
-    run_in(rt, &mut System::new(rt), words, reader, writer)
-}
-
-/// A run as [`run`] makes it, over the files of a folder. The file of a trace is created
-/// once all other files are opened; when the run ends, it is closed. No other file is written.
-///
-/// # Headline
-///
-/// As `run` says
-pub fn run_in<R: Threads + Wait + AllocGlobal + Sync, D: Folder, I: Read, W: Write>(
+pub fn run<R: Threads + Wait + AllocGlobal + Sync, D: Folder, I: Read, W: Write>(
     rt: &R,
     folder: &mut D,
     words: &[String],

@@ -4,6 +4,7 @@ use Rattle.std.proofs.lemmas.List.{length-map}
 use Rattle.std.proofs.lemmas.List.Elements.{All-head, All-tail, All-nil, All-cons}
 use Rattle.std.proofs.lemmas.List.Sorted.{IsPermutation-refl}
 use Rattle.std.specs.Prelude.{All}
+use Rattle.std.specs.Global.{Vec}
 use Rattle.load_memory.specs.Keys.{KeyOf}
 use Rattle.load_memory.specs.Pairs.{MemoryOf}
 use Rattle.load_memory.specs.Replies.{ReplyOf}
@@ -20,28 +21,27 @@ use Rattle.execution.specs.Sessions.{Forgot, Lost}
 use Rattle.load_rounds.specs.Headline.{StopsAnswering}
 use Rattle.load_rounds.specs.Sessions.{SessionOf, StateOf, state_of, rules_of, after_step, of_first}
 use Rattle.load_rounds.specs.ByHand.{AreReceived, front_in, orders_in, received, IsAsked, IsRound, IsUnasked}
-use Rattle.load_rounds.specs.SharedRounds.{joint, requests, AreAnswers}
-use Rattle.load_rounds.specs.Executions.{plans_in}
-use Rattle.load_rounds.specs.Runs.{RunOf}
+use Rattle.load_rounds.specs.SharedRounds.{report_of, requests, joint, AreAnswers, SharedHeadline}
+use Rattle.load_rounds.specs.Executions.{plans_in, reports_in}
+use Rattle.load_rounds.specs.Runs.{RunOf, IsRun, Holds as HoldsRun, GoesOnFrom, program_of}
 use Rattle.load_rounds.specs.declared.rounds.Stage.TheVariants as stage
 use Rattle.load_rounds.proofs.Numbering.{orders-below, orders-loads}
 use Rattle.load_rounds.proofs.Runs.{lost-rules, round-asked, round-orders}
-use Rattle.load_rounds.proofs.Stages.{stopped-all}
+use Rattle.load_rounds.proofs.Stages.{stopped-all, finished-all}
 use Rattle.load_rounds.proofs.Stepping.{record-logged, record-many, record-same, record-then}
-use Rattle.rounds_by_hand.specs.declared.hand.Advance.{Advance}
-use Rattle.rounds_by_hand.specs.declared.hand.Advance.TheVariants as did
+use Rattle.load_rounds.specs.declared.answer.Answer.{Answer}
 use Rattle.rounds_by_hand.specs.declared.pending.Pending.{Pending}
 use Rattle.rounds_by_hand.specs.declared.pending.Pending.TheVariants.{Out, In}
-use Rattle.rounds_by_hand.specs.Pending.{order_in, still_out, is_in, IsAnswered}
+use Rattle.rounds_by_hand.specs.Pending.{order_in, still_out, is_in, IsReplied}
 use Rattle.rounds_by_hand.proofs.Orders.{out-orders, out-away, out-own}
-use Rattle.rounds_by_hand.specs.Hands.{FarOf, HandOf, handed, out, over, KeepsHand, KeepsLoaders, IsOutWith, HoldsFar, HasGone, GoesFrom, StepsFrom, TellsFrom, StopsFrom}
+use Rattle.rounds_by_hand.specs.Hands.{FarOf, HandOf, handed, out, over, IsUnderway, KeepsHand, KeepsLoaders, IsOutWith, HoldsFar, HasGone, Readies}
 
--- orders of which none is answered
-pub none-answered : (may : ℕ → List KeyOf → AnswerOf → Type 0) (ps : List Pending) → All (λ one. is_in one ≡ false) ps → All (IsAnswered may) ps
-none-answered may [] away = All-nil (IsAnswered may)
-none-answered may (p ∷ ps) away = All-cons (IsAnswered may) p ps (go p (All-head (λ one. is_in one ≡ false) p ps away)) (none-answered may ps (All-tail (λ one. is_in one ≡ false) p ps away))
+-- orders of which none has a reply
+pub none-replied : (may : ℕ → List KeyOf → AnswerOf → Type 0) (ps : List Pending) → All (λ one. is_in one ≡ false) ps → All (IsReplied may) ps
+none-replied may [] away = All-nil (IsReplied may)
+none-replied may (p ∷ ps) away = All-cons (IsReplied may) p ps (go p (All-head (λ one. is_in one ≡ false) p ps away)) (none-replied may ps (All-tail (λ one. is_in one ≡ false) p ps away))
   where
-    go : (one : Pending) → is_in one ≡ false → IsAnswered may one
+    go : (one : Pending) → is_in one ≡ false → IsReplied may one
     go (Out order) e = tt
     go (In reply) e = absurd (cc e)
 
@@ -99,10 +99,6 @@ module _ {S : Type 0} where
     gone-stops loaders fits begun now plans (out run ps) h = inr (stopped-all program text_of loaders fits may (state_of begun) (state_of now) plans run h.0 h.1)
     gone-stops loaders fits begun now plans over h = inr h
 
-    pub goes-weaker : (from more : SessionOf S → Type 0) (now : SessionOf S) (plans others : List P) (far : FarOf P E) → others ≡ plans → ((begun : SessionOf S) → from begun → more begun)
-        → GoesFrom program text_of may more now others far → GoesFrom program text_of may from now plans far
-    goes-weaker from more now plans others far e to goes = λ begun h. subst (λ ps. HasGone program text_of may begun now ps far) e (goes begun (to begun h))
-
   module _ {P E : Type 0} (program : P → Program) (text_of : P → AnsweredOf → List ℕ) where
     -- the orders of a round that was just made
     pub out-with : (old new : StateOf S) (plans : List P) (later : RunOf P E) (orders : List CutOf) (ps : List Pending) → plans_in later.parts ≡ plans → later.stage ≡ stage.Out → IsRound (joint program text_of plans) old new orders
@@ -112,20 +108,8 @@ module _ {S : Type 0} where
       latest = subst (λ qs. IsAsked (joint program text_of qs) new) (sym e) (round-asked (joint program text_of plans) old new orders is);
       orders = ap (map order_in) same ∙ out-orders orders ∙ sym (round-orders (joint program text_of plans) old new orders is) ∙ ap (λ qs. orders_in new (joint program text_of qs)) (sym e);
       own = rw same (out-own new.loaders orders is.cut);
-      answers = none-answered any_answer ps (rw same (out-away orders));
+      replies = none-replied any_answer ps (rw same (out-away orders));
     }
-
-  module _ {P : Type 0} (program : P → Program) (text_of : P → AnsweredOf → List ℕ) (may : S → List KeyOf → AnswerOf → Type 0) where
-    pub tells-weaker : (from more : SessionOf S → Type 0) (now : SessionOf S) (plans others : List P) (did : Advance) → others ≡ plans → ((begun : SessionOf S) → from begun → more begun)
-        → TellsFrom program text_of may more now others did → TellsFrom program text_of may from now plans did
-    tells-weaker from more now plans others (did.Finished answers) e to tells = λ begun h. subst (λ ps. AreAnswers may (state_of begun) (state_of now) (requests program text_of ps) answers) e (tells begun (to begun h))
-    tells-weaker from more now plans others did.Round e to tells = tt
-    tells-weaker from more now plans others did.Waiting e to tells = tt
-    tells-weaker from more now plans others did.Over e to tells = tt
-
-    pub stops-weaker : (from more : SessionOf S → Type 0) (now : SessionOf S) (plans others : List P) → others ≡ plans → ((begun : SessionOf S) → from begun → more begun)
-        → StopsFrom program text_of may more now others → StopsFrom program text_of may from now plans
-    stops-weaker from more now plans others e to tells = λ begun h. subst (λ ps. StopsAnswering may (state_of begun) (state_of now) (joint program text_of ps)) e (tells begun (to begun h))
 
   module _ {P E : Type 0} (program : P → Program) (text_of : P → AnsweredOf → List ℕ) (loaders : P → ℕ) (fits : P → E → MemoryOf → Type 0) where
     -- what a step keeps
@@ -140,13 +124,33 @@ module _ {S : Type 0} where
       session = kept;
     }
 
-  module _ {P E : Type 0} (program : P → Program) (text_of : P → AnsweredOf → List ℕ) (loaders : P → ℕ) (fits : P → E → MemoryOf → Type 0) (may : S → List KeyOf → AnswerOf → Type 0) where
-    -- a step from sessions on which more holds, and of plans that are the same
-    pub steps-weaker : (from more : SessionOf S → Type 0) (now : SessionOf S) (plans others : List P) (far : FarOf P E) (did : Advance) → others ≡ plans → ((begun : SessionOf S) → from begun → more begun)
-        → StepsFrom program text_of may loaders fits more now others far did → StepsFrom program text_of may loaders fits from now plans far did
-    steps-weaker from more now plans others far did e to steps = record {
-      holds = subst (λ ps. HoldsFar program text_of loaders fits now ps far) e steps.holds;
-      step = steps.step;
-      went = goes-weaker program text_of may from more now plans others far e to steps.went;
-      tells = tells-weaker program text_of may from more now plans others did e to steps.tells;
-    }
+  -- a run was made ready and went on
+  module _ {P E : Type 0} (program : P → Program) (text_of : P → AnsweredOf → List ℕ) (loaders : P → ℕ) (fits : P → E → MemoryOf → Type 0) (may : S → List KeyOf → AnswerOf → Type 0) (old mid : HandOf S P E) (run later : RunOf P E) (now : SessionOf S)
+      (ready : Readies program text_of may loaders fits old mid run) (same : mid.plans ≡ old.plans) (kept : plans_in later.parts ≡ plans_in run.parts) (went : GoesOnFrom program text_of may (state_of mid.session) (state_of now) run later) where
+    own : plans_in later.parts ≡ mid.plans
+    own = kept ∙ ready.plans ∙ sym same
+
+    ran : (begun : SessionOf S) → IsUnderway program text_of may begun old → IsRun program text_of may (state_of begun) (state_of now) later
+    ran begun h = went (state_of begun) (ready.went begun h)
+
+    -- it is over
+    pub advanced-stops : (begun : SessionOf S) → IsUnderway program text_of may begun old → StopsAnswering may (state_of begun) (state_of now) (joint program text_of mid.plans)
+    advanced-stops begun h = stopped-all program text_of loaders fits may (state_of begun) (state_of now) mid.plans later own (ran begun h)
+
+    -- nothing is missing any more
+    pub advanced-tells : later.stage ≡ stage.Finished → (answers : Vec Answer) → map report_of answers.items ≡ reports_in later.parts → (begun : SessionOf S) → IsUnderway program text_of may begun old
+        → AreAnswers may (state_of begun) (state_of now) (requests program text_of mid.plans) answers
+    advanced-tells finished answers are begun h =
+        let headline = finished-all program text_of loaders fits may (state_of begun) (state_of now) mid.plans later own finished (ran begun h) in
+        subst (λ ts. SharedHeadline may (state_of begun) (state_of now) (requests program text_of mid.plans) ts) (sym are) headline
+
+    -- a round is out
+    module _ (orders : List CutOf) (ps : List Pending) (each : ps ≡ map still_out orders) where
+      pub advanced-away : All (λ one. is_in one ≡ false) ps
+      advanced-away = rw each (out-away orders)
+
+      pub advanced-holds : later.stage ≡ stage.Out → IsRound (program_of program text_of run) (state_of mid.session) (state_of now) orders → HoldsRun program text_of loaders fits later now → HoldsFar program text_of loaders fits now mid.plans (out later ps)
+      advanced-holds away is holds = (own, out-with program text_of (state_of mid.session) (state_of now) (plans_in run.parts) later orders ps kept away is each, holds)
+
+      pub advanced-out : (begun : SessionOf S) → IsUnderway program text_of may begun old → HasGone program text_of may begun now mid.plans (out later ps)
+      advanced-out begun h = (own, ran begun h, none-replied (may_at may now.loaders) ps advanced-away)

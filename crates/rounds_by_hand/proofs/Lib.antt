@@ -2,3 +2,4 @@ pub mod Far
 pub mod Orders
 pub mod Taking
 pub mod Storing
+pub mod Becoming

@@ -25,7 +25,7 @@ none-left (x ∷ xs) e = absurd (omega (arith, e))
 pub out-more : (was now : List Pending) (items rest : List CutOf) (all : List Pending) (o : CutOf) → items ≡ o ∷ rest → now ≡ was ++ Out o ∷ [] → was ++ map still_out items ≡ all → now ++ map still_out rest ≡ all
 out-more was now items rest all o is put e = ap (λ ps. ps ++ map still_out rest) put ∙ append_assoc was (Out o ∷ []) (map still_out rest) ∙ ap (λ os. was ++ map still_out os) (sym is) ∙ e
 
--- orders of which none is answered yet
+-- orders of which none has a reply yet
 pub out-orders : (orders : List CutOf) → map order_in (map still_out orders) ≡ map asks orders
 out-orders [] = refl
 out-orders (o ∷ os) = ap (λ xs. asks o ∷ xs) (out-orders os)
@@ -77,7 +77,7 @@ module _ {S : Type 0} (loaders : List (LoaderOf S)) where
   pub given-any : (r : Reply) → r.loader < length loaders → HasAnswer any_answer (reply_of r) → IsReply (may_at any_tell loaders) (order_in (In r)) (reply_of r)
   given-any r lt h = let at = at-some loaders r.loader lt in record { loader = refl; keys = refl; answer = h.answer; may_be = (at.0, at.1, tt); outcomes = h.outcomes }
 
--- ---- one of them is answered
+-- ---- one of them gets a reply
 
 pub set-set : {X : Type 0} (xs : List X) (i : ℕ) (a b : X) → slice_set (slice_set xs i a) i b ≡ slice_set xs i b
 set-set [] i a b = refl

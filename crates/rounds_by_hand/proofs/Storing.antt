@@ -1,7 +1,6 @@
 -- Replies that are stored: those that were given, and those of the sources.
 use Rattle.std.proofs.Common.{◌≡◌, ◌∙◌, ℕ, List, [], ◌∷◌, ◌++◌, map, refl, ap, append_assoc, true}
 use Rattle.std.proofs.lemmas.List.{append-nil, map-append}
-use Rattle.std.specs.Prelude.{Result, Ok, Err, IfOk, OnOk}
 use Rattle.std.specs.List.{list_all}
 use Rattle.load_memory.specs.Keys.{KeyOf}
 use Rattle.load_memory.specs.Pairs.{look}
@@ -10,13 +9,11 @@ use Rattle.load_memory.specs.declared.reply.Reply.{Reply}
 use Rattle.load_queue.specs.Answers.{AnswerOf}
 use Rattle.execution.specs.Rounds.{after_round, may_at}
 use Rattle.load_rounds.specs.Sessions.{SessionOf, state_of, rules_of}
-use Rattle.rounds_by_hand.specs.declared.hand.Advance.{Advance}
-use Rattle.rounds_by_hand.specs.declared.hand.Advance.TheVariants as did
 use Rattle.rounds_by_hand.specs.declared.pending.Pending.{Pending}
 use Rattle.rounds_by_hand.specs.declared.pending.Pending.TheVariants.{Out, In}
 use Rattle.rounds_by_hand.specs.Pending.{is_in, replies_in, IsReplyFor, AreRepliesFor}
 use Rattle.rounds_by_hand.specs.Stored.{KnowsTheSame, Stores, StoresRound}
-use Rattle.rounds_by_hand.specs.Hands.{FarOf, handed, out, over, pending_in, OnStep, StoresFrom, StoresAskedFrom}
+use Rattle.rounds_by_hand.specs.Hands.{FarOf, handed, out, over, pending_in, StoresFrom, StoresAskedFrom}
 
 module _ (may : ℕ → List KeyOf → AnswerOf → Type 0) where
   -- these are replies for the first of the orders: with replies for the others they are for all
@@ -34,7 +31,7 @@ module _ (may : ℕ → List KeyOf → AnswerOf → Type 0) where
   pub given-all : (all rest : List Pending) (replies : List Reply) → rest ≡ [] → GivenSoFar all rest replies → AreRepliesFor may all (map reply_of replies)
   given-all all rest replies none so = rw (← append-nil (map reply_of replies)) (so [] (rw none tt))
 
-  -- where each order was answered, they are what was given
+  -- where each order had a reply, they are what was given
   pub given-in : (ps : List Pending) (rs : List ReplyOf) → list_all is_in ps ≡ true → AreRepliesFor may ps rs → rs ≡ replies_in ps
   given-in [] [] e fit = refl
   given-in [] (r ∷ rs) e fit = absurd fit
@@ -42,28 +39,19 @@ module _ (may : ℕ → List KeyOf → AnswerOf → Type 0) where
   given-in (Out order ∷ ps) (r ∷ rs) e fit = absurd (cc e)
   given-in (In reply ∷ ps) (r ∷ rs) e fit = ap (λ x. x ∷ rs) fit.0 ∙ ap (λ xs. reply_of reply ∷ xs) (given-in ps rs e fit.1)
 
--- a round that is stored, and a step after it in which nothing becomes known
-pub stored-then : {S : Type 0} (may : S → List KeyOf → AnswerOf → Type 0) (old mid new : SessionOf S) (ps : List Pending) → StoresRound may old mid ps → KnowsTheSame mid new → StoresRound may old new ps
-stored-then may old mid new ps h same = record { replies = h.replies; replied = h.replied; stored = same ∙ h.stored }
-
--- where each order was answered, no source was asked
+-- where each order had a reply, no source was asked
 pub round-given : {S : Type 0} (may : S → List KeyOf → AnswerOf → Type 0) (old new : SessionOf S) (ps : List Pending) → list_all is_in ps ≡ true → StoresRound may old new ps → Stores old new (replies_in ps)
 round-given may old new ps e h = h.stored ∙ ap (λ rs. after_round (rules_of (state_of old)) (look old.pairs) rs) (given-in (may_at may old.loaders) ps h.replies e h.replied)
 
 module _ {S P E : Type 0} (may : S → List KeyOf → AnswerOf → Type 0) where
+  -- what is stored, and a step after it in which nothing becomes known
+  pub stored-then : (far : FarOf P E) (old mid new : SessionOf S) → StoresAskedFrom may far old mid → KnowsTheSame mid new → StoresAskedFrom may far old new
+  stored-then handed old mid new h same = same ∙ h
+  stored-then (out run ps) old mid new h same = record { replies = h.replies; replied = h.replied; stored = same ∙ h.stored }
+  stored-then over old mid new h same = same ∙ h
+
   -- says the same by how far they are
   pub stores-given : (far : FarOf P E) (old new : SessionOf S) → list_all is_in (pending_in far) ≡ true → StoresAskedFrom may far old new → StoresFrom far old new
   stores-given handed old new e h = h
   stores-given (out run ps) old new e h = round-given may old new ps e h
   stores-given over old new e h = h
-
--- a fact of each call is one of each step
-pub on-step : (X : Type 0) (did : Advance) → X → OnStep did X
-on-step X (did.Finished answers) x = x
-on-step X did.Round x = x
-on-step X did.Waiting x = tt
-on-step X did.Over x = tt
-
-pub if-step : {T : Type 0} (X : Type 0) (r : Result Advance T) → OnOk r X → IfOk r (λ d. OnStep d X)
-if-step X (Ok d) x = on-step X d x
-if-step X (Err e) x = tt

@@ -1,4 +1,4 @@
--- An order that is answered.
+-- An order that gets a reply.
 use Rattle.std.proofs.Common.{◌≡◌, ◌<◌, ◌∙◌, ℕ, zero, suc, List, [], ◌∷◌, map, length, refl, ap, sym, subst, arith, Some, Result, Ok, Err}
 use Rattle.std.proofs.lemmas.List.Elements.{All-set}
 use Rattle.std.specs.Prelude.{All, slice_get}
@@ -23,7 +23,7 @@ use Rattle.load_rounds.specs.Sessions.{StateOf}
 use Rattle.load_rounds.specs.Runs.{RunOf, program_of}
 use Rattle.rounds_by_hand.specs.declared.pending.Pending.{Pending}
 use Rattle.rounds_by_hand.specs.declared.pending.Pending.TheVariants.{Out, In}
-use Rattle.rounds_by_hand.specs.Pending.{order_in, CanAsk, HasAnswer, IsAnswered, TakesAnswer, MayAnswer}
+use Rattle.rounds_by_hand.specs.Pending.{order_in, CanAsk, HasAnswer, IsReplied, TakesReply, MayReply}
 use Rattle.rounds_by_hand.specs.Hands.{IsOutWith}
 use Rattle.rounds_by_hand.proofs.Orders.{at-some}
 use Rattle.rounds_by_hand.proofs.Far.{orders-have}
@@ -60,28 +60,28 @@ all-at P [] n x at all = absurd (cc at)
 all-at P (y ∷ ys) zero x at all = let first : y ≡ x = cc at in subst P first (all 0 y (omega arith))
 all-at P (y ∷ ys) (suc n) x at all = all-at P ys n x at (λ k d lt. all (suc k) d (omega (arith, lt)))
 
-taken-order : (ps : List Pending) (n : ℕ) (answer : Result (Vec Item) FetchFault) (now : List Pending) (t : TakesAnswer ps n answer now) → order_in (In t.reply) ≡ asks t.order
+taken-order : (ps : List Pending) (n : ℕ) (answer : Result (Vec Item) FetchFault) (now : List Pending) (t : TakesReply ps n answer now) → order_in (In t.reply) ≡ asks t.order
 taken-order ps n answer now t = rw (t.loader, t.keys) refl
 
--- the orders are those that they were, and each that is answered still has an answer
-pub taken-orders : (ps : List Pending) (n : ℕ) (answer : Result (Vec Item) FetchFault) (now : List Pending) → TakesAnswer ps n answer now → map order_in now ≡ map order_in ps
+-- the orders are those that they were, and each reply still has an answer
+pub taken-orders : (ps : List Pending) (n : ℕ) (answer : Result (Vec Item) FetchFault) (now : List Pending) → TakesReply ps n answer now → map order_in now ≡ map order_in ps
 taken-orders ps n answer now t = ap (map order_in) t.put ∙ set-order ps n (Out t.order) (In t.reply) t.was (taken-order ps n answer now t)
 
 -- those that are still out are the loaders' own
-pub taken-own : {S : Type 0} (loaders : List (LoaderOf S)) (ps : List Pending) (n : ℕ) (answer : Result (Vec Item) FetchFault) (now : List Pending) → TakesAnswer ps n answer now → All (CanAsk loaders) ps → All (CanAsk loaders) now
+pub taken-own : {S : Type 0} (loaders : List (LoaderOf S)) (ps : List Pending) (n : ℕ) (answer : Result (Vec Item) FetchFault) (now : List Pending) → TakesReply ps n answer now → All (CanAsk loaders) ps → All (CanAsk loaders) now
 taken-own loaders ps n answer now t all = rw t.put (All-set (CanAsk loaders) ps n (In t.reply) tt all)
 
-pub taken-any : (ps : List Pending) (n : ℕ) (answer : Result (Vec Item) FetchFault) (now : List Pending) → TakesAnswer ps n answer now → All (IsAnswered any_answer) ps → All (IsAnswered any_answer) now
-taken-any ps n answer now t all = rw t.put (All-set (IsAnswered any_answer) ps n (In t.reply) (follow-any (asks t.order) t.reply answer t.loader t.keys t.outcomes) all)
+pub taken-any : (ps : List Pending) (n : ℕ) (answer : Result (Vec Item) FetchFault) (now : List Pending) → TakesReply ps n answer now → All (IsReplied any_answer) ps → All (IsReplied any_answer) now
+taken-any ps n answer now t all = rw t.put (All-set (IsReplied any_answer) ps n (In t.reply) (follow-any (asks t.order) t.reply answer t.loader t.keys t.outcomes) all)
 
 -- and it is one that the source may give, if the new one is
-pub taken-may : {S : Type 0} (may : S → List KeyOf → AnswerOf → Type 0) (loaders : List (LoaderOf S)) (ps : List Pending) (n : ℕ) (answer : Result (Vec Item) FetchFault) (now : List Pending) (t : TakesAnswer ps n answer now)
-    → All (λ one. (order_in one).loader < length loaders) ps → MayAnswer may loaders (asks t.order) answer → All (IsAnswered (may_at may loaders)) ps → All (IsAnswered (may_at may loaders)) now
+pub taken-may : {S : Type 0} (may : S → List KeyOf → AnswerOf → Type 0) (loaders : List (LoaderOf S)) (ps : List Pending) (n : ℕ) (answer : Result (Vec Item) FetchFault) (now : List Pending) (t : TakesReply ps n answer now)
+    → All (λ one. (order_in one).loader < length loaders) ps → MayReply may loaders (asks t.order) answer → All (IsReplied (may_at may loaders)) ps → All (IsReplied (may_at may loaders)) now
 taken-may {S} may loaders ps n answer now t within can told =
     let below = all-at (λ one. (order_in one).loader < length loaders) ps n (Out t.order) t.was within in
     let asked = at-some loaders t.order.loader below in
     let fetched : Fetched (may_at may loaders t.order.loader t.order.keys) answer = at-fetched answer asked.0 asked.1 (can asked.0 asked.1) in
-    rw t.put (All-set (IsAnswered (may_at may loaders)) ps n (In t.reply) (follow-has (may_at may loaders) (asks t.order) t.reply answer t.loader t.keys t.outcomes fetched) told)
+    rw t.put (All-set (IsReplied (may_at may loaders)) ps n (In t.reply) (follow-has (may_at may loaders) (asks t.order) t.reply answer t.loader t.keys t.outcomes fetched) told)
   where
     at-fetched : (a : Result (Vec Item) FetchFault) (l : LoaderOf S) → slice_get loaders t.order.loader ≡ Some l → Fetched (may l.source t.order.keys) a → Fetched (may_at may loaders t.order.loader t.order.keys) a
     at-fetched (Ok items) l at f = (l, at, f)
@@ -89,9 +89,9 @@ taken-may {S} may loaders ps n answer now t within can told =
     at-fetched (Err NoMemory) l at f = tt
 
 module _ {S P E : Type 0} (program : P → Program) (text_of : P → AnsweredOf → List ℕ) where
-  pub taken-with : (s : StateOf S) (run : RunOf P E) (ps : List Pending) (n : ℕ) (answer : Result (Vec Item) FetchFault) (now : List Pending) → TakesAnswer ps n answer now → IsOutWith program text_of s run ps → IsOutWith program text_of s run now
-  taken-with s run ps n answer now t h = record { stage = h.stage; latest = h.latest; orders = taken-orders ps n answer now t ∙ h.orders; own = taken-own s.loaders ps n answer now t h.own; answers = taken-any ps n answer now t h.answers }
+  pub taken-with : (s : StateOf S) (run : RunOf P E) (ps : List Pending) (n : ℕ) (answer : Result (Vec Item) FetchFault) (now : List Pending) → TakesReply ps n answer now → IsOutWith program text_of s run ps → IsOutWith program text_of s run now
+  taken-with s run ps n answer now t h = record { stage = h.stage; latest = h.latest; orders = taken-orders ps n answer now t ∙ h.orders; own = taken-own s.loaders ps n answer now t h.own; replies = taken-any ps n answer now t h.replies }
 
-  pub taken-told : (may : S → List KeyOf → AnswerOf → Type 0) (s : StateOf S) (run : RunOf P E) (ps : List Pending) (n : ℕ) (answer : Result (Vec Item) FetchFault) (now : List Pending) (t : TakesAnswer ps n answer now) → IsOutWith program text_of s run ps
-      → MayAnswer may s.loaders (asks t.order) answer → All (IsAnswered (may_at may s.loaders)) ps → All (IsAnswered (may_at may s.loaders)) now
+  pub taken-told : (may : S → List KeyOf → AnswerOf → Type 0) (s : StateOf S) (run : RunOf P E) (ps : List Pending) (n : ℕ) (answer : Result (Vec Item) FetchFault) (now : List Pending) (t : TakesReply ps n answer now) → IsOutWith program text_of s run ps
+      → MayReply may s.loaders (asks t.order) answer → All (IsReplied (may_at may s.loaders)) ps → All (IsReplied (may_at may s.loaders)) now
   taken-told may s run ps n answer now t h can told = taken-may may s.loaders ps n answer now t (orders-have s (program_of program text_of run) ps h.orders) can told

@@ -1,3 +1,4 @@
 pub mod Pending
 pub mod Stored
+pub mod Progress
 pub mod Hands

@@ -1,4 +1,4 @@
--- Orders of a round that is out, some of which are answered.
+-- Orders of a round that is out, some of which have their replies.
 use Rattle.std.specs.Prelude.{◌≡◌, ◌≤◌, ◌↔◌, ℕ, All, Bool, true, false, List, [], ◌∷◌, map, length, slice_get, Option, Some, None, Result, IsErrOf}
 use Rattle.std.specs.List.{slice_set}
 use Rattle.std.specs.Global.{Vec}
@@ -13,20 +13,20 @@ use Rattle.load_queue.specs.Orders.{OrderOf, CutOf, order_of, asks, IsCutBy}
 use Rattle.load_queue.specs.declared.source.FetchFault.{FetchFault}
 use Rattle.execution.specs.Rounds.{AreReplies, IsReply}
 use Rattle.rounds_by_hand.specs.declared.fault.TakeFault.{TakeFault}
-use Rattle.rounds_by_hand.specs.declared.fault.TakeFault.TheVariants.{NoSuchOrder, Answered, NoMemory}
+use Rattle.rounds_by_hand.specs.declared.fault.TakeFault.TheVariants.{NoSuchOrder, Replied, NoMemory}
 use Rattle.rounds_by_hand.specs.declared.pending.Pending.{Pending}
 use Rattle.rounds_by_hand.specs.declared.pending.Pending.TheVariants.{Out, In}
 
--- what the order asks, also where it is answered
+-- what the order asks, also where it has a reply
 abbrev pub order_in : Pending → OrderOf
 order_in (Out order) = asks order
 order_in (In reply) = order_of reply.loader (reply_of reply).keys
 
--- an order that isn't answered yet
+-- an order without a reply
 abbrev pub still_out : CutOf → Pending
 still_out order = Out order
 
--- an order that isn't answered was cut by the loader of its number, whose source can so be asked
+-- an order without a reply was cut by the loader of its number, whose source can so be asked
 abbrev pub CanAsk : {S : Type 0} → List (LoaderOf S) → Pending → Type 0
 CanAsk loaders (Out order) = IsCutBy loaders order
 CanAsk loaders (In reply) = Unit {0}
@@ -35,7 +35,7 @@ abbrev pub is_in : Pending → Bool
 is_in (Out order) = false
 is_in (In reply) = true
 
--- there is an order of this number, and it is answered
+-- there is an order of this number, and it has a reply
 abbrev pub is_in_at : Option Pending → Bool
 is_in_at None = false
 is_in_at (Some pending) = is_in pending
@@ -46,7 +46,7 @@ replies_in [] = []
 replies_in (Out order ∷ rest) = replies_in rest
 replies_in (In reply ∷ rest) = reply_of reply ∷ replies_in rest
 
--- an order that was answered has the reply that it was given, as it is; one that wasn't has a reply with an answer that may be given
+-- an order with a reply has that one, as it was given; one without has one with an answer that may be given
 abbrev pub IsReplyFor : (ℕ → List KeyOf → AnswerOf → Type 0) → Pending → ReplyOf → Type 0
 IsReplyFor may (Out order) reply = IsReply may (asks order) reply
 IsReplyFor may (In given) reply = reply ≡ reply_of given
@@ -66,44 +66,44 @@ pub record HasAnswer (may : ℕ → List KeyOf → AnswerOf → Type 0) (reply :
   pub may_be : may reply.loader reply.keys answer
   pub outcomes : reply.outcomes ≡ outcomes_of (length reply.keys) answer
 
--- the answer of an order, where it is answered, is one that may be given
-abbrev pub IsAnswered : (ℕ → List KeyOf → AnswerOf → Type 0) → Pending → Type 0
-IsAnswered may (Out order) = Unit {0}
-IsAnswered may (In reply) = HasAnswer may (reply_of reply)
+-- the reply to an order, where it has one, has an answer that may be given
+abbrev pub IsReplied : (ℕ → List KeyOf → AnswerOf → Type 0) → Pending → Type 0
+IsReplied may (Out order) = Unit {0}
+IsReplied may (In reply) = HasAnswer may (reply_of reply)
 
 -- replies to these orders, in order, each with an answer that may be given
 abbrev pub AreRepliesTo : (ℕ → List KeyOf → AnswerOf → Type 0) → List Pending → List Reply → Type 0
 AreRepliesTo may pending replies = AreReplies may (map order_in pending) (map reply_of replies)
 
--- says the same where each answer that is there already may be given
-abbrev pub AreRepliesIfAnswered : (ℕ → List KeyOf → AnswerOf → Type 0)
+-- says the same where each answer of a reply that is there already may be given
+abbrev pub AreRepliesIfReplied : (ℕ → List KeyOf → AnswerOf → Type 0)
     → List Pending → List Reply → Type 0
-AreRepliesIfAnswered may pending replies = All (IsAnswered may) pending
+AreRepliesIfReplied may pending replies = All (IsReplied may) pending
     → AreRepliesTo may pending replies
 
--- the order of this number, which was out, has got the reply that follows from an answer; the others are as they were
-pub record TakesAnswer (old : List Pending) (number : ℕ) (answer : Result (Vec Item) FetchFault)
+-- the order of this number, which was out, has got the reply that follows from what was given; the others are as they were
+pub record TakesReply (old : List Pending) (number : ℕ) (given : Result (Vec Item) FetchFault)
     (new : List Pending) : Type 0 where
   pub order : CutOf
   pub reply : Reply
   pub was : slice_get old number ≡ Some (Out order)
   pub loader : reply.loader ≡ order.loader
   pub keys : (reply_of reply).keys ≡ order.keys
-  pub outcomes : Follow (reply_of reply).outcomes answer (length order.keys)
+  pub outcomes : Follow (reply_of reply).outcomes given (length order.keys)
   pub put : new ≡ slice_set old number (In reply)
 
--- Why an answer to the order of this number isn't taken: there is no such order, or it was answered already, and nothing changes then;
+-- Why a reply to the order of this number isn't taken: there is no such order, or it has one already, and nothing changes then;
 -- or memory ran out, and it is over.
-pub record RefusesAnswer {H T : Type 0} (pending : List Pending) (number : ℕ) (old new : H)
+pub record RefusesReply {H T : Type 0} (pending : List Pending) (number : ℕ) (old new : H)
     (IsOver : Type 0) (result : Result T TakeFault) : Type 0 where
   pub no_order : IsErrOf result NoSuchOrder ↔ (length pending ≤ number)
-  pub answered : IsErrOf result Answered ↔ (is_in_at (slice_get pending number) ≡ true)
+  pub replied : IsErrOf result Replied ↔ (is_in_at (slice_get pending number) ≡ true)
   pub none : IsErrOf result NoSuchOrder → new ≡ old
-  pub kept : IsErrOf result Answered → new ≡ old
+  pub kept : IsErrOf result Replied → new ≡ old
   pub over : IsErrOf result NoMemory → IsOver
 
--- the answer is one that the source of the order's loader may give
-abbrev pub MayAnswer : {S : Type 0} → (S → List KeyOf → AnswerOf → Type 0)
+-- the reply is one that the source of the order's loader may give
+abbrev pub MayReply : {S : Type 0} → (S → List KeyOf → AnswerOf → Type 0)
     → List (LoaderOf S) → OrderOf → Result (Vec Item) FetchFault → Type 0
-MayAnswer {S} may loaders order answer = (asked : LoaderOf S)
-    → slice_get loaders order.loader ≡ Some asked → Fetched (may asked.source order.keys) answer
+MayReply {S} may loaders order given = (asked : LoaderOf S)
+    → slice_get loaders order.loader ≡ Some asked → Fetched (may asked.source order.keys) given

@@ -23,7 +23,7 @@ module _ {S : Type 0} where
   Stores old new replies =
       look new.pairs ≡ after_round (rules_of (state_of old)) (look old.pairs) replies
 
-  -- a reply to each of these orders is stored: as it was given, or, where nobody answered, as the order's source may answer it
+  -- a reply to each of these orders is stored: as it was given, or, where none was, as the order's source may answer it
   pub record StoresRound (may : S → List KeyOf → AnswerOf → Type 0) (old new : SessionOf S)
       (pending : List Pending) : Type 0 where
     pub replies : List ReplyOf

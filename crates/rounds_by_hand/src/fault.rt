@@ -1,17 +1,17 @@
-//! Faults: why an answer to an order wasn't taken.
+//! Faults: why a reply to an order wasn't taken.
 use std::alloc::AllocError;
 use thiserror::Error;
 
-/// Says why an answer to an order wasn't taken.
+/// Says why a reply to an order wasn't taken.
 #[derive(Clone, Copy, Debug, PartialEq, Eq, Error)]
 pub enum TakeFault {
     /// No round is out, or it has no order of that number. Nothing has changed.
     #[error("no such order")]
     NoSuchOrder,
-    /// The order was answered already. Nothing has changed.
-    #[error("the order was answered already")]
-    Answered,
-    /// Out of memory, here or as the answer. The round is lost, and the session can only be taken back.
+    /// The order has a reply already. Nothing has changed.
+    #[error("the order has a reply already")]
+    Replied,
+    /// Out of memory, here or as the reply. The round is lost, and the session can only be taken back.
     #[error("out of memory")]
     NoMemory,
 }

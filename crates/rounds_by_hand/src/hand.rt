@@ -1,10 +1,12 @@
 //! Answers to several plans, in rounds by hand, with the session in which they are answered.
-ghost use Rattle.std.specs.Prelude.{◌≡◌, [], slice_get, IfOk, IfSome, OnOk, OnErr};
+ghost use Rattle.std.specs.Prelude.{◌≡◌, [], slice_get, IfOk, IfSome, IfNone, OnOk, OnErr};
+ghost use Rattle.load_rounds.specs.Sessions.{state_of};
 
 use crate::fault::TakeFault;
-use crate::pending::{Pending, are_in, take_answer};
+use crate::pending::{Pending, all_out, are_in, take_reply};
+use crate::progress::Progress;
 use crate::seen::Seen;
-use crate::steps::{begin, finish_round};
+use crate::steps::store;
 use execution::Execute;
 use load_memory::Item;
 use load_queue::{FetchFault, LocalSource};
@@ -24,24 +26,11 @@ pub(crate) enum Far<P, E> {
     Over,
 }
 
-/// Says what a call of [`Hand::advance`] did.
-#[derive(Drop)]
-pub enum Advance {
-    /// Nothing is missing any more. There is an answer for each plan, in order.
-    Finished(Vec<Answer>),
-    /// A new round is out. Its orders are to be answered.
-    Round,
-    /// Nothing: the round that is out has an order that isn't answered.
-    Waiting,
-    /// Nothing: the answers were given before, or memory ran out.
-    Over,
-}
-
 /// Answers to several plans, which it owns, in rounds that they share and that the caller runs, with the session in which they are answered.
 /// While they are under way, nothing else can change the session.
 ///
-/// It is used in turns. [`advance`](Hand::advance) returns the answers, or a new round is out: then the caller answers each of the orders
-/// ([`orders`](Hand::orders)) by its number, in any order ([`answer`](Hand::answer)), and advances again.
+/// It is used in turns. [`advance`](Hand::advance) returns the answers, or a new round is out: then the caller replies to each of the orders
+/// ([`orders`](Hand::orders)) by its number, in any order ([`reply`](Hand::reply)), and advances again.
 ///
 /// A contract sees the session, the plans, and how far they are. `Holds` of `specs/Hands.antt` is what each call needs and keeps: the
 /// session has the loaders of each plan, as where they were begun. (No invariant of the type says it, since the type asks nothing of its
@@ -80,7 +69,7 @@ impl<S, P, E> Hand<S, P, E> {
         }
     }
 
-    /// The orders of the round that is out, each with its reply once it is answered. There are none where no round is out.
+    /// The orders of the round that is out, each with its reply once it has one. There are none where no round is out.
     pub fn orders(&self) -> &[Pending]
         ensures { result.now ≡ pending_in self.now.far }
     {
@@ -99,16 +88,17 @@ impl<S, P, E> Hand<S, P, E> {
 }
 
 impl<S: LocalSource, P: Execute<E> + Drop, E: Drop> Hand<S, P, E> {
-    ghost use Rattle.rounds_by_hand.specs.Hands.{Advances, AsksAndAdvances, AsksAndStores, AnswersFrom, GoesOn, GoesOnIfMay, GivesUp, Holds, IsOver, KeepsHand, KeepsSession, OnStep, StoresReplies, given_up, pending_in};
-    ghost use Rattle.rounds_by_hand.specs.Pending.{RefusesAnswer, TakesAnswer};
+    ghost use Rattle.rounds_by_hand.specs.Hands.{Advances, AsksAndAdvances, AsksAndStores, AnswersFrom, GoesOn, GoesOnIfMay, GivesUp, Holds, IsOver, KeepsHand, KeepsLoaders, KeepsSession, Readies, StoresReplies, given_up, pending_in};
+    ghost use Rattle.rounds_by_hand.specs.Progress.{OnStep};
+    ghost use Rattle.rounds_by_hand.specs.Pending.{RefusesReply, TakesReply};
 
-    /// Stores the round that is out, if each of its orders is answered, and goes on over what is known: returns the answers, or makes the
-    /// next round. The first call begins, and forgets failed batches.
+    /// Stores the round that is out, if each of its orders has a reply, and goes on over what is known: returns the answers, one for each
+    /// plan in order, or makes the next round. The first call begins, and forgets failed batches.
     ///
     /// # Errors
     ///
     /// Only when out of memory: the finished rounds stay, and a round that was out is lost. It is over then.
-    pub fn advance(&mut self) -> Result<Advance, AllocError>
+    pub fn advance(&mut self) -> Result<Progress<Vec<Answer>>, AllocError>
         requires { Holds P.program P.text_of P.loaders P.fits
             self.old.session self.old.plans self.old.far }
         ensures kept { KeepsHand P.program P.text_of P.loaders
@@ -125,18 +115,40 @@ impl<S: LocalSource, P: Execute<E> + Drop, E: Drop> Hand<S, P, E> {
             (StoresReplies self.old self.new)) }
     {
         if !are_in(self.orders()) {
-            return Ok(Advance::Waiting);
+            return Ok(Progress::Waiting);
         }
         self.ask_and_advance()
     }
 
-    /// Does what [`advance`](Hand::advance) does, but asks the sources of the session for the orders that nobody has answered. So it never
-    /// waits.
+    // A run that is ready to go on: that of plans of which nothing is done yet, or the one whose round was out, once the replies to it are
+    // stored. None where they are over. They are over meanwhile.
+    fn ready(&mut self) -> Result<Option<Rounds<P, E>>, AllocError>
+        requires { Holds P.program P.text_of P.loaders P.fits
+            self.old.session self.old.plans self.old.far }
+        ensures ready { IfOk result (λ ready. IfSome ready
+            (Readies P.program P.text_of S.may_tell P.loaders P.fits self.old self.new)) }
+        ensures none { IfOk result (λ ready. IfNone ready
+            (IsOver self.old.far × (self.new ≡ self.old))) }
+        ensures over { IsOver self.new.far }
+        ensures plans { self.new.plans ≡ self.old.plans }
+        ensures loaders { KeepsLoaders (state_of self.old.session) (state_of self.new.session) }
+        ensures stored { OnOk result
+            (AsksAndStores S.may_tell self.old self.new) }
+        ensures stopped { OnErr result (GoesOn P.program P.text_of S.may_tell self.old self.new) }
+    {
+        match mem::replace(&mut self.far, Far::Over) {
+            Far::Over => Ok(None),
+            Far::Handed(plans) => Ok(Some(self.session.begin_all(plans)?)),
+            Far::Out(run, pending) => Ok(Some(store(&mut self.session, run, pending)?)),
+        }
+    }
+
+    /// Does what [`advance`](Hand::advance) does, but asks the sources of the session for the orders without a reply. So it never waits.
     ///
     /// # Errors
     ///
     /// Those of [`advance`](Hand::advance).
-    pub fn ask_and_advance(&mut self) -> Result<Advance, AllocError>
+    pub fn ask_and_advance(&mut self) -> Result<Progress<Vec<Answer>>, AllocError>
         requires { Holds P.program P.text_of P.loaders P.fits
             self.old.session self.old.plans self.old.far }
         ensures kept { KeepsHand P.program P.text_of P.loaders
@@ -151,51 +163,59 @@ impl<S: LocalSource, P: Execute<E> + Drop, E: Drop> Hand<S, P, E> {
         ensures stored { OnOk result
             (AsksAndStores S.may_tell self.old self.new) }
     {
-        let (far, advance) = match mem::replace(&mut self.far, Far::Over) {
-            Far::Over => (Far::Over, Advance::Over),
-            Far::Handed(plans) => begin(&mut self.session, plans)?,
-            Far::Out(run, pending) => finish_round(&mut self.session, run, pending)?,
+        let Some(run) = self.ready()? else {
+            return Ok(Progress::Over);
         };
-        self.far = far;
-        Ok(advance)
+        let mut run = run;
+        match run.advance(&mut self.session)? {
+            None => {
+                let answers = run.into_answers(self.session.alloc())?;
+                Ok(Progress::Done(answers))
+            }
+            Some(orders) => {
+                let pending = all_out(orders)?;
+                self.far = Far::Out(run, pending);
+                Ok(Progress::Round)
+            }
+        }
     }
 
-    /// Answers the order of this number in the round that is out, with items that came from elsewhere, or with a fault of the whole batch.
-    /// An answer that hasn't an item for each key fails the batch.
+    /// Replies to the order of this number in the round that is out, with items that came from elsewhere, or with a fault of the whole
+    /// batch. A reply that hasn't an item for each key fails the batch.
     ///
     /// # Errors
     ///
-    /// [`NoSuchOrder`](TakeFault::NoSuchOrder) and [`Answered`](TakeFault::Answered): nothing has changed then.
-    /// [`NoMemory`](TakeFault::NoMemory) when out of memory, or where that is the answer: the round is lost, and it is over.
-    pub fn answer(
+    /// [`NoSuchOrder`](TakeFault::NoSuchOrder) and [`Replied`](TakeFault::Replied): nothing has changed then.
+    /// [`NoMemory`](TakeFault::NoMemory) when out of memory, or where that is the reply: the round is lost, and it is over.
+    pub fn reply(
         &mut self,
         number: usize,
-        answer: Result<Vec<Item>, FetchFault>,
+        reply: Result<Vec<Item>, FetchFault>,
     ) -> Result<(), TakeFault>
         requires { Holds P.program P.text_of P.loaders P.fits
             self.old.session self.old.plans self.old.far }
         ensures kept { KeepsSession P.program P.text_of P.loaders
             P.fits self.old self.new }
-        ensures refused { RefusesAnswer (pending_in self.old.far) number
+        ensures refused { RefusesReply (pending_in self.old.far) number
             self.old self.new (IsOver self.new.far) result }
         ensures taken { OnOk result
-            (TakesAnswer (pending_in self.old.far) number answer (pending_in self.new.far)) }
-        // It is still as the sources may answer, if this answer is.
+            (TakesReply (pending_in self.old.far) number reply (pending_in self.new.far)) }
+        // It is still as the sources may answer, if this reply is.
         ensures underway { OnOk result (IfSome (slice_get (pending_in self.old.far) number)
-            (GoesOnIfMay P.program P.text_of S.may_tell answer self.old self.new)) }
+            (GoesOnIfMay P.program P.text_of S.may_tell reply self.old self.new)) }
         ensures stopped { OnErr result (GoesOn P.program P.text_of S.may_tell self.old self.new) }
     {
         let Far::Out(_, pending) = &mut self.far else {
             return Err(TakeFault::NoSuchOrder);
         };
-        match take_answer(pending, number, answer) {
+        match take_reply(pending, number, reply) {
             Ok(()) => Ok(()),
             Err(TakeFault::NoMemory) => {
                 self.far = Far::Over;
                 Err(TakeFault::NoMemory)
             }
             Err(TakeFault::NoSuchOrder) => Err(TakeFault::NoSuchOrder),
-            Err(TakeFault::Answered) => Err(TakeFault::Answered),
+            Err(TakeFault::Replied) => Err(TakeFault::Replied),
         }
     }
 

@@ -4,7 +4,7 @@ use load_memory::{Item, Key};
 use load_queue::{FetchFault, LocalSource};
 use std::alloc::Global;
 
-/// The source of a loader whose orders the caller answers itself. It may answer anything.
+/// The source of a loader to whose orders the caller replies itself. It may answer anything.
 ///
 /// A client over such sources is to be answered by hand. Calls that ask its sources find that each batch fails.
 #[derive(Clone, Copy, Drop)]
@@ -13,7 +13,7 @@ pub struct HandedIn;
 impl LocalSource for HandedIn {
     ghost use Rattle.load_rounds.specs.Histories.{any_tell};
 
-    // whatever the caller answers, the promises hold
+    // whatever the caller replies, the promises hold
     ghost may_tell = { any_tell };
 
     fn ask(&self, alloc: Global, _keys: &[Key]) -> Result<Vec<Item>, FetchFault> {

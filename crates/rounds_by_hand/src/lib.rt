@@ -1,10 +1,10 @@
-//! Rounds by hand: answers whose orders the caller answers itself, by number and in any order, in a session that no one else can change
+//! Rounds by hand: the caller itself replies to the orders of answers, by number and in any order, in a session that no one else can change
 //! meanwhile.
 //!
-//! The layer above may rely on this: a [`Hand`] owns its session until it is given back, and its plans. Whoever answered the orders, and in whatever
+//! The layer above may rely on this: a [`Hand`] owns its session until it is given back, and its plans. Whoever replied to the orders, and in whatever
 //! order, what was done in the session since the hand was begun is `IsUnderway` of `specs/Hands.antt`, which each call keeps: rounds were
-//! made and nothing else, each order was answered as its source may answer it, and in the end the answers have the headline of
-//! `load_rounds`. An answer that no source may give is taken too, and then nothing is promised of the answers' texts; but what was given as
+//! made and nothing else, each order has a reply that its source may give, and in the end the answers have the headline of
+//! `load_rounds`. A reply that no source may give is taken too, and then nothing is promised of the answers' texts; but what was given as
 //! the reply to an order is what is stored, whoever gave it (`StoresReplies` of `specs/Hands.antt`). The requests of
 //! these calls are what the hand was made with, the loaders that the plans need, and each call keeps that.
 //!
@@ -15,11 +15,13 @@ pub mod fault;
 pub mod hand;
 pub mod handed_in;
 pub mod pending;
+pub mod progress;
 mod seen;
 mod steps;
 mod threads;
 
 pub use fault::TakeFault;
-pub use hand::{Advance, Hand};
+pub use hand::Hand;
 pub use handed_in::HandedIn;
 pub use pending::{Pending, are_in};
+pub use progress::Progress;

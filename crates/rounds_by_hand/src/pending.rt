@@ -4,7 +4,7 @@ ghost use Rattle.std.specs.List.{list_all};
 ghost use Rattle.load_memory.specs.Replies.{reply_of};
 ghost use Rattle.execution.specs.Rounds.{any_answer, may_at, IsReply};
 ghost use Rattle.load_rounds.specs.Histories.{any_tell};
-ghost use Rattle.rounds_by_hand.specs.Pending.{order_in, still_out, CanAsk, is_in, is_in_at, IsAnswered, IsReplyFor, AreRepliesFor, AreRepliesTo, AreRepliesIfAnswered, TakesAnswer};
+ghost use Rattle.rounds_by_hand.specs.Pending.{order_in, still_out, CanAsk, is_in, is_in_at, IsReplied, IsReplyFor, AreRepliesFor, AreRepliesTo, AreRepliesIfReplied, TakesReply};
 
 use crate::fault::TakeFault;
 use load_memory::{Item, Keys, Reply};
@@ -15,13 +15,13 @@ use std::mem;
 /// An order of a round that is out, or the reply to it. Its number is its place among the orders of the round.
 #[derive(Drop)]
 pub enum Pending {
-    /// It is still to be answered.
+    /// It waits for its reply.
     Out(Order),
-    /// It was answered.
+    /// It has this one.
     In(Reply),
 }
 
-/// The orders of a round, none of which is answered yet.
+/// The orders of a round, none of which has a reply yet.
 pub(crate) fn all_out(orders: Vec<Order>) -> Result<Vec<Pending>, AllocError>
     ensures { IfOk result (λ pending.
         pending.items ≡ map still_out orders.items) }
@@ -33,7 +33,7 @@ pub(crate) fn all_out(orders: Vec<Order>) -> Result<Vec<Pending>, AllocError>
     Ok(pending)
 }
 
-/// Tells whether each order was answered.
+/// Tells whether each order has a reply.
 pub fn are_in(pending: &[Pending]) -> bool
     ensures { result ≡ list_all is_in pending.now }
 {
@@ -45,7 +45,7 @@ pub fn are_in(pending: &[Pending]) -> bool
     true
 }
 
-// The reply to an order, for which its source is asked if nobody has answered it.
+// The reply to an order, for which its source is asked if nobody has replied.
 fn reply_to<S: LocalSource>(
     alloc: Global,
     one: Pending,
@@ -54,9 +54,9 @@ fn reply_to<S: LocalSource>(
     requires loader { (order_in one).loader
         < length loaders.now }
     requires own { CanAsk loaders.now one }
-    ensures any { IsAnswered any_answer one
+    ensures any { IsReplied any_answer one
         → IfOk result (λ r. IsReply (may_at any_tell loaders.now) (order_in one) (reply_of r)) }
-    ensures told { IsAnswered (may_at S.may_tell loaders.now) one
+    ensures told { IsReplied (may_at S.may_tell loaders.now) one
         → IfOk result (λ r. IsReply (may_at S.may_tell loaders.now) (order_in one) (reply_of r)) }
     ensures as_given { IfOk result (λ r.
         IsReplyFor (may_at S.may_tell loaders.now) one (reply_of r)) }
@@ -67,7 +67,7 @@ fn reply_to<S: LocalSource>(
     }
 }
 
-/// The replies to the orders of a round, in order. The source is asked for those that nobody has answered.
+/// The replies to the orders of a round, in order. The source is asked for those without one.
 pub(crate) fn replies_to<S: LocalSource>(
     pending: Vec<Pending>,
     loaders: &[Loader<S>],
@@ -75,10 +75,10 @@ pub(crate) fn replies_to<S: LocalSource>(
     requires loaders { All (λ one. (order_in one).loader
         < length loaders.now) pending.items }
     requires own { All (CanAsk loaders.now) pending.items }
-    ensures any { All (IsAnswered any_answer) pending.items
+    ensures any { All (IsReplied any_answer) pending.items
         → IfOk result (λ rs. AreRepliesTo (may_at any_tell loaders.now) pending.items rs.items) }
     ensures told { IfOk result (λ rs.
-        AreRepliesIfAnswered (may_at S.may_tell loaders.now) pending.items rs.items) }
+        AreRepliesIfReplied (may_at S.may_tell loaders.now) pending.items rs.items) }
     ensures as_given { IfOk result (λ rs. AreRepliesFor
         (may_at S.may_tell loaders.now) pending.items (map reply_of rs.items)) }
 {
@@ -90,21 +90,21 @@ pub(crate) fn replies_to<S: LocalSource>(
     Ok(replies)
 }
 
-/// Answers the order of this number, and spends it.
-pub(crate) fn take_answer(
+/// Takes the reply to the order of this number, which is spent.
+pub(crate) fn take_reply(
     pending: &mut Vec<Pending>,
     number: usize,
-    answer: Result<Vec<Item>, FetchFault>,
+    reply: Result<Vec<Item>, FetchFault>,
 ) -> Result<(), TakeFault>
     ensures no_order { IsErrOf result TakeFault.NoSuchOrder
         ↔ (length pending.old.items ≤ number) }
-    ensures answered { IsErrOf result TakeFault.Answered
+    ensures replied { IsErrOf result TakeFault.Replied
         ↔ (is_in_at (slice_get pending.old.items number) ≡ true) }
     ensures none { IsErrOf result TakeFault.NoSuchOrder
         → pending.new.items ≡ pending.old.items }
-    ensures kept { IsErrOf result TakeFault.Answered
+    ensures kept { IsErrOf result TakeFault.Replied
         → pending.new.items ≡ pending.old.items }
-    ensures taken { OnOk result (TakesAnswer pending.old.items number answer pending.new.items) }
+    ensures taken { OnOk result (TakesReply pending.old.items number reply pending.new.items) }
 {
     if number >= pending.len() {
         return Err(TakeFault::NoSuchOrder);
@@ -117,12 +117,12 @@ pub(crate) fn take_answer(
     });
     match mem::replace(&mut pending[number], blank) {
         Pending::Out(order) => {
-            pending[number] = Pending::In(order.reply_with(alloc, answer)?);
+            pending[number] = Pending::In(order.reply_with(alloc, reply)?);
             Ok(())
         }
-        Pending::In(reply) => {
-            pending[number] = Pending::In(reply);
-            Err(TakeFault::Answered)
+        Pending::In(earlier) => {
+            pending[number] = Pending::In(earlier);
+            Err(TakeFault::Replied)
         }
     }
 }

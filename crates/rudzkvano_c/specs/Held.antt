@@ -7,18 +7,17 @@ use Rattle.server.specs.Clients.{ClientOf}
 use Rattle.rounds_by_hand.specs.declared.handed_in.HandedIn.{HandedIn}
 use Rattle.host_clients.specs.Asked.{HostAsked}
 use Rattle.host_clients.specs.Clients.{Advances, HasCount, IsBegun, IsBegunLoad, KeepsOrStops, TakesFailure, TakesReply, client_in, is_busy, width_in}
-use Rattle.host_clients.specs.Faults.{code_of}
 use Rattle.flat_rows.specs.Keyed.{LaidRows}
 use Rattle.host_clients.specs.Keyed.{KeyedRowsFault, TakesKeyed}
 use Rattle.host_clients.specs.Known.{KeepsOrForgets, OnClient, PrimesSaid, Clears}
-use Rattle.host_clients.specs.Laid.{AreKeyTexts, AreKeys, LaidKeys, LaidReply, TextsOf, items_at, key_at, keys_at, reply_at}
+use Rattle.host_clients.specs.Laid.{AreKeyTexts, AreKeys, LaidKeys, LaidReply, TextsOf, items_at, key_at, keys_at, reply_at, texts_at}
 use Rattle.host_clients.specs.Loads.{AreOutcomesOf, load_orders}
 use Rattle.host_clients.specs.Opening.{RefusesOpening}
 use Rattle.host_clients.specs.Refused.{AskFault, ClearFault, FailureFault, LoadFault, PrimeFault, RowsFault}
 use Rattle.host_clients.specs.UnderWay.{IsAnswerOf, orders_out}
 use Rattle.host_clients.specs.declared.client.HostClient.{HostClient}
 use Rattle.host_clients.specs.declared.client.HostClient.TheVariants.{Asked, Answered, Loading, Loaded}
-use Rattle.host_clients.specs.declared.client.ClientProgress.{ClientProgress}
+use Rattle.rounds_by_hand.specs.declared.progress.Progress.{Progress}
 use Rattle.host_clients.specs.declared.fault.Fault.{Fault}
 use Rattle.host_clients.specs.declared.fault.Fault.TheVariants as fault
 use Rattle.host_clients.specs.declared.keyed.KeyedRefusal.{KeyedRefusal}
@@ -28,46 +27,22 @@ use Rattle.host_clients.specs.declared.object.Object.TheVariants as object
 use Rattle.host_clients.specs.declared.opening.FaultPlace.{FaultPlace}
 use Rattle.host_clients.specs.declared.opening.OpenFault.TheVariants.{NotUtf8, Refused}
 use Rattle.rudzkvano_c.specs.Codes.{code_in, progress_in}
-use Rattle.rudzkvano_c.specs.Put.{Puts}
+use Rattle.rudzkvano_c.specs.Made.{MakesClientHeld, Puts}
 use Rattle.rudzkvano_c.specs.Told.{IsRowTold, fault_told, number_of}
 use Rattle.rudzkvano_c.specs.declared.servers.SchemaFault.{SchemaFault}
-
--- a server is held, of which this holds
-abbrev pub HoldsServer : (ServerOf → Type 0) → Option Object → Type 0
-HoldsServer holds (Some (object.Server s)) = holds s
-HoldsServer holds (Some (object.Client c)) = ⊥
-HoldsServer holds (Some (object.Queries s)) = ⊥
-HoldsServer holds None = ⊥
 
 -- says how a call went, by its code
 abbrev pub WentAs : ℤ → (Result (Unit {0}) Fault → Type 0) → Type 0
 WentAs code went = (done : Result (Unit {0}) Fault) × (code ≡ code_in done) × went done
 
--- the call is refused, since the handle holds another object or none
-abbrev pub IsBadHandle : ℤ → Type 0
-IsBadHandle code = code ≡ code_of fault.BadHandle
-
--- says what a call makes of an object that is a client; another stays as it is, and the call is refused
-abbrev pub MakesObject : (HostClient → HostClient → Result (Unit {0}) Fault → Type 0)
-    → Object → Object → Result (Unit {0}) Fault → Type 0
-MakesObject makes (object.Client c) (object.Client d) done = makes c d done
-MakesObject makes (object.Client c) (object.Server s) done = ⊥
-MakesObject makes (object.Client c) (object.Queries s) done = ⊥
-MakesObject makes (object.Server s) new done = (new ≡ object.Server s)
-    × (done ≡ Err fault.BadHandle)
-MakesObject makes (object.Queries s) new done = (new ≡ object.Queries s)
-    × (done ≡ Err fault.BadHandle)
-
--- says what a call makes of what a handle holds, and how it went; an empty handle stays empty
+-- says what a call makes of the client that a handle holds, and how it went; another object stays as it is, and the call is refused
 abbrev pub Makes : (HostClient → HostClient → Result (Unit {0}) Fault → Type 0)
     → Option Object → Option Object → ℤ → Type 0
-Makes makes None new code = (new ≡ None) × IsBadHandle code
-Makes makes (Some old) None code = ⊥
-Makes makes (Some old) (Some new) code = WentAs code (MakesObject makes old new)
+Makes makes old new code = WentAs code (MakesClientHeld makes (Unit {0}) old new)
 
 -- says what is made of the object that a handle holds; of none nothing is made
-abbrev pub IsMadeOf : (Object → Result Object Fault → Type 0)
-    → Option Object → Result Object Fault → Type 0
+abbrev pub IsMadeOf : {T : Type 0} → (Object → Result T Fault → Type 0)
+    → Option Object → Result T Fault → Type 0
 IsMadeOf makes (Some object) made = makes object made
 IsMadeOf makes None made = made ≡ Err fault.BadHandle
 
@@ -80,8 +55,8 @@ Gives makes held old new code = (made : Result Object Fault)
 -- A server is made of these texts. Or none is: a text isn't UTF-8; or the schema or its bindings are refused, for the fault that is told,
 -- with its place; or memory ran out. Nothing else is told.
 abbrev pub OpensAs : List ℕ → List ℕ → SchemaFault → SchemaFault → Result Object Fault → Type 0
-OpensAs text bindings was told (Ok o) = (told ≡ was)
-    × HoldsServer (IsServer text bindings) (Some o)
+OpensAs text bindings was told (Ok (object.Server s)) = (told ≡ was) × IsServer text bindings s
+OpensAs text bindings was told (Ok o) = ⊥
 OpensAs text bindings was told (Err fault.NotUtf8) = (told ≡ was)
     × RefusesOpening text bindings NotUtf8
 OpensAs text bindings was told (Err fault.BadSchema) = (place : FaultPlace)
@@ -97,16 +72,11 @@ Opens text bindings was told old new code = (made : Result Object Fault)
 
 -- ---- what is asked of a client
 
--- a request that is being answered stays as it is
-abbrev pub StaysUnderWay : HostClient → HostClient → Type 0
-StaysUnderWay old new = is_busy old ≡ true → new ≡ old
-
--- it is begun, planned by that server; or it is refused for that fault, and the client is as it was, and what is under way too
+-- it is begun, planned by that server; or it is refused for that fault, and nothing has changed
 abbrev pub BeginsWith : ServerOf → HostAsked
     → HostClient → HostClient → Result (Unit {0}) Fault → Type 0
 BeginsWith server asked old new (Ok done) = IsBegun server old asked new
-BeginsWith server asked old new (Err e) = (client_in new ≡ client_in old)
-    × StaysUnderWay old new × AskFault server old e
+BeginsWith server asked old new (Err e) = (new ≡ old) × AskFault server old e
 
 -- says the same of the server of the queries that are held; where none are, the client stays as it is, and the call is refused
 abbrev pub BeginsBy : Option Object → HostAsked
@@ -114,28 +84,21 @@ abbrev pub BeginsBy : Option Object → HostAsked
 BeginsBy (Some (object.Queries s)) asked old new done = BeginsWith s asked old new done
 BeginsBy held asked old new done = (new ≡ old) × (done ≡ Err fault.BadHandle)
 
+-- these keys of a loader, as a host lays them out
+abbrev pub keys_of_loader : ℕ → List ℕ → List ℕ → List ℕ → LaidKeys
+keys_of_loader loader texts ends bytes =
+    record { loader = loader; shapes = texts; texts = texts_at ends bytes }
+
 -- it is begun to load keys, which are well formed, and as wide as the loader's keys; or it is refused for that fault, and nothing has changed
 abbrev pub BeginsLoad : LaidKeys → HostClient → HostClient → Result (Unit {0}) Fault → Type 0
 BeginsLoad keys old new (Ok done) = AreKeys (width_in old keys.loader) keys
     × IsBegunLoad (keys_at keys) old new
 BeginsLoad keys old new (Err e) = (new ≡ old) × LoadFault keys old e
 
--- says what a call to go on makes of an object
-abbrev pub AdvancesObject : Object → Object → Result ClientProgress Fault → Type 0
-AdvancesObject (object.Client c) (object.Client d) progress = Advances c d progress
-AdvancesObject (object.Client c) (object.Server s) progress = ⊥
-AdvancesObject (object.Client c) (object.Queries s) progress = ⊥
-AdvancesObject (object.Server s) new progress = (new ≡ object.Server s)
-    × (progress ≡ Err fault.BadHandle)
-AdvancesObject (object.Queries s) new progress = (new ≡ object.Queries s)
-    × (progress ≡ Err fault.BadHandle)
-
--- says what `rz_next` makes of a handle: of what it holds what a call to go on makes of it, by the code
+-- says what `rz_next` makes of a handle: of the client that it holds what a call to go on makes of it, by the code
 abbrev pub AdvancesHeld : Option Object → Option Object → ℤ → Type 0
-AdvancesHeld None new code = (new ≡ None) × IsBadHandle code
-AdvancesHeld (Some old) None code = ⊥
-AdvancesHeld (Some old) (Some new) code = (progress : Result ClientProgress Fault)
-    × (code ≡ progress_in progress) × AdvancesObject old new progress
+AdvancesHeld old new code = (progress : Result (Progress (Unit {0})) Fault)
+    × (code ≡ progress_in progress) × MakesClientHeld Advances (Unit {0}) old new progress
 
 -- a refused reply changes nothing; or memory ran out, and nothing has changed, or what is under way stops at that order
 abbrev pub KeepsIfRefused : ℕ → HostClient → HostClient → Fault → Type 0
@@ -170,6 +133,10 @@ TakesRowsByKey order r was told old new done = (taken : Result (Unit {0}) KeyedR
     × IfErr taken (KeepsByKey order old new) × IfErr taken (KeyedRowsFault order r old)
 
 -- ---- what a client knows
+
+-- what is on its way stays as it is
+abbrev pub StaysUnderWay : HostClient → HostClient → Type 0
+StaysUnderWay old new = is_busy old ≡ true → new ≡ old
 
 -- this is made of the client, or it is refused for that fault, and nothing has changed; but where memory ran out, an answer or outcomes may be
 -- let go, and the client is else as it was. What is under way stays as it is.
@@ -229,48 +196,16 @@ CopiesOrders orders (Asked u) done = OnOk done (orders ≡ orders_out u.hand)
 CopiesOrders orders (Loading l) done = OnOk done (orders ≡ load_orders l)
 CopiesOrders orders client done = done ≡ Err fault.NoOrder
 
--- these are the orders of the round that is out
-abbrev pub AreOrdersOf : HostClient → List OrderOf → Type 0
-AreOrdersOf (Asked u) orders = orders ≡ orders_out u.hand
-AreOrdersOf (Loading l) orders = orders ≡ load_orders l
-AreOrdersOf client orders = ⊥
-
-abbrev pub AreOrdersIn : Object → List OrderOf → Type 0
-AreOrdersIn (object.Client c) orders = AreOrdersOf c orders
-AreOrdersIn (object.Server s) orders = ⊥
-AreOrdersIn (object.Queries s) orders = ⊥
-
--- says why an object has none
-abbrev pub LacksOrders : HostClient → Fault → Type 0
-LacksOrders (Asked u) e = ⊥
-LacksOrders (Loading l) e = ⊥
-LacksOrders client e = e ≡ fault.NoOrder
-
-abbrev pub AreNoOrdersIn : Object → Fault → Type 0
-AreNoOrdersIn (object.Client c) e = LacksOrders c e
-AreNoOrdersIn (object.Server s) e = e ≡ fault.BadHandle
-AreNoOrdersIn (object.Queries s) e = e ≡ fault.BadHandle
-
--- says what is copied of an object that is a client
-abbrev pub CopiesObject : (HostClient → Result (Unit {0}) Fault → Type 0)
-    → Object → Result (Unit {0}) Fault → Type 0
-CopiesObject copies (object.Client c) done = copies c done
-CopiesObject copies (object.Server s) done = done ≡ Err fault.BadHandle
-CopiesObject copies (object.Queries s) done = done ≡ Err fault.BadHandle
-
 -- says what is copied of the client that a handle holds
 abbrev pub Copies : (HostClient → Result (Unit {0}) Fault → Type 0) → Option Object → ℤ → Type 0
-Copies copies None code = IsBadHandle code
-Copies copies (Some object) code = WentAs code (CopiesObject copies object)
+Copies copies held = Makes (λ c d. copies c) held held
 
 -- says the same of a server
 abbrev pub CopiesServer : (ServerOf → Result (Unit {0}) Fault → Type 0)
     → Object → Result (Unit {0}) Fault → Type 0
 CopiesServer copies (object.Server s) done = copies s done
-CopiesServer copies (object.Client c) done = done ≡ Err fault.BadHandle
-CopiesServer copies (object.Queries s) done = done ≡ Err fault.BadHandle
+CopiesServer copies object done = done ≡ Err fault.BadHandle
 
 abbrev pub CopiesOfServer : (ServerOf → Result (Unit {0}) Fault → Type 0)
     → Option Object → ℤ → Type 0
-CopiesOfServer copies None code = IsBadHandle code
-CopiesOfServer copies (Some object) code = WentAs code (CopiesServer copies object)
+CopiesOfServer copies held code = WentAs code (IsMadeOf (CopiesServer copies) held)

@@ -1,9 +1,8 @@
 pub mod Codes
-pub mod Put
+pub mod Made
 pub mod Told
-pub mod Key
 pub mod Held
 pub mod Sizes
-pub mod Loads
 pub mod Logged
 pub mod Loaders
+pub mod Loads

@@ -15,11 +15,8 @@ pub record AreLoaders (s : ServerOf) (kinds : List ℕ) (texts : List (List ℕ)
 abbrev pub CopiesLoaders : List ℕ → List (List ℕ) → ServerOf → Result (Unit {0}) Fault → Type 0
 CopiesLoaders kinds texts s done = OnOk done (AreLoaders s kinds texts)
 
-abbrev pub HasLoaderSizes : ServerOf → LoaderSizes → Type 0
-HasLoaderSizes s sizes = sizes ≡ record {
+abbrev pub TellsLoaderSizes : LoaderSizes → ServerOf → Result (Unit {0}) Fault → Type 0
+TellsLoaderSizes sizes s done = OnOk done (sizes ≡ record {
   loaders = length s.bindings.loaders;
   bytes = size_of (flat_map texts_of s.bindings.loaders);
-}
-
-abbrev pub TellsLoaderSizes : LoaderSizes → ServerOf → Result (Unit {0}) Fault → Type 0
-TellsLoaderSizes sizes s done = OnOk done (HasLoaderSizes s sizes)
+})

@@ -4,20 +4,11 @@ use Rattle.std.specs.Prelude.{ℕ, ◌≡◌, List, Result, Ok, Err, OnOk}
 use Rattle.load_memory.specs.Outcomes.{OutcomeOf}
 use Rattle.flat_outcomes.specs.Said.{outcomes_said}
 use Rattle.flat_outcomes.specs.Written.{all_faults}
-use Rattle.host_clients.specs.Laid.{LaidKeys, texts_at}
 use Rattle.host_clients.specs.Loads.{AreOutcomesOf}
 use Rattle.host_clients.specs.declared.client.HostClient.{HostClient}
 use Rattle.host_clients.specs.declared.client.HostClient.TheVariants.{Loaded}
 use Rattle.host_clients.specs.declared.fault.Fault.{Fault}
 use Rattle.host_clients.specs.declared.fault.Fault.TheVariants as fault
-use Rattle.host_clients.specs.declared.object.Object.{Object}
-use Rattle.host_clients.specs.declared.object.Object.TheVariants as object
-use Rattle.rudzkvano_c.specs.Held.{CopiesObject}
-
--- these keys of a loader, as a host lays them out
-abbrev pub keys_of_loader : ℕ → List ℕ → List ℕ → List ℕ → LaidKeys
-keys_of_loader loader texts ends bytes =
-    record { loader = loader; shapes = texts; texts = texts_at ends bytes }
 
 -- a client has these outcomes, which are those of the keys that it loaded last
 abbrev pub HasOutcomes : List OutcomeOf → HostClient → Type 0
@@ -25,20 +16,10 @@ HasOutcomes outcomes (Loaded d) = (outcomes ≡ d.outcomes)
     × AreOutcomesOf d.client.server d.asked outcomes
 HasOutcomes outcomes client = ⊥
 
-abbrev pub AreOutcomesIn : Object → List OutcomeOf → Type 0
-AreOutcomesIn (object.Client c) outcomes = HasOutcomes outcomes c
-AreOutcomesIn (object.Server s) outcomes = ⊥
-AreOutcomesIn (object.Queries s) outcomes = ⊥
-
--- says why an object has no outcomes
-abbrev pub LacksOutcomes : Fault → HostClient → Type 0
-LacksOutcomes e (Loaded d) = ⊥
-LacksOutcomes e client = e ≡ fault.Idle
-
-abbrev pub AreNoOutcomesIn : Object → Fault → Type 0
-AreNoOutcomesIn (object.Client c) e = LacksOutcomes e c
-AreNoOutcomesIn (object.Server s) e = e ≡ fault.BadHandle
-AreNoOutcomesIn (object.Queries s) e = e ≡ fault.BadHandle
+-- says why a client has none
+abbrev pub LacksOutcomes : HostClient → Fault → Type 0
+LacksOutcomes (Loaded d) e = ⊥
+LacksOutcomes client e = e ≡ fault.Idle
 
 -- with the client's faults these numbers and texts say its outcomes
 abbrev pub CopiesRows : List ℕ → List ℕ → List (List ℕ)
@@ -55,6 +36,6 @@ CopiesFaults faults client done = done ≡ Err fault.Idle
 
 -- says the same once the rows were copied, unless that was refused
 abbrev pub CopiesFaultsAfter : Result (Unit {0}) Fault
-    → List (List ℕ) → Object → Result (Unit {0}) Fault → Type 0
-CopiesFaultsAfter (Ok copied) faults o done = CopiesObject (CopiesFaults faults) o done
-CopiesFaultsAfter (Err e) faults o done = done ≡ Err e
+    → List (List ℕ) → HostClient → Result (Unit {0}) Fault → Type 0
+CopiesFaultsAfter (Ok copied) faults client done = CopiesFaults faults client done
+CopiesFaultsAfter (Err e) faults client done = done ≡ Err e

@@ -8,7 +8,7 @@ use Rattle.flat_outcomes.specs.Written.{all_faults, all_rows, row_texts}
 use Rattle.host_clients.specs.Loads.{load_orders}
 use Rattle.host_clients.specs.UnderWay.{orders_out}
 use Rattle.host_clients.specs.declared.client.HostClient.{HostClient}
-use Rattle.host_clients.specs.declared.client.HostClient.TheVariants.{Idle, Asked, Answered, Loading, Loaded, Moved}
+use Rattle.host_clients.specs.declared.client.HostClient.TheVariants.{Idle, Asked, Answered, Loading, Loaded}
 use Rattle.host_clients.specs.declared.fault.Fault.{Fault}
 use Rattle.host_clients.specs.declared.fault.Fault.TheVariants as fault
 use Rattle.rudzkvano_c.specs.declared.loads.LoadSizes.{LoadSizes}
@@ -35,7 +35,6 @@ sizes_in (Asked u) = sizes_of (orders_out u.hand)
 sizes_in (Answered a) = record no_sizes { answer = length a.text; rounds = a.rounds }
 sizes_in (Loading l) = sizes_of (load_orders l)
 sizes_in (Loaded d) = no_sizes
-sizes_in Moved = no_sizes
 
 abbrev pub TellsSizes : Sizes → HostClient → Result (Unit {0}) Fault → Type 0
 TellsSizes sizes client done = OnOk done (sizes ≡ sizes_in client)

@@ -5,26 +5,11 @@ ghost use Rattle.host_clients.specs.Known.{LimitsAnswers};
 ghost use Rattle.host_clients.specs.Objects.{MakesClient};
 ghost use Rattle.host_clients.specs.Opening.{limit_of};
 ghost use Rattle.host_clients.specs.Refused.{BeginFault, BusyFault};
-ghost use Rattle.rudzkvano_c.specs.Held.{Becomes, Gives, IsMadeOf, Makes, MakesObject};
+ghost use Rattle.rudzkvano_c.specs.Held.{Becomes, Gives, Makes};
 
 use crate::codes::code_of;
 use crate::handle::Handle;
-use host_clients::{Fault, Object};
 use std::alloc::Global;
-
-// A client of the server of a handle.
-fn client_object(alloc: Global, server: &mut Handle, limits: &[u32]) -> Result<Object, Fault>
-    ensures made { IsMadeOf
-        (MakesClient limits.now) server.old.held result }
-    ensures kept { server.new.held ≡ server.old.held }
-{
-    let Some(object) = server.take(alloc) else {
-        return Err(Fault::BadHandle);
-    };
-    let opened = object.client(alloc, limits);
-    server.put(alloc, object);
-    opened
-}
 
 /// Holds a client of a server in a handle of its own. It knows nothing.
 ///
@@ -42,7 +27,7 @@ pub extern "C" fn rz_client(
         server.old.held client.old.held client.new.held result }
     ensures kept { server.new.held ≡ server.old.held }
 {
-    let opened = client_object(alloc, server, limits);
+    let opened = server.on_object(alloc, &mut |object| object.client(alloc, limits));
     code_of(client.put_made(alloc, opened))
 }
 
@@ -51,15 +36,6 @@ fn limit_of(most: usize) -> Option<usize>
     ensures { result ≡ limit_of most }
 {
     if most == 0 { None } else { Some(most) }
-}
-
-fn limit_answers(object: &mut Object, most: usize) -> Result<(), Fault>
-    ensures { MakesObject (Becomes (LimitsAnswers (limit_of most)) BusyFault) object.old object.new result }
-{
-    match object {
-        Object::Client(client) => client.limit_answers(limit_of(most)),
-        Object::Server(_) | Object::Queries(_) => Err(Fault::BadHandle),
-    }
 }
 
 /// Limits the answers of a client to `most` bytes; 0 is no limit.
@@ -74,22 +50,8 @@ pub extern "C" fn rz_limit_answers(alloc: Global, client: &mut Handle, most: usi
     ensures { Makes (Becomes (LimitsAnswers (limit_of most)) BusyFault)
         client.old.held client.new.held result }
 {
-    let Some(mut object) = client.take(alloc) else {
-        return Fault::BadHandle.code();
-    };
-    let limited = limit_answers(&mut object, most);
-    client.put(alloc, object);
-    code_of(limited)
-}
-
-fn restart(object: &mut Object) -> Result<(), Fault>
-    ensures { MakesObject (Becomes (λ c d. d ≡ begun c) BeginFault)
-        object.old object.new result }
-{
-    match object {
-        Object::Client(client) => client.restart(),
-        Object::Server(_) | Object::Queries(_) => Err(Fault::BadHandle),
-    }
+    let most = limit_of(most);
+    code_of(client.on_client(alloc, &mut |client| client.limit_answers(most)))
 }
 
 /// Forgets all keys, logs and rounds.
@@ -102,12 +64,7 @@ pub extern "C" fn rz_restart(alloc: Global, client: &mut Handle) -> i32
     ensures { Makes (Becomes (λ c d. d ≡ begun c) BeginFault)
         client.old.held client.new.held result }
 {
-    let Some(mut object) = client.take(alloc) else {
-        return Fault::BadHandle.code();
-    };
-    let restarted = restart(&mut object);
-    client.put(alloc, object);
-    code_of(restarted)
+    code_of(client.on_client(alloc, &mut |client| client.restart()))
 }
 
 /// Frees what a handle holds.

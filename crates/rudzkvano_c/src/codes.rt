@@ -2,7 +2,7 @@
 ghost use Rattle.std.specs.Prelude.{◌≡◌};
 ghost use Rattle.rudzkvano_c.specs.Codes.{code_in, progress_in};
 
-use host_clients::{ClientProgress, Fault};
+use host_clients::{Fault, Progress};
 
 /// The version of the library: 65,536 times the major number, 256 times the minor one, and the patch.
 const VERSION: u32 = 131_072;
@@ -18,13 +18,14 @@ pub fn code_of(done: Result<(), Fault>) -> i32
 }
 
 /// Returns what `rz_next` returns.
-pub fn progress_code(progress: Result<ClientProgress, Fault>) -> i32
+pub fn progress_code(progress: Result<Progress<()>, Fault>) -> i32
     ensures { result ≡ progress_in progress }
 {
     match progress {
-        Ok(ClientProgress::Done) => 0,
-        Ok(ClientProgress::Round) => 1,
-        Ok(ClientProgress::Waiting) => 2,
+        Ok(Progress::Done(())) => 0,
+        Ok(Progress::Round) => 1,
+        Ok(Progress::Waiting) => 2,
+        Ok(Progress::Over) => Fault::Stopped.code(),
         Err(fault) => fault.code(),
     }
 }

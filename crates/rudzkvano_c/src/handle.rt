@@ -1,11 +1,14 @@
 //! Handles, which C holds.
-ghost use Rattle.std.specs.Prelude.{◌≡◌, Option, None, Some, OnOk, IfErr, option_map};
+ghost use Rattle.std.specs.Prelude.{◌≡◌, Option, None, Some, option_map};
 ghost use Rattle.std.specs.Coded.{coded_option};
+ghost use Rattle.std.specs.Fn.{CalledAtMut};
 ghost use Rattle.host_clients.specs.declared.object.Object.{Object};
 ghost use Rattle.host_clients.specs.contracts.object.Object.{the_row};
+ghost use Rattle.rudzkvano_c.specs.Made.{MakesClientHeld, MakesHeld, Puts};
 
+use core::mem::replace_with;
 use foreign_handles::{Slot, sent};
-use host_clients::{Fault, Object};
+use host_clients::{Fault, HostClient, Object};
 use std::alloc::Global;
 use std::marker::{Model, Send};
 use std::mem;
@@ -33,8 +36,6 @@ impl Model for Handle {
 unsafe impl Send for Handle {}
 
 impl Handle {
-    ghost use Rattle.rudzkvano_c.specs.Put.{Puts};
-
     fn of(slot: Slot<Object>) -> Handle
         ensures { result.held ≡ slot.held }
     {
@@ -60,33 +61,90 @@ impl Handle {
             .into_box(alloc)
     }
 
-    /// Holds this in a box of its own. What it held before is freed.
-    pub fn put_new(&mut self, alloc: Global, object: Object) -> Result<(), Fault>
-        ensures put { OnOk result
-            (self.new.held ≡ Some object) }
-        ensures kept { IfErr result (λ fault.
-            (fault ≡ Fault.NoMemory) × (self.new.held ≡ self.old.held)) }
+    /// Holds what was made, in a box of its own, unless nothing was. What it held before is freed.
+    pub fn put_made(&mut self, alloc: Global, made: Result<Object, Fault>) -> Result<(), Fault>
+        ensures { Puts made self.old.held
+            self.new.held result }
     {
-        let Ok(object) = Box::new(alloc, object) else {
+        let Ok(object) = Box::new(alloc, made?) else {
             return Err(Fault::NoMemory);
         };
         self.put(alloc, object);
         Ok(())
     }
 
-    /// Holds what was made, in a box of its own, unless nothing was.
-    pub fn put_made(&mut self, alloc: Global, made: Result<Object, Fault>) -> Result<(), Fault>
-        ensures { Puts made self.old.held
-            self.new.held result }
+    /// Does this to the object that it holds, once, unless it holds nothing.
+    pub fn on_object<T, F: FnMut(&mut Object) -> Result<T, Fault>>(
+        &mut self,
+        alloc: Global,
+        act: &mut F,
+    ) -> Result<T, Fault>
+        requires { (x : _) → F.pre act.old x }
+        ensures { MakesHeld (λ o p r. CalledAtMut F.FnMut act.old o r act.new p) (act.new ≡ act.old)
+            self.old.held self.new.held result }
     {
-        match made {
-            Ok(object) => self.put_new(alloc, object),
-            Err(fault) => Err(fault),
+        let Some(mut object) = self.take(alloc) else {
+            return Err(Fault::BadHandle);
+        };
+        let done = act(&mut object);
+        self.put(alloc, object);
+        done
+    }
+
+    /// Does this to the client that it holds, once, unless it holds none.
+    pub fn on_client<T, F: FnMut(&mut HostClient) -> Result<T, Fault>>(
+        &mut self,
+        alloc: Global,
+        act: &mut F,
+    ) -> Result<T, Fault>
+        requires { (x : _) → F.pre act.old x }
+        ensures { MakesClientHeld (λ c d r. CalledAtMut F.FnMut act.old c r act.new d) (act.new ≡ act.old)
+            self.old.held self.new.held result }
+    {
+        let Some(mut object) = self.take(alloc) else {
+            return Err(Fault::BadHandle);
+        };
+        match &mut *object {
+            Object::Client(client) => {
+                let done = act(client);
+                self.put(alloc, object);
+                done
+            }
+            Object::Server(_) | Object::Queries(_) => {
+                self.put(alloc, object);
+                Err(Fault::BadHandle)
+            }
         }
     }
 
-    /// Holds this. What it held before is freed.
-    pub fn put(&mut self, alloc: Global, object: Box<Object>)
+    /// Puts what this makes of the client that it holds in the client's place, unless it holds none.
+    pub fn replace_client<T, F: FnOnce(HostClient, Global) -> (HostClient, Result<T, Fault>)>(
+        &mut self,
+        alloc: Global,
+        act: F,
+    ) -> Result<T, Fault>
+        requires { (x : _) (y : _) → F.pre act x y }
+        ensures { MakesClientHeld (λ c d r. F.post act c alloc (d, r)) (Unit {0})
+            self.old.held self.new.held result }
+    {
+        let Some(mut object) = self.take(alloc) else {
+            return Err(Fault::BadHandle);
+        };
+        match &mut *object {
+            Object::Client(client) => {
+                let done = replace_with(client, alloc, act);
+                self.put(alloc, object);
+                done
+            }
+            Object::Server(_) | Object::Queries(_) => {
+                self.put(alloc, object);
+                Err(Fault::BadHandle)
+            }
+        }
+    }
+
+    // Holds this. What it held before is freed.
+    fn put(&mut self, alloc: Global, object: Box<Object>)
         ensures { self.new.held ≡ Some object.value }
     {
         let held = mem::replace(self, Handle::of(Slot::of(object)));

@@ -1,19 +1,18 @@
 //! Keys of a client, and what its loaders were asked.
-ghost use Rattle.std.specs.Prelude.{◌≡◌, IfOk};
+ghost use Rattle.std.specs.Prelude.{◌≡◌, Ok, IfOk};
 ghost use Rattle.load_memory.specs.Cells.{cut};
 ghost use Rattle.load_rounds.specs.Histories.{ClearingAll};
 ghost use Rattle.flat_orders.specs.Written.{lists_said};
 ghost use Rattle.host_clients.specs.Known.{Calls};
-ghost use Rattle.host_clients.specs.Laid.{laid_reply, texts_at};
+ghost use Rattle.host_clients.specs.Laid.{texts_at};
 ghost use Rattle.host_clients.specs.Refused.{LoaderFault};
-ghost use Rattle.rudzkvano_c.specs.Held.{Becomes, Copies, CopiesObject, Makes, MakesObject, TellsCleared, Primes, one_in};
-ghost use Rattle.rudzkvano_c.specs.Key.{flat_key};
-ghost use Rattle.rudzkvano_c.specs.Logged.{CopiesLog, HasLogSizes, IsLogOf, TellsLogSizes};
+ghost use Rattle.rudzkvano_c.specs.Held.{Becomes, Copies, Makes, Primes, TellsCleared, one_in};
+ghost use Rattle.rudzkvano_c.specs.Logged.{AreSizesTold, CopiesLog, TellsLogSizes};
 ghost use Rattle.rudzkvano_c.specs.Told.{IsTold};
 
 use crate::codes::code_of;
 use crate::handle::Handle;
-use host_clients::{BatchLog, Fault, FlatReply, HostClient, Object};
+use host_clients::{Fault, FlatReply, HostClient};
 use std::alloc::Global;
 
 /// Numbers of elements that the buffers of `rz_log` have to hold.
@@ -26,39 +25,12 @@ pub struct LogSizes {
     pub bytes: usize,
 }
 
-// A loader's key, as its texts.
-#[derive(Clone, Copy)]
-struct FlatKey<'k> {
-    loader: usize,
-    ends: &'k [u32],
-    bytes: &'k [u8],
-}
-
 // Writes what a call tells.
 fn tell(tells: Result<bool, Fault>, to: &mut u32) -> Result<(), Fault>
     ensures { IsTold tells to.old to.new result }
 {
     *to = u32::from(tells?);
     Ok(())
-}
-
-fn prime(
-    alloc: Global,
-    object: &mut Object,
-    key: FlatKey<'_>,
-    item: &FlatReply<'_>,
-    primed: &mut u32,
-) -> Result<(), Fault>
-    ensures { MakesObject (Primes key.entry.loader (flat_key key.entry)
-        (laid_reply item.now) primed.new) object.old object.new result }
-{
-    match object {
-        Object::Client(client) => {
-            let added = client.prime_flat(alloc, key.loader, key.ends, key.bytes, item);
-            tell(added, primed)
-        }
-        Object::Server(_) | Object::Queries(_) => Err(Fault::BadHandle),
-    }
 }
 
 /// Adds an item for a loader's key, unless the key is known.
@@ -82,14 +54,6 @@ pub extern "C" fn rz_prime(
     ensures { Makes (Primes loader (texts_at key_ends.now key_bytes.now) (one_in columns
         rows ends.now bytes.now) primed.new) client.old.held client.new.held result }
 {
-    let Some(mut object) = client.take(alloc) else {
-        return Fault::BadHandle.code();
-    };
-    let key = FlatKey {
-        loader,
-        ends: key_ends,
-        bytes: key_bytes,
-    };
     let rows = [rows];
     let item = FlatReply {
         columns,
@@ -97,27 +61,11 @@ pub extern "C" fn rz_prime(
         ends,
         bytes,
     };
-    let told = prime(alloc, &mut object, key, &item, primed);
-    client.put(alloc, object);
-    code_of(told)
-}
-
-fn clear(
-    alloc: Global,
-    object: &mut Object,
-    key: FlatKey<'_>,
-    was_known: &mut u32,
-) -> Result<(), Fault>
-    ensures { MakesObject (TellsCleared key.entry.loader (flat_key key.entry) was_known.new)
-        object.old object.new result }
-{
-    match object {
-        Object::Client(client) => {
-            let there = client.clear_flat(alloc, key.loader, key.ends, key.bytes);
-            tell(there, was_known)
-        }
-        Object::Server(_) | Object::Queries(_) => Err(Fault::BadHandle),
-    }
+    let added = client.on_client(
+        alloc,
+        &mut |client| client.prime_flat(alloc, loader, key_ends, key_bytes, &item),
+    );
+    code_of(tell(added, primed))
 }
 
 /// Forgets a loader's key.
@@ -137,26 +85,11 @@ pub extern "C" fn rz_clear(
     ensures { let key = texts_at key_ends.now key_bytes.now in
         Makes (TellsCleared loader key was_known.new) client.old.held client.new.held result }
 {
-    let Some(mut object) = client.take(alloc) else {
-        return Fault::BadHandle.code();
-    };
-    let key = FlatKey {
-        loader,
-        ends: key_ends,
-        bytes: key_bytes,
-    };
-    let told = clear(alloc, &mut object, key, was_known);
-    client.put(alloc, object);
-    code_of(told)
-}
-
-fn clear_all(object: &mut Object, loader: usize) -> Result<(), Fault>
-    ensures { MakesObject (Becomes (Calls (ClearingAll loader)) (LoaderFault loader)) object.old object.new result }
-{
-    match object {
-        Object::Client(client) => client.clear_all(loader),
-        Object::Server(_) | Object::Queries(_) => Err(Fault::BadHandle),
-    }
+    let there = client.on_client(
+        alloc,
+        &mut |client| client.clear_flat(alloc, loader, key_ends, key_bytes),
+    );
+    code_of(tell(there, was_known))
 }
 
 /// Forgets all keys of a loader.
@@ -169,52 +102,29 @@ pub extern "C" fn rz_clear_all(alloc: Global, client: &mut Handle, loader: usize
     ensures { Makes (Becomes (Calls (ClearingAll loader)) (LoaderFault loader))
         client.old.held client.new.held result }
 {
-    let Some(mut object) = client.take(alloc) else {
-        return Fault::BadHandle.code();
-    };
-    let cleared = clear_all(&mut object, loader);
-    client.put(alloc, object);
-    code_of(cleared)
+    code_of(client.on_client(alloc, &mut |client| client.clear_all(loader)))
 }
 
-// A loader's log, unless the handle holds no client.
-fn log_of(alloc: Global, object: &Object, loader: usize) -> Result<BatchLog, Fault>
-    ensures { IsLogOf object.now loader result }
-{
-    match object {
-        Object::Client(client) => client.log(alloc, loader),
-        Object::Server(_) | Object::Queries(_) => Err(Fault::BadHandle),
-    }
-}
-
+// The sizes of a loader's log.
 fn log_sizes(alloc: Global, client: &HostClient, loader: usize) -> Result<LogSizes, Fault>
-    ensures { IfOk result (HasLogSizes client.now loader) }
+    ensures { IfOk result
+        (λ sizes. TellsLogSizes loader sizes client.now (Ok tt)) }
 {
-    let sizes = client.log(alloc, loader)?.sizes();
+    let log = client.log(alloc, loader)?.sizes();
     Ok(LogSizes {
-        batches: sizes.lists,
-        keys: sizes.keys,
-        texts: sizes.texts,
-        bytes: sizes.bytes,
+        batches: log.lists,
+        keys: log.keys,
+        texts: log.texts,
+        bytes: log.bytes,
     })
 }
 
-fn tell_log_sizes(
-    alloc: Global,
-    object: &Object,
-    loader: usize,
-    sizes: &mut LogSizes,
-) -> Result<(), Fault>
-    ensures { CopiesObject
-        (TellsLogSizes loader sizes.new) object.now result }
+// Writes the sizes of a log.
+fn tell_sizes(tells: Result<LogSizes, Fault>, to: &mut LogSizes) -> Result<(), Fault>
+    ensures { AreSizesTold tells to.old to.new result }
 {
-    match object {
-        Object::Client(client) => {
-            *sizes = log_sizes(alloc, client, loader)?;
-            Ok(())
-        }
-        Object::Server(_) | Object::Queries(_) => Err(Fault::BadHandle),
-    }
+    *to = tells?;
+    Ok(())
 }
 
 /// Returns how many elements the buffers of `rz_log` have to hold.
@@ -234,12 +144,8 @@ pub extern "C" fn rz_log_sizes(
         client.old.held result }
     ensures kept { client.new.held ≡ client.old.held }
 {
-    let Some(object) = client.take(alloc) else {
-        return Fault::BadHandle.code();
-    };
-    let told = tell_log_sizes(alloc, &object, loader, sizes);
-    client.put(alloc, object);
-    code_of(told)
+    let told = client.on_client(alloc, &mut |client| log_sizes(alloc, client, loader));
+    code_of(tell_sizes(told, sizes))
 }
 
 /// Copies the batches that a loader was asked for.
@@ -264,12 +170,7 @@ pub extern "C" fn rz_log(
         (lists_said keys.new texts.new (cut bytes.new 0 ends.new))) client.old.held result }
     ensures kept { client.new.held ≡ client.old.held }
 {
-    let Some(object) = client.take(alloc) else {
-        return Fault::BadHandle.code();
-    };
-    let log = log_of(alloc, &object, loader);
-    client.put(alloc, object);
-    let log = match log {
+    let log = match client.on_client(alloc, &mut |client| client.log(alloc, loader)) {
         Ok(log) => log,
         Err(fault) => return fault.code(),
     };

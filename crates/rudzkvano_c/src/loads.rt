@@ -2,14 +2,13 @@
 ghost use Rattle.std.specs.Prelude.{◌≡◌, IfOk, IfErr};
 ghost use Rattle.load_memory.specs.Cells.{cut};
 ghost use Rattle.flat_outcomes.specs.Said.{outcomes_said};
-ghost use Rattle.host_clients.specs.Laid.{laid_keys};
-ghost use Rattle.rudzkvano_c.specs.Held.{BeginsLoad, Copies, CopiesObject, CopiesOutcomes, Makes, MakesObject};
-ghost use Rattle.rudzkvano_c.specs.Loads.{AreNoOutcomesIn, AreOutcomesIn, CopiesFaultsAfter, CopiesRows, keys_of_loader};
+ghost use Rattle.rudzkvano_c.specs.Held.{BeginsLoad, Copies, CopiesOutcomes, Makes, keys_of_loader};
+ghost use Rattle.rudzkvano_c.specs.Loads.{CopiesFaultsAfter, CopiesRows, HasOutcomes, LacksOutcomes};
 ghost use Rattle.rudzkvano_c.specs.Sizes.{TellsLoadSizes, load_sizes};
 
 use crate::codes::code_of;
 use crate::handle::Handle;
-use host_clients::{Fault, FlatKeys, FlatOutcomes, HostClient, Object};
+use host_clients::{Fault, FlatKeys, FlatOutcomes, HostClient};
 use std::alloc::Global;
 
 /// Numbers of elements that the buffers of `rz_loaded` have to hold.
@@ -22,16 +21,6 @@ pub struct LoadSizes {
     pub bytes: usize,
     pub faults: usize,
     pub fault_bytes: usize,
-}
-
-fn begin_load(alloc: Global, object: &mut Object, keys: &FlatKeys<'_>) -> Result<(), Fault>
-    ensures { MakesObject (BeginsLoad (laid_keys keys.now))
-        object.old object.new result }
-{
-    match object {
-        Object::Client(client) => client.begin_load(alloc, keys),
-        Object::Server(_) | Object::Queries(_) => Err(Fault::BadHandle),
-    }
 }
 
 /// Begins to load keys of a loader.
@@ -53,32 +42,13 @@ pub extern "C" fn rz_begin_load(
     ensures { Makes (BeginsLoad (keys_of_loader loader texts.now ends.now bytes.now))
         client.old.held client.new.held result }
 {
-    let Some(mut object) = client.take(alloc) else {
-        return Fault::BadHandle.code();
-    };
     let keys = FlatKeys {
         loader,
         shapes: texts,
         ends,
         bytes,
     };
-    let begun = begin_load(alloc, &mut object, &keys);
-    client.put(alloc, object);
-    code_of(begun)
-}
-
-// The outcomes of the keys that a client loaded last.
-fn outcomes_of(object: &Object) -> Result<&FlatOutcomes, Fault>
-    ensures outcomes { IfOk result (λ outcomes.
-        AreOutcomesIn object.now outcomes.now) }
-    ensures none { IfErr result
-        (AreNoOutcomesIn object.now) }
-{
-    match object {
-        Object::Client(HostClient::Loaded(loaded)) => Ok(loaded.outcomes()),
-        Object::Client(_) => Err(Fault::Idle),
-        Object::Server(_) | Object::Queries(_) => Err(Fault::BadHandle),
-    }
+    code_of(client.on_client(alloc, &mut |client| client.begin_load(alloc, &keys)))
 }
 
 fn sizes_of(outcomes: &FlatOutcomes) -> LoadSizes
@@ -95,14 +65,6 @@ fn sizes_of(outcomes: &FlatOutcomes) -> LoadSizes
     }
 }
 
-fn tell_load_sizes(object: &Object, sizes: &mut LoadSizes) -> Result<(), Fault>
-    ensures { CopiesObject
-        (TellsLoadSizes sizes.new) object.now result }
-{
-    *sizes = sizes_of(outcomes_of(object)?);
-    Ok(())
-}
-
 /// Returns how many elements the buffers of `rz_loaded` have to hold.
 ///
 /// # Promise
@@ -114,28 +76,42 @@ pub extern "C" fn rz_load_sizes(alloc: Global, client: &mut Handle, sizes: &mut 
         client.old.held result }
     ensures kept { client.new.held ≡ client.old.held }
 {
-    let Some(object) = client.take(alloc) else {
-        return Fault::BadHandle.code();
-    };
-    let told = tell_load_sizes(&object, sizes);
-    client.put(alloc, object);
-    code_of(told)
+    code_of(client.on_client(
+        alloc,
+        &mut |client| {
+            let HostClient::Loaded(loaded) = client else {
+                return Err(Fault::Idle);
+            };
+            *sizes = sizes_of(loaded.outcomes());
+            Ok(())
+        },
+    ))
+}
+
+// The outcomes of the keys that a client loaded last.
+fn outcomes_of(client: &HostClient) -> Result<&FlatOutcomes, Fault>
+    ensures outcomes { IfOk result (λ outcomes. HasOutcomes outcomes.now client.now) }
+    ensures none { IfErr result (LacksOutcomes client.now) }
+{
+    match client {
+        HostClient::Loaded(loaded) => Ok(loaded.outcomes()),
+        _ => Err(Fault::Idle),
+    }
 }
 
 // Copies the rows of outcomes, where there is also just the room that their faults take: `faults`
 // says their number and their bytes.
 fn copy_rows(
-    object: &Object,
+    client: &HostClient,
     faults: (usize, usize),
     counts: &mut [u32],
     widths: &mut [u32],
     ends: &mut [u32],
     bytes: &mut [u8],
 ) -> Result<(), Fault>
-    ensures { CopiesObject (CopiesRows counts.new widths.new (cut bytes.new 0 ends.new))
-        object.now result }
+    ensures { CopiesRows counts.new widths.new (cut bytes.new 0 ends.new) client.now result }
 {
-    let outcomes = outcomes_of(object)?;
+    let outcomes = outcomes_of(client)?;
     let sizes = outcomes.sizes();
     if faults.0 != sizes.faults || faults.1 != sizes.fault_bytes {
         return Err(Fault::BadSize);
@@ -145,16 +121,16 @@ fn copy_rows(
 
 // Copies the faults of outcomes, if the rows were copied.
 fn copy_faults(
-    object: &Object,
+    client: &HostClient,
     rows: Result<(), Fault>,
     ends: &mut [u32],
     bytes: &mut [u8],
 ) -> Result<(), Fault>
     ensures { CopiesFaultsAfter rows
-        (cut bytes.new 0 ends.new) object.now result }
+        (cut bytes.new 0 ends.new) client.now result }
 {
     rows?;
-    Ok(outcomes_of(object)?.copy_faults_to(ends, bytes)?)
+    Ok(outcomes_of(client)?.copy_faults_to(ends, bytes)?)
 }
 
 /// Copies the outcomes of the keys that were loaded last.
@@ -180,12 +156,12 @@ pub extern "C" fn rz_loaded(
         (cut bytes.new 0 ends.new) (cut fault_bytes.new 0 fault_ends.new))) client.old.held result }
     ensures kept { client.new.held ≡ client.old.held }
 {
-    let Some(object) = client.take(alloc) else {
-        return Fault::BadHandle.code();
-    };
     let faults = (fault_ends.len(), fault_bytes.len());
-    let rows = copy_rows(&object, faults, counts, widths, ends, bytes);
-    let copied = copy_faults(&object, rows, fault_ends, fault_bytes);
-    client.put(alloc, object);
-    code_of(copied)
+    code_of(client.on_client(
+        alloc,
+        &mut |client| {
+            let rows = copy_rows(client, faults, counts, widths, ends, bytes);
+            copy_faults(client, rows, fault_ends, fault_bytes)
+        },
+    ))
 }

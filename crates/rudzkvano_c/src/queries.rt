@@ -1,26 +1,11 @@
 //! What requests ask of servers, kept for those that come again.
 ghost use Rattle.std.specs.Prelude.{◌≡◌};
 ghost use Rattle.host_clients.specs.Objects.{MakesQueries};
-ghost use Rattle.rudzkvano_c.specs.Held.{Gives, IsMadeOf};
+ghost use Rattle.rudzkvano_c.specs.Held.{Gives};
 
 use crate::codes::code_of;
 use crate::handle::Handle;
-use host_clients::{Fault, Object};
 use std::alloc::Global;
-
-// What requests ask of the server of a handle: nothing yet.
-fn queries_object(alloc: Global, server: &mut Handle) -> Result<Object, Fault>
-    ensures made { IsMadeOf MakesQueries
-        server.old.held result }
-    ensures kept { server.new.held ≡ server.old.held }
-{
-    let Some(object) = server.take(alloc) else {
-        return Err(Fault::BadHandle);
-    };
-    let made = object.queries();
-    server.put(alloc, object);
-    made
-}
 
 /// Holds what requests ask of a server in a handle of its own, for those that come again. It is lent to each client that begins a request.
 ///
@@ -34,6 +19,6 @@ pub extern "C" fn rz_queries(alloc: Global, server: &mut Handle, queries: &mut H
         queries.old.held queries.new.held result }
     ensures kept { server.new.held ≡ server.old.held }
 {
-    let made = queries_object(alloc, server);
+    let made = server.on_object(alloc, &mut |object| object.queries());
     code_of(queries.put_made(alloc, made))
 }

@@ -2,15 +2,15 @@
 //!
 //! A call has as many parameters as it has buffers: a struct of slices can't cross from C, and structs of
 //! pointers and lengths would be read by code that no contract reaches.
-ghost use Rattle.std.specs.Prelude.{◌≡◌, Some, IfOk, IfErr};
+ghost use Rattle.std.specs.Prelude.{◌≡◌, [], Some, Ok, Err, IfOk, IfErr};
 ghost use Rattle.load_memory.specs.Cells.{cut};
 ghost use Rattle.flat_orders.specs.Orders.{orders_said};
 ghost use Rattle.flat_rows.specs.Keyed.{laid_rows};
 ghost use Rattle.host_clients.specs.Asked.{line as line_asked, parts_asked};
 ghost use Rattle.host_clients.specs.Clients.{Cancels};
-ghost use Rattle.host_clients.specs.Laid.{laid_reply, reply_at};
+ghost use Rattle.host_clients.specs.Laid.{reply_at};
 ghost use Rattle.host_clients.specs.Texts.{asked_in};
-ghost use Rattle.rudzkvano_c.specs.Held.{AdvancesHeld, AdvancesObject, AreNoOrdersIn, AreOrdersIn, BeginsBy, Copies, CopiesAnswer, CopiesObject, CopiesOrders, Makes, MakesObject};
+ghost use Rattle.rudzkvano_c.specs.Held.{AdvancesHeld, BeginsBy, Copies, CopiesAnswer, CopiesOrders, Makes};
 ghost use Rattle.rudzkvano_c.specs.Held.{TakesFailed, TakesRows, TakesRowsByKey, rows_at};
 ghost use Rattle.rudzkvano_c.specs.Told.{IsRowTold};
 ghost use Rattle.rudzkvano_c.specs.Sizes.{TellsSizes, sizes_in, sizes_of};
@@ -18,8 +18,8 @@ ghost use Rattle.rudzkvano_c.specs.Sizes.{TellsSizes, sizes_in, sizes_of};
 use crate::codes::{code_of, progress_code};
 use crate::handle::Handle;
 use host_clients::{
-    ClientProgress, Fault, FlatAsked, FlatOrders, FlatReply, FlatRequest, HostClient, KeyedRefusal,
-    KeyedReply, Object,
+    Fault, FlatAsked, FlatOrders, FlatReply, FlatRequest, HostClient, KeyedRefusal, KeyedReply,
+    Object,
 };
 use std::alloc::Global;
 
@@ -39,37 +39,47 @@ pub struct Sizes {
 // What a client makes of what it is asked, by what is kept of queries.
 fn begin_by(
     alloc: Global,
-    object: &mut Object,
+    client: &mut HostClient,
     queries: &mut Object,
     asked: &FlatAsked<'_>,
 ) -> Result<(), Fault>
-    ensures begun { MakesObject (BeginsBy (Some queries.old) (asked_in asked.now))
-        object.old object.new result }
+    ensures begun { BeginsBy (Some queries.old) (asked_in asked.now)
+        client.old client.new result }
     ensures kept { queries.new ≡ queries.old }
 {
-    match (object, queries) {
-        (Object::Client(client), Object::Queries(queries)) => client.begin(alloc, queries, asked),
-        _ => Err(Fault::BadHandle),
+    match queries {
+        Object::Queries(queries) => client.begin(alloc, queries, asked),
+        Object::Server(_) | Object::Client(_) => Err(Fault::BadHandle),
     }
 }
 
-// The same, by what another handle holds.
-fn begin(
+// The same, by what a handle holds.
+fn begin_held(
     alloc: Global,
-    object: &mut Object,
+    client: &mut HostClient,
     queries: &mut Handle,
     asked: &FlatAsked<'_>,
 ) -> Result<(), Fault>
-    ensures begun { MakesObject (BeginsBy queries.old.held (asked_in asked.now))
-        object.old object.new result }
+    ensures begun { BeginsBy queries.old.held (asked_in asked.now)
+        client.old client.new result }
     ensures kept { queries.new.held ≡ queries.old.held }
 {
-    let Some(mut lent) = queries.take(alloc) else {
-        return Err(Fault::BadHandle);
-    };
-    let begun = begin_by(alloc, object, &mut lent, asked);
-    queries.put(alloc, lent);
-    begun
+    queries.on_object(
+        alloc,
+        &mut |queries| begin_by(alloc, client, queries, asked),
+    )
+}
+
+// The same of a client that a handle holds.
+fn begin(alloc: Global, client: &mut Handle, queries: &mut Handle, asked: &FlatAsked<'_>) -> i32
+    ensures begun { Makes (BeginsBy queries.old.held (asked_in asked.now))
+        client.old.held client.new.held result }
+    ensures kept { queries.new.held ≡ queries.old.held }
+{
+    code_of(client.on_client(
+        alloc,
+        &mut |client| begin_held(alloc, client, queries, asked),
+    ))
 }
 
 /// Begins the answer to a request line.
@@ -77,7 +87,7 @@ fn begin(
 /// # Promise
 ///
 /// The request is planned by the server of the queries for the client as it is, and nothing is asked of loaders yet
-/// (`IsBegun`); or, refused, the client is as it was, and the code says why: it is busy, that server has another
+/// (`IsBegun`); or, refused, nothing has changed, and the code says why: the client is busy, that server has another
 /// number of loaders, or memory ran out (`AskFault`)
 #[unsafe(no_mangle)]
 pub extern "C" fn rz_begin(
@@ -90,12 +100,7 @@ pub extern "C" fn rz_begin(
         client.old.held client.new.held result }
     ensures kept { queries.new.held ≡ queries.old.held }
 {
-    let Some(mut object) = client.take(alloc) else {
-        return Fault::BadHandle.code();
-    };
-    let begun = begin(alloc, &mut object, queries, &FlatAsked::Line(line));
-    client.put(alloc, object);
-    code_of(begun)
+    begin(alloc, client, queries, &FlatAsked::Line(line))
 }
 
 /// Begins the answer to a request by its parts.
@@ -116,27 +121,12 @@ pub extern "C" fn rz_begin_request(
         client.old.held client.new.held result }
     ensures kept { queries.new.held ≡ queries.old.held }
 {
-    let Some(mut object) = client.take(alloc) else {
-        return Fault::BadHandle.code();
-    };
     let request = FlatRequest {
         query,
         operation_name,
         variables,
     };
-    let begun = begin(alloc, &mut object, queries, &FlatAsked::Request(request));
-    client.put(alloc, object);
-    code_of(begun)
-}
-
-fn cancel(object: &mut Object) -> Result<(), Fault>
-    ensures { MakesObject Cancels
-        object.old object.new result }
-{
-    match object {
-        Object::Client(client) => client.cancel(),
-        Object::Server(_) | Object::Queries(_) => Err(Fault::BadHandle),
-    }
+    begin(alloc, client, queries, &FlatAsked::Request(request))
 }
 
 /// Gives up the request that is being answered, or the keys that are loaded.
@@ -149,21 +139,7 @@ pub extern "C" fn rz_cancel(alloc: Global, client: &mut Handle) -> i32
     ensures { Makes Cancels client.old.held
         client.new.held result }
 {
-    let Some(mut object) = client.take(alloc) else {
-        return Fault::BadHandle.code();
-    };
-    let cancelled = cancel(&mut object);
-    client.put(alloc, object);
-    code_of(cancelled)
-}
-
-fn advance(alloc: Global, object: &mut Object) -> Result<ClientProgress, Fault>
-    ensures { AdvancesObject object.old object.new result }
-{
-    match object {
-        Object::Client(client) => client.advance(alloc),
-        Object::Server(_) | Object::Queries(_) => Err(Fault::BadHandle),
-    }
+    code_of(client.on_client(alloc, &mut |client| client.cancel()))
 }
 
 /// Goes on with the request, or with the keys that are loaded.
@@ -179,12 +155,7 @@ pub extern "C" fn rz_next(alloc: Global, client: &mut Handle) -> i32
     ensures { AdvancesHeld client.old.held
         client.new.held result }
 {
-    let Some(mut object) = client.take(alloc) else {
-        return Fault::BadHandle.code();
-    };
-    let progress = advance(alloc, &mut object);
-    client.put(alloc, object);
-    progress_code(progress)
+    progress_code(client.replace_client(alloc, HostClient::advance))
 }
 
 // The sizes of the orders of a round.
@@ -225,19 +196,6 @@ fn sizes_in(client: &HostClient) -> Sizes
     sizes
 }
 
-fn tell_sizes(object: &Object, sizes: &mut Sizes) -> Result<(), Fault>
-    ensures { CopiesObject
-        (TellsSizes sizes.new) object.now result }
-{
-    match object {
-        Object::Client(client) => {
-            *sizes = sizes_in(client);
-            Ok(())
-        }
-        Object::Server(_) | Object::Queries(_) => Err(Fault::BadHandle),
-    }
-}
-
 /// Returns how many elements the buffers of `rz_orders` and `rz_answer` have to hold.
 ///
 /// # Promise
@@ -249,30 +207,31 @@ pub extern "C" fn rz_sizes(alloc: Global, client: &mut Handle, sizes: &mut Sizes
         client.old.held result }
     ensures kept { client.new.held ≡ client.old.held }
 {
-    let Some(object) = client.take(alloc) else {
-        return Fault::BadHandle.code();
-    };
-    let told = tell_sizes(&object, sizes);
-    client.put(alloc, object);
-    code_of(told)
+    code_of(client.on_client(
+        alloc,
+        &mut |client| {
+            *sizes = sizes_in(client);
+            Ok(())
+        },
+    ))
 }
 
 // The orders of the round that is out.
-fn orders_of(object: &Object) -> Result<&FlatOrders, Fault>
+fn orders_of(client: &HostClient) -> Result<&FlatOrders, Fault>
     ensures orders { IfOk result
-        (λ orders. AreOrdersIn object.now orders.now) }
-    ensures none { IfErr result (AreNoOrdersIn object.now) }
+        (λ orders. CopiesOrders orders.now client.now (Ok tt)) }
+    ensures none { IfErr result
+        (λ e. CopiesOrders [] client.now (Err e)) }
 {
-    match object {
-        Object::Client(HostClient::Asked(under_way)) => Ok(under_way.orders()),
-        Object::Client(HostClient::Loading(loading)) => Ok(loading.orders()),
-        Object::Client(_) => Err(Fault::NoOrder),
-        Object::Server(_) | Object::Queries(_) => Err(Fault::BadHandle),
+    match client {
+        HostClient::Asked(under_way) => Ok(under_way.orders()),
+        HostClient::Loading(loading) => Ok(loading.orders()),
+        _ => Err(Fault::NoOrder),
     }
 }
 
 fn copy_orders(
-    object: &Object,
+    client: &HostClient,
     loaders: &mut [u32],
     keys: &mut [u32],
     texts: &mut [u32],
@@ -280,9 +239,9 @@ fn copy_orders(
     bytes: &mut [u8],
 ) -> Result<(), Fault>
     ensures { let orders = orders_said loaders.new keys.new texts.new (cut bytes.new 0 ends.new) in
-        CopiesObject (CopiesOrders orders) object.now result }
+        CopiesOrders orders client.now result }
 {
-    Ok(orders_of(object)?.copy_to(loaders, keys, texts, ends, bytes)?)
+    Ok(orders_of(client)?.copy_to(loaders, keys, texts, ends, bytes)?)
 }
 
 /// Copies the orders of the round that is out.
@@ -304,27 +263,10 @@ pub extern "C" fn rz_orders(
         (cut bytes.new 0 ends.new) in Copies (CopiesOrders orders) client.old.held result }
     ensures kept { client.new.held ≡ client.old.held }
 {
-    let Some(object) = client.take(alloc) else {
-        return Fault::BadHandle.code();
-    };
-    let copied = copy_orders(&object, loaders, keys, texts, ends, bytes);
-    client.put(alloc, object);
-    code_of(copied)
-}
-
-fn take_rows(
-    alloc: Global,
-    object: &mut Object,
-    order: usize,
-    reply: &FlatReply<'_>,
-) -> Result<(), Fault>
-    ensures { MakesObject (TakesRows order (laid_reply reply.now))
-        object.old object.new result }
-{
-    match object {
-        Object::Client(client) => client.take_rows(alloc, order, reply),
-        Object::Server(_) | Object::Queries(_) => Err(Fault::BadHandle),
-    }
+    code_of(client.on_client(
+        alloc,
+        &mut |client| copy_orders(client, loaders, keys, texts, ends, bytes),
+    ))
 }
 
 /// Takes the rows for the keys of an order.
@@ -348,18 +290,13 @@ pub extern "C" fn rz_take_rows(
     ensures { let reply = reply_at columns rows.now ends.now bytes.now in
         Makes (TakesRows order reply) client.old.held client.new.held result }
 {
-    let Some(mut object) = client.take(alloc) else {
-        return Fault::BadHandle.code();
-    };
     let reply = FlatReply {
         columns,
         rows,
         ends,
         bytes,
     };
-    let taken = take_rows(alloc, &mut object, order, &reply);
-    client.put(alloc, object);
-    code_of(taken)
+    code_of(client.on_client(alloc, &mut |client| client.take_rows(alloc, order, &reply)))
 }
 
 // Tells the number of a row whose key wasn't asked for.
@@ -376,20 +313,18 @@ fn tell_row(taken: Result<(), KeyedRefusal>, row: &mut u32) -> Result<(), Fault>
     }
 }
 
+// Takes rows for an order. The number of a row whose key wasn't asked for is told.
 fn take_keyed_rows(
     alloc: Global,
-    object: &mut Object,
+    client: &mut HostClient,
     order: usize,
     reply: &KeyedReply<'_>,
     row: &mut u32,
 ) -> Result<(), Fault>
-    ensures { MakesObject (TakesRowsByKey order (laid_rows reply.now) row.old row.new)
-        object.old object.new result }
+    ensures { TakesRowsByKey order (laid_rows reply.now) row.old row.new
+        client.old client.new result }
 {
-    match object {
-        Object::Client(client) => tell_row(client.take_keyed_rows(alloc, order, reply), row),
-        Object::Server(_) | Object::Queries(_) => Err(Fault::BadHandle),
-    }
+    tell_row(client.take_keyed_rows(alloc, order, reply), row)
 }
 
 /// Takes rows for the keys of an order, in any order, and faults of keys.
@@ -415,9 +350,6 @@ pub extern "C" fn rz_take_keyed_rows(
     ensures { let r = rows_at columns rows faults.now ends.now bytes.now in Makes
         (TakesRowsByKey order r row.old row.new) client.old.held client.new.held result }
 {
-    let Some(mut object) = client.take(alloc) else {
-        return Fault::BadHandle.code();
-    };
     let reply = KeyedReply {
         columns,
         rows,
@@ -425,19 +357,10 @@ pub extern "C" fn rz_take_keyed_rows(
         ends,
         bytes,
     };
-    let taken = take_keyed_rows(alloc, &mut object, order, &reply, row);
-    client.put(alloc, object);
-    code_of(taken)
-}
-
-fn take_failed(alloc: Global, object: &mut Object, order: usize, text: &[u8]) -> Result<(), Fault>
-    ensures { MakesObject (TakesFailed order text.now)
-        object.old object.new result }
-{
-    match object {
-        Object::Client(client) => client.take_failed(alloc, order, text),
-        Object::Server(_) | Object::Queries(_) => Err(Fault::BadHandle),
-    }
+    code_of(client.on_client(
+        alloc,
+        &mut |client| take_keyed_rows(alloc, client, order, &reply, row),
+    ))
 }
 
 /// Takes it that the batch of an order failed as a whole.
@@ -455,29 +378,7 @@ pub extern "C" fn rz_take_failed(
     ensures { Makes (TakesFailed order text.now)
         client.old.held client.new.held result }
 {
-    let Some(mut object) = client.take(alloc) else {
-        return Fault::BadHandle.code();
-    };
-    let taken = take_failed(alloc, &mut object, order, text);
-    client.put(alloc, object);
-    code_of(taken)
-}
-
-fn copy_answer(object: &Object, bytes: &mut [u8]) -> Result<(), Fault>
-    ensures { CopiesObject
-        (CopiesAnswer bytes.new) object.now result }
-{
-    let answered = match object {
-        Object::Client(HostClient::Answered(answered)) => answered,
-        Object::Client(_) => return Err(Fault::Idle),
-        Object::Server(_) | Object::Queries(_) => return Err(Fault::BadHandle),
-    };
-    let text = answered.text().as_bytes();
-    if bytes.len() != text.len() {
-        return Err(Fault::BadSize);
-    }
-    bytes.copy_from_slice(text);
-    Ok(())
+    code_of(client.on_client(alloc, &mut |client| client.take_failed(alloc, order, text)))
 }
 
 /// Copies the text of the answer.
@@ -494,10 +395,18 @@ pub extern "C" fn rz_answer(alloc: Global, client: &mut Handle, bytes: &mut [u8]
         client.old.held result }
     ensures kept { client.new.held ≡ client.old.held }
 {
-    let Some(object) = client.take(alloc) else {
-        return Fault::BadHandle.code();
-    };
-    let copied = copy_answer(&object, bytes);
-    client.put(alloc, object);
-    code_of(copied)
+    code_of(client.on_client(
+        alloc,
+        &mut |client| {
+            let HostClient::Answered(answered) = client else {
+                return Err(Fault::Idle);
+            };
+            let text = answered.text().as_bytes();
+            if bytes.len() != text.len() {
+                return Err(Fault::BadSize);
+            }
+            bytes.copy_from_slice(text);
+            Ok(())
+        },
+    ))
 }

@@ -1,16 +1,16 @@
 //! Servers.
-ghost use Rattle.std.specs.Prelude.{◌≡◌, IfOk};
+ghost use Rattle.std.specs.Prelude.{◌≡◌};
 ghost use Rattle.load_memory.specs.Cells.{cut};
 ghost use Rattle.host_clients.specs.Objects.{Shares};
-ghost use Rattle.rudzkvano_c.specs.Held.{CopiesOfServer, CopiesServer, Gives, IsMadeOf, Opens, OpensAs};
-ghost use Rattle.rudzkvano_c.specs.Loaders.{CopiesLoaders, HasLoaderSizes, TellsLoaderSizes};
+ghost use Rattle.rudzkvano_c.specs.Held.{CopiesOfServer, CopiesServer, Gives, Opens, OpensAs};
+ghost use Rattle.rudzkvano_c.specs.Loaders.{CopiesLoaders, TellsLoaderSizes};
 ghost use Rattle.fault_sentences.specs.Told.{Tells};
 ghost use Rattle.rudzkvano_c.specs.Told.{fault_told, fault_at};
 
 use crate::codes::code_of;
 use crate::handle::Handle;
 use fault_sentences::{FaultAt, copy_sentence};
-use host_clients::{Fault, FaultPlace, LoaderTexts, Object, OpenFault, Server, open_server};
+use host_clients::{Fault, FaultPlace, LoaderTexts, Object, OpenFault, open_server};
 use std::alloc::Global;
 
 /// Reason why a schema or its bindings are refused, and the place.
@@ -120,20 +120,6 @@ pub extern "C" fn rz_fault_text(
     copy_sentence(alloc, &fault_at(fault), schema, bindings, bytes)
 }
 
-// The server of a handle once more.
-fn shared_server_object(alloc: Global, server: &mut Handle) -> Result<Object, Fault>
-    ensures shared { IsMadeOf Shares
-        server.old.held result }
-    ensures kept { server.new.held ≡ server.old.held }
-{
-    let Some(object) = server.take(alloc) else {
-        return Err(Fault::BadHandle);
-    };
-    let shared = object.share();
-    server.put(alloc, object);
-    shared
-}
-
 /// Holds the same server in another handle too.
 ///
 /// # Promise
@@ -145,31 +131,8 @@ pub extern "C" fn rz_share(alloc: Global, server: &mut Handle, other: &mut Handl
         other.old.held other.new.held result }
     ensures kept { server.new.held ≡ server.old.held }
 {
-    let shared = shared_server_object(alloc, server);
+    let shared = server.on_object(alloc, &mut |object| object.share());
     code_of(other.put_made(alloc, shared))
-}
-
-fn sizes_of(alloc: Global, server: &Server) -> Result<LoaderSizes, Fault>
-    ensures { IfOk result (HasLoaderSizes server.now) }
-{
-    let texts = LoaderTexts::of(alloc, server)?;
-    Ok(LoaderSizes {
-        loaders: texts.len(),
-        bytes: texts.byte_len(),
-    })
-}
-
-fn tell_sizes(alloc: Global, object: &Object, sizes: &mut LoaderSizes) -> Result<(), Fault>
-    ensures { CopiesServer
-        (TellsLoaderSizes sizes.new) object.now result }
-{
-    match object {
-        Object::Server(server) => {
-            *sizes = sizes_of(alloc, server)?;
-            Ok(())
-        }
-        Object::Client(_) | Object::Queries(_) => Err(Fault::BadHandle),
-    }
 }
 
 /// Returns how many elements the buffers of `rz_loaders` have to hold.
@@ -186,12 +149,20 @@ pub extern "C" fn rz_loaders_sizes(
     ensures sizes { CopiesOfServer (TellsLoaderSizes sizes.new) server.old.held result }
     ensures kept { server.new.held ≡ server.old.held }
 {
-    let Some(object) = server.take(alloc) else {
-        return Fault::BadHandle.code();
-    };
-    let told = tell_sizes(alloc, &object, sizes);
-    server.put(alloc, object);
-    code_of(told)
+    code_of(server.on_object(
+        alloc,
+        &mut |object| {
+            let Object::Server(server) = object else {
+                return Err(Fault::BadHandle);
+            };
+            let texts = LoaderTexts::of(alloc, server)?;
+            *sizes = LoaderSizes {
+                loaders: texts.len(),
+                bytes: texts.byte_len(),
+            };
+            Ok(())
+        },
+    ))
 }
 
 fn copy_loaders(
@@ -226,10 +197,8 @@ pub extern "C" fn rz_loaders(
         (CopiesLoaders kinds.new (cut bytes.new 0 ends.new)) server.old.held result }
     ensures kept { server.new.held ≡ server.old.held }
 {
-    let Some(object) = server.take(alloc) else {
-        return Fault::BadHandle.code();
-    };
-    let copied = copy_loaders(alloc, &object, kinds, ends, bytes);
-    server.put(alloc, object);
-    code_of(copied)
+    code_of(server.on_object(
+        alloc,
+        &mut |object| copy_loaders(alloc, object, kinds, ends, bytes),
+    ))
 }

@@ -7,3 +7,4 @@ pub mod Fragments
 pub mod Selections
 pub mod Uses
 pub mod Listing
+pub mod Lists

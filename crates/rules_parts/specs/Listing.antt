@@ -1,21 +1,20 @@
 -- All parts of a document: those of its operations first, and then those of its fragments, each in the order of the text.
 -- Lists of arguments and of directives go by fields first, and then by directives.
-use Rattle.std.specs.Prelude.{◌≡◌, ℕ, ◌+◌, true, ◌||◌, List, [], ◌∷◌, ◌++◌, map, flat_map, filter_map, Option, Some, None, is_some, codes, bytes_eq, if◌then◌else◌}
+use Rattle.std.specs.Prelude.{◌≡◌, ℕ, ◌+◌, ◌||◌, List, [], ◌∷◌, ◌++◌, map, flat_map, filter_map, Option, Some, None, is_some, codes, bytes_eq, if◌then◌else◌}
 use Rattle.std.specs.Global.{Vec}
 use Rattle.std.specs.Option.{option_map, option_and_then}
-use Rattle.text_place.specs.declared.place.Place.{Place}
-use Rattle.gq_parser.specs.Tree.{Named, Argument, Directive, Selection, Field, Spread, Inline, nothing_below, below, SelectionSet, VariableDefinition, Operation, Fragment, Document}
+use Rattle.gq_parser.specs.Tree.{Argument, Directive, Selection, Field, Spread, Inline, VariableDefinition, Operation, Fragment, Document}
 use Rattle.schema_syntax.specs.Tree as schema
 use Rattle.gq_schema.specs.Implements.{argument_in}
+use Rattle.gq_schema.specs.Schemas.{condition_argument}
 use Rattle.rules_parts.specs.declared.part.Owner.{Owner}
 use Rattle.rules_parts.specs.declared.part.Owner.TheVariants as owner
 use Rattle.rules_parts.specs.declared.part.DirectiveLocation.{DirectiveLocation}
 use Rattle.rules_parts.specs.declared.part.DirectiveLocation.TheVariants as location
 use Rattle.rules_parts.specs.declared.part.VariablePart as rust-variable
 use Rattle.rules_parts.specs.declared.part.DirectiveList as rust-directives
-use Rattle.rules_parts.specs.Pieces.{SelectionPart, FieldPart, SpreadPart, InlinePart, SetPart, VariablePart, DirectiveList, ArgumentList, ArgumentPart, VariableUse, PartsOf, variable_part_of, directive_list_of}
+use Rattle.rules_parts.specs.Pieces.{SelectionPart, FieldPart, SpreadPart, InlinePart, VariablePart, DirectiveList, ArgumentList, ArgumentPart, VariableUse, PartsOf, variable_part_of, directive_list_of}
 use Rattle.rules_parts.specs.Fragments.{fragment_place}
-use Rattle.rules_parts.specs.Parents.{inside_operation, inside_condition}
 use Rattle.rules_parts.specs.Selections.{document_selections}
 use Rattle.rules_parts.specs.Uses.{argument_uses}
 
@@ -72,36 +71,6 @@ inline_from part (Inline p c ds s) = Some (record {
 abbrev pub inline_part : SelectionPart → Option InlinePart
 inline_part part = inline_from part part.selection
 
--- ---- selection sets
-
--- the set inside a selection
-abbrev pub own_set : Selection → Option SelectionSet
-own_set (Field p alias name as' ds nothing_below) = None
-own_set (Field p alias name as' ds (below s)) = Some s
-own_set (Spread p name ds) = None
-own_set (Inline p c ds s) = Some s
-
-abbrev pub set_part : SelectionPart → Option SetPart
-set_part part = option_map
-    (λ (s : SelectionSet). record { owner = part.owner; parent = part.inside; selection_set = s })
-    (own_set part.selection)
-
-abbrev pub operation_sets : List schema.Definition → ℕ → List Operation → List SetPart
-operation_sets defs i [] = []
-operation_sets defs i (o ∷ os) = record {
-  owner = owner.Operation i;
-  parent = inside_operation defs;
-  selection_set = o.selection_set;
-} ∷ operation_sets defs (i + 1) os
-
-abbrev pub fragment_sets : List schema.Definition → ℕ → List Fragment → List SetPart
-fragment_sets defs i [] = []
-fragment_sets defs i (f ∷ fs) = record {
-  owner = owner.Fragment i;
-  parent = inside_condition defs f.condition;
-  selection_set = f.selection_set;
-} ∷ fragment_sets defs (i + 1) fs
-
 -- ---- variables
 
 abbrev pub variables_from : ℕ → List VariableDefinition → List VariablePart
@@ -154,16 +123,6 @@ selection_directives part = directives_from part.owner part.selection
 
 -- ---- arguments
 
--- `if: Boolean!`, which `skip` and `include` take (sections 3.13.1 and 3.13.2); the places say nothing
-abbrev pub condition_argument : schema.Argument
-condition_argument =
-    let start : Place = record { line = 1; column = 1 } in
-    record {
-      name = record { text = codes "if"; place = start };
-      of_type = Named start (codes "Boolean") true;
-      default = None;
-    }
-
 -- the arguments that a directive takes, where it is known
 abbrev pub directive_definitions : List ℕ → Option (List schema.Argument)
 directive_definitions name = if bytes_eq name (codes "skip") || bytes_eq name (codes "include")
@@ -206,6 +165,9 @@ listed_arguments l = map (argument_with l.owner l.definitions) l.arguments
 abbrev pub spreads_in : List Fragment → List SelectionPart → List SpreadPart
 spreads_in fragments parts = filter_map (spread_part fragments) parts
 
+abbrev pub inlines_in : List SelectionPart → List InlinePart
+inlines_in parts = filter_map inline_part parts
+
 abbrev pub fields_in : List SelectionPart → List FieldPart
 fields_in parts = filter_map field_part parts
 
@@ -213,17 +175,17 @@ fields_in parts = filter_map field_part parts
 abbrev pub fields_of : List schema.Definition → Document → List FieldPart
 fields_of defs d = fields_in (document_selections defs d)
 
-abbrev pub sets_in : List schema.Definition → Document → List SelectionPart → List SetPart
-sets_in defs d parts = (operation_sets defs 0 d.operations ++ fragment_sets defs 0 d.fragments)
-    ++ filter_map set_part parts
-
 abbrev pub variables_in : Document → List VariablePart
 variables_in d = operation_variables 0 d.operations
 
+-- those of variables, of operations and of fragments
+abbrev pub definition_directives : Document → List DirectiveList
+definition_directives d =
+    (flat_map variable_directives (variables_in d) ++ operation_directives 0 d.operations)
+    ++ fragment_directives 0 d.fragments
+
 abbrev pub directives_in : Document → List SelectionPart → List DirectiveList
-directives_in d parts =
-    ((flat_map variable_directives (variables_in d) ++ operation_directives 0 d.operations)
-    ++ fragment_directives 0 d.fragments) ++ flat_map selection_directives parts
+directives_in d parts = definition_directives d ++ flat_map selection_directives parts
 
 abbrev pub argument_lists_in : List FieldPart → List DirectiveList → List ArgumentList
 argument_lists_in fields directives =
@@ -247,9 +209,8 @@ parts_of defs d =
       definitions = defs;
       document = d;
       fields = fields;
-      spreads = filter_map (spread_part d.fragments) parts;
-      inlines = filter_map inline_part parts;
-      sets = sets_in defs d parts;
+      spreads = spreads_in d.fragments parts;
+      inlines = inlines_in parts;
       variables = variables_in d;
       directive_lists = directives;
       argument_lists = lists;

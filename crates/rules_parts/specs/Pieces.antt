@@ -12,7 +12,6 @@ use Rattle.rules_parts.specs.declared.part.SelectionPart as rust-selection
 use Rattle.rules_parts.specs.declared.part.FieldPart as rust-field
 use Rattle.rules_parts.specs.declared.part.SpreadPart as rust-spread
 use Rattle.rules_parts.specs.declared.part.InlinePart as rust-inline
-use Rattle.rules_parts.specs.declared.part.SetPart as rust-set
 use Rattle.rules_parts.specs.declared.part.VariablePart as rust-variable
 use Rattle.rules_parts.specs.declared.part.DirectiveList as rust-directives
 use Rattle.rules_parts.specs.declared.part.ArgumentList as rust-arguments
@@ -63,12 +62,6 @@ pub record InlinePart : Type 0 where
   pub directives : List Directive
   pub selection_set : SelectionSet
 
--- a selection set; parent is the composite type whose fields it selects
-pub record SetPart : Type 0 where
-  pub owner : Owner
-  pub parent : Option (List ℕ)
-  pub selection_set : SelectionSet
-
 -- a variable's definition, with the operation that it belongs to
 pub record VariablePart : Type 0 where
   pub operation : ℕ
@@ -116,7 +109,6 @@ pub record PartsOf : Type 0 where
   pub fields : List FieldPart
   pub spreads : List SpreadPart
   pub inlines : List InlinePart
-  pub sets : List SetPart
   pub variables : List VariablePart
   pub directive_lists : List DirectiveList
   pub argument_lists : List ArgumentList
@@ -169,13 +161,6 @@ inline_part_of i = record {
   condition = condition_if i.inline.now.condition;
   directives = directives_of i.inline.now.directives.items;
   selection_set = set_of i.inline.now.selection_set;
-}
-
-abbrev pub set_part_of : rust-set.SetPart → SetPart
-set_part_of s = record {
-  owner = s.owner;
-  parent = option_copied s.parent;
-  selection_set = set_of s.selection_set.now;
 }
 
 abbrev pub variable_part_of : rust-variable.VariablePart → VariablePart

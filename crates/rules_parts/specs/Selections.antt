@@ -1,6 +1,5 @@
 -- The selections of a document, each before those inside it.
-use Rattle.std.specs.Prelude.{◌≡◌, ℕ, ◌+◌, List, [], ◌∷◌, ◌++◌, map, Option, None}
-use Rattle.std.specs.Global.{Vec}
+use Rattle.std.specs.Prelude.{ℕ, ◌+◌, List, [], ◌∷◌, ◌++◌, Option, None}
 use Rattle.gq_parser.specs.Tree.{Field, Spread, Inline, Below, nothing_below, below, SelectionSet, set_at, Selection, Selections, no_selection, and_selection, Operation, Fragment, Document, set_of, selection_of}
 use Rattle.gq_parser.specs.declared.tree.SelectionSet as rust-set
 use Rattle.gq_parser.specs.declared.tree.Selection as rust-tree
@@ -10,8 +9,7 @@ use Rattle.gq_schema.specs.Types.{tree_of}
 use Rattle.gq_schema.specs.declared.found.FoundType.{FoundType}
 use Rattle.rules_parts.specs.declared.part.Owner.{Owner}
 use Rattle.rules_parts.specs.declared.part.Owner.TheVariants as owner
-use Rattle.rules_parts.specs.declared.part.SelectionPart as rust-selection
-use Rattle.rules_parts.specs.Pieces.{SelectionPart, selection_part_of}
+use Rattle.rules_parts.specs.Pieces.{SelectionPart}
 use Rattle.rules_parts.specs.Found.{type_named}
 use Rattle.rules_parts.specs.Parents.{known_field, inside_operation, inside_field, inside_condition, inside_inline}
 
@@ -86,9 +84,3 @@ abbrev pub read_selections_from : List rust-definition.Definition → Owner
     → Option FoundType → rust-tree.Selection → List SelectionPart
 read_selections_from schema o parent selection =
     selections_from (tree_of schema) o (type_named parent) (selection_of selection)
-
--- the new list is the old one, with these behind it
-abbrev pub AddsSelections : Vec rust-selection.SelectionPart
-    → Vec rust-selection.SelectionPart → List SelectionPart → Type 0
-AddsSelections old new selections = map selection_part_of new.items
-    ≡ map selection_part_of old.items ++ selections

@@ -1,22 +1,23 @@
 //! The arguments of a document, and the variables in them.
 
-ghost use Rattle.std.specs.Prelude.{◌≡◌, ◌++◌, ◌∷◌, [], OnOk, IfOk, map};
+ghost use Rattle.std.specs.Prelude.{◌≡◌, ◌++◌, OnOk, IfOk, map, flat_map};
 ghost use Rattle.std.specs.Option.{option_map, option_copied};
 ghost use Rattle.gq_parser.specs.Tree.{type_of, literal_of, values_of, members_of, argument_of, arguments_of, directive_of, directives_of};
 ghost use Rattle.schema_syntax.specs.Tree as schema;
 ghost use Rattle.gq_schema.specs.Implements.{argument_in};
 ghost use Rattle.rules_parts.specs.Parts.{field_part_of, directive_list_of, argument_list_of, argument_part_of, location_of, use_of};
 ghost use Rattle.rules_parts.specs.Uses.{argument_location, item_location, uses_in, uses_among, uses_within, argument_uses, AddsUses};
-ghost use Rattle.rules_parts.specs.Listing.{condition_argument, directive_definitions, field_arguments, arguments_with, directive_arguments, argument_with, listed_arguments, argument_lists_in, arguments_in, uses_from};
+ghost use Rattle.rules_parts.specs.Listing.{directive_definitions, field_arguments, arguments_with, directive_arguments, argument_with, listed_arguments, arguments_in, uses_from};
 
 use crate::part::{
     ArgumentList, ArgumentPart, DirectiveList, FieldPart, Location, Owner, VariableUse,
 };
 use gq_parser::{Argument, Directive, Literal, TypeRef, Value};
-use gq_schema::ArgDef;
+use gq_schema::{ArgDef, Schema};
 use std::alloc::{AllocError, Global};
 
-fn field_arguments<'d>(part: &FieldPart<'d>) -> ArgumentList<'d>
+/// The arguments of a field.
+pub fn field_arguments<'d>(part: &FieldPart<'d>) -> ArgumentList<'d>
     ensures { argument_list_of result
         ≡ field_arguments (field_part_of part.now) }
 {
@@ -32,14 +33,12 @@ fn field_arguments<'d>(part: &FieldPart<'d>) -> ArgumentList<'d>
     }
 }
 
-// The arguments of a directive, which may be `condition` where it is `skip` or `include`.
+// The arguments of a directive.
 fn arguments_with<'d>(
-    condition: &'d [ArgDef],
+    schema: &'d Schema,
     owner: Owner,
     directive: &'d Directive,
 ) -> ArgumentList<'d>
-    requires { schema.arguments_of condition.now
-        ≡ condition_argument ∷ [] }
     ensures { argument_list_of result ≡ arguments_with owner
         (directive_of directive.now) }
 {
@@ -47,46 +46,42 @@ fn arguments_with<'d>(
     ArgumentList {
         owner,
         place: directive.place,
-        definitions: if is_known { Some(condition) } else { None },
+        definitions: if is_known {
+            Some(schema.condition_arguments())
+        } else {
+            None
+        },
         arguments: &directive.arguments,
     }
 }
 
 // Adds the arguments of each directive of a list.
 fn add_directive_arguments<'d>(
-    condition: &'d [ArgDef],
+    schema: &'d Schema,
     list: &DirectiveList<'d>,
     lists: &mut Vec<ArgumentList<'d>>,
 ) -> Result<(), AllocError>
-    requires { schema.arguments_of condition.now
-        ≡ condition_argument ∷ [] }
     ensures { OnOk result (map argument_list_of lists.new.items ≡ map argument_list_of
         lists.old.items ++ directive_arguments (directive_list_of list.now)) }
 {
     for directive in list.directives {
-        lists.push(arguments_with(condition, list.owner, directive))?;
+        lists.push(arguments_with(schema, list.owner, directive))?;
     }
     Ok(())
 }
 
-/// The arguments of fields and directives, list by list.
-pub fn argument_lists<'d>(
+/// The arguments of directives, list by list.
+pub fn directive_arguments<'d>(
     alloc: Global,
-    condition: &'d [ArgDef],
-    fields: &[FieldPart<'d>],
+    schema: &'d Schema,
     directives: &[DirectiveList<'d>],
 ) -> Result<Vec<ArgumentList<'d>>, AllocError>
-    requires { schema.arguments_of condition.now
-        ≡ condition_argument ∷ [] }
     ensures { IfOk result (λ lists. map argument_list_of lists.items
-        ≡ argument_lists_in (map field_part_of fields.now) (map directive_list_of directives.now)) }
+        ≡ flat_map directive_arguments (map directive_list_of directives.now)) }
 {
-    let mut lists = Vec::with_capacity(alloc, fields.len())?;
-    for field in fields {
-        lists.push(field_arguments(field))?;
-    }
+    let mut lists = Vec::new(alloc);
     for list in directives {
-        add_directive_arguments(condition, list, &mut lists)?;
+        add_directive_arguments(schema, list, &mut lists)?;
     }
     Ok(lists)
 }
@@ -139,15 +134,19 @@ fn add_arguments<'d>(
     Ok(())
 }
 
-/// The arguments in these lists.
+/// The arguments of fields, and those in these lists.
 pub fn arguments<'d>(
     alloc: Global,
+    fields: &[FieldPart<'d>],
     lists: &[ArgumentList<'d>],
 ) -> Result<Vec<ArgumentPart<'d>>, AllocError>
-    ensures { IfOk result (λ arguments.
-        map argument_part_of arguments.items ≡ arguments_in (map argument_list_of lists.now)) }
+    ensures { IfOk result (λ arguments. map argument_part_of arguments.items ≡ arguments_in
+        (map field_arguments (map field_part_of fields.now) ++ map argument_list_of lists.now)) }
 {
     let mut arguments = Vec::new(alloc);
+    for field in fields {
+        add_arguments(&field_arguments(field), &mut arguments)?;
+    }
     for list in lists {
         add_arguments(list, &mut arguments)?;
     }

@@ -2,8 +2,7 @@
 
 use gq_lexer::Place;
 use gq_parser::{
-    Argument, Directive, Field, Inline, Selection, SelectionSet, Spread, TypeRef,
-    VariableDefinition,
+    Argument, Directive, Field, Inline, Selection, Spread, TypeRef, VariableDefinition,
 };
 use gq_schema::{ArgDef, FieldDef};
 
@@ -73,15 +72,6 @@ pub struct InlinePart<'d> {
     /// The composite type of its own selection set, where that is known.
     pub inside: Option<&'d str>,
     pub inline: &'d Inline,
-}
-
-/// A selection set (section 2.4).
-#[derive(Clone, Copy)]
-pub struct SetPart<'d> {
-    pub owner: Owner,
-    /// The composite type whose fields it selects, where that is known.
-    pub parent: Option<&'d str>,
-    pub selection_set: &'d SelectionSet,
 }
 
 /// A variable (section 2.10).

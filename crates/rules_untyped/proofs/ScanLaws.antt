@@ -1,7 +1,11 @@
 -- Passes that tell of what is broken.
-use Rattle.std.proofs.Common.{◌≡◌, ◌∙◌, ◌<◌, ◌+◌, ap, sym, refl, suc, ℕ, Bool, true, false, ◌||◌, cond, List, [], ◌∷◌, ◌++◌, Option, length, get_or, drop, bytes_eq, drop-cons, add-one, arith}
+use Rattle.std.proofs.Common.{◌≡◌, ◌∙◌, ◌<◌, ◌+◌, ap, sym, refl, suc, ℕ, Bool, true, false, ◌||◌, cond, List, [], ◌∷◌, ◌++◌, Option, length, get_or, map, take, drop, bytes_eq, drop-cons, add-one}
+use Rattle.std.proofs.Math.Bool.{or_comm}
 use Rattle.std.proofs.Math.Path.{fun_ext}
+use Rattle.std.proofs.Math.Seq.{take-suc}
 use Rattle.std.proofs.lemmas.Cmp.{nat_list_eq_equiv}
+use Rattle.std.proofs.lemmas.List.{map-append}
+use Rattle.std.proofs.lemmas.List.Folds.{list_any-append}
 use Rattle.std.proofs.lemmas.List.Sums.{fold-append}
 use Rattle.std.specs.List.{list_any, fold}
 use Rattle.rules_parts.specs.declared.broken.EarliestViolation as rust
@@ -50,11 +54,23 @@ left-noted new old kept n rest b at noted =
       by_cases true others = refl
       by_cases false others = refl
 
--- a list of one name has none that is repeated
-pub repeated-short : (ns : List BrokenOf) → length ns < 2 → repeated ns ≡ []
-repeated-short [] short = refl
-repeated-short (n ∷ []) short = refl
-repeated-short (n ∷ (m ∷ ns)) short = absurd (omega arith)
+-- what has one of these names, one part on
+pub stood-next : {A : Type 0} (part : A → BrokenOf) (xs : List A) (i : ℕ) (x : A) → i < length xs → x ≡ get_or xs i x → (q : List ℕ)
+    → list_any (has_name q) (map part (take (i + 1) xs)) ≡ (bytes_eq q (part x).name || list_any (has_name q) (map part (take i xs)))
+stood-next part xs i x lt is q =
+    let before = map part (take i xs) in
+    let own = has_name q (part x) in
+    ap (λ ys. list_any (has_name q) (map part ys)) (rw add-one (take-suc xs i x lt ∙ ap (λ y. take i xs ++ y ∷ []) (sym is)))
+    ∙ (ap (list_any (has_name q)) (map-append part (take i xs) (x ∷ []))
+    ∙ (list_any-append (has_name q) before (part x ∷ []) ∙ (or_comm (list_any (has_name q) before) (own || false) ∙ ap (λ b. b || list_any (has_name q) before) (or-none own)))) where
+      or-none : (b : Bool) → (b || false) ≡ b
+      or-none true = refl
+      or-none false = refl
+
+-- a name that is told if it is repeated
+pub told-if : (kept : Option BrokenOf) (n : BrokenOf) (b : Bool) → fold with_broken kept (cond b (n ∷ []) []) ≡ cond b (with_broken kept n) kept
+told-if kept n true = refl
+told-if kept n false = refl
 
 -- the report of a list and then of another
 pub report-more : (old new : rust.EarliestViolation) (bs rest : List BrokenOf) → Tells old new bs → with_all new rest ≡ with_all old (bs ++ rest)

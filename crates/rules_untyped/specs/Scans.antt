@@ -1,10 +1,12 @@
 -- Definitions of what a pass has reported, and has still to report.
 use Rattle.std.specs.Prelude.{◌≡◌, ℕ, Bool, ◌||◌, List, [], ◌∷◌, Option, bytes_eq, fold, if◌then◌else◌}
 use Rattle.std.specs.Option.{option_map}
+use Rattle.std.specs.List.{list_any}
 use Rattle.std.specs.HashSet.{HashSet, contains_by}
 use Rattle.std.specs.Borrow.{Bor}
 use Rattle.rules_parts.specs.declared.broken.EarliestViolation as rust
 use Rattle.rules_parts.specs.Broken.{BrokenOf, broken_of, with_broken}
+use Rattle.rules_untyped.specs.Repeated.{has_name}
 
 abbrev pub report : rust.EarliestViolation → Option BrokenOf
 report earliest = option_map broken_of earliest.found
@@ -16,6 +18,10 @@ with_all earliest bs = fold with_broken (report earliest) bs
 -- these were reported, each in turn
 abbrev pub Tells : rust.EarliestViolation → rust.EarliestViolation → List BrokenOf → Type 0
 Tells old new bs = report new ≡ with_all old bs
+
+-- a name, where one of those before has it
+abbrev pub if_repeated : List BrokenOf → BrokenOf → List BrokenOf
+if_repeated before n = if list_any (has_name n.name) before then n ∷ [] else []
 
 -- tells whether the set has this text
 abbrev pub has_text : {S : Type 0} → HashSet (Bor (List ℕ)) S → List ℕ → Bool

@@ -165,6 +165,12 @@ module _ {S : Type 0} (may : S → List KeyOf → AnswerOf → Type 0) (c : Clie
 -- ---- a request that is refused
 
 module _ {S : Type 0} (may : S → List KeyOf → AnswerOf → Type 0) (c : ClientOf S) where
+  -- memory ran out before anything was planned
+  pub unplanned-stops : (asked : AskedOf) → StopsAsked may c asked c.session
+  unplanned-stops (one r) = unplanned refl
+  unplanned-stops (several values) = arrays.unplanned refl
+  unplanned-stops (text t) = lines.unread refl
+
   refused-one : (r : RequestOf) (refusals : List (Option (List ℕ))) (plans : List PlanOf) (report : ReportOf) → PlanValues c.server (Some r ∷ []) refusals plans → plans ≡ [] → IsResponseOf false refusals [] report → AnswersRequest may c r report c.session
   refused-one r refusals plans report h e response =
       let t = one-refusal c.server (Some r) refusals plans h e in

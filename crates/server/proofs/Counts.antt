@@ -1,5 +1,5 @@
 -- Lemmas on how many loads plans read over what a session knows.
-use Rattle.std.proofs.Common.{◌≡◌, ℕ, ◌<◌, ◌≤◌, ◌+◌, ◌-◌, ◌^◌, min, List, [], ◌∷◌, ◌++◌, map, take, length, get_or, ap, ◌∙◌, arith, add-one}
+use Rattle.std.proofs.Common.{◌≡◌, ℕ, ◌<◌, ◌≤◌, ◌+◌, ◌-◌, ◌^◌, min, List, [], ◌∷◌, ◌++◌, map, take, length, get_or, ap, subst, sym, ◌∙◌, arith, add-one}
 use Rattle.std.proofs.lemmas.List.{map-append}
 use Rattle.load_memory.specs.Pairs.{MemoryOf}
 use Rattle.gq_check.specs.Plans.{PlanOf}
@@ -10,7 +10,12 @@ use Rattle.gq_resolve.proofs.ReadingOn.{all_read-append}
 use Rattle.load_rounds.specs.Sessions.{SessionOf, state_of, session_modes}
 use Rattle.load_rounds.proofs.Following.{rules-size}
 use Rattle.plan_requests.proofs.Values.{taken-more}
-use Rattle.server.specs.Counts.{known_in, plans_read}
+use Rattle.plan_requests.specs.Servers.{ServerOf}
+use Rattle.server.specs.Clients.{ClientOf, IsSameClient}
+use Rattle.server.specs.Counts.{CountsText, known_in, plans_read}
+use Rattle.server.specs.Planned.{IsPlannedAs, PlannedOf, PlansAsked, text}
+use Rattle.server.specs.Plans.{limited_plan}
+use Rattle.server.proofs.Limits.{limited-plans}
 
 module _ {S : Type 0} (session : SessionOf S) where
   -- says what a memory says that has the session's pairs and modes
@@ -35,3 +40,12 @@ module _ {S : Type 0} (session : SessionOf S) where
       ap (λ ps. plans_read session ps) all ∙ ap (λ qs. all_read qs (reader (known_in session))) (map-append plan_program done (seen x ∷ []))
       ∙ all_read-append (map plan_program done) (plan_program (seen x) ∷ []) (reader (known_in session)) in
       omega (arith, before, here, sum)
+
+-- says how many loads a text reads, once what was planned of it is answered
+pub counts-planned : {S : Type 0} (c later : ClientOf S) → IsSameClient c later → (asked : List ℕ) (planned : PlannedOf) (count : ℕ) → PlansAsked c (text asked) planned → count ≡ counted (plans_read later.session (map limited_plan planned.plans))
+    → CountsText later.server later.session asked count
+counts-planned c later same asked planned count h is = record {
+  plans = h.plans;
+  asks = record { many = planned.many; refusals = planned.refusals; planned = subst (λ (s : ServerOf). IsPlannedAs s (text asked) planned.many planned.refusals h.plans) (sym same.server) h.planned_as };
+  count_is = is ∙ ap (λ (ps : List PlanOf). counted (plans_read later.session ps)) (limited-plans c.most h.plans planned.plans h.limited);
+}

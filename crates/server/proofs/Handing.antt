@@ -1,7 +1,8 @@
 -- Lemmas on what a hand did, and what is made of it for the client that it is of.
 use Rattle.std.proofs.Common.{◌≡◌, ◌≤◌, ◌∙◌, ◌⊎◌, ℕ, Bool, true, false, List, [], map, length, All, Option, Some, None, Result, Ok, Err, refl, sym, ap, subst, inl, inr, arith}
 use Rattle.std.proofs.lemmas.List.Elements.{All-weaker}
-use Rattle.std.specs.Prelude.{◌↔◌, IfSome, OnOk}
+use Rattle.std.specs.Prelude.{◌↔◌, IfSome, IsSome, OnOk}
+use Rattle.std.specs.List.{list_all}
 use Rattle.std.specs.Global.{Vec}
 use Rattle.load_memory.specs.Keys.{KeyOf}
 use Rattle.std.specs.declared.alloc.AllocError.{AllocError}
@@ -15,40 +16,22 @@ use Rattle.load_rounds.specs.Sessions.{SessionOf, state_of}
 use Rattle.load_rounds.specs.SharedRounds.{SharedHeadline, requests, joint, report_of}
 use Rattle.load_rounds.specs.declared.answer.Answer.{Answer}
 use Rattle.rounds_by_hand.specs.Hands as hands
-use Rattle.rounds_by_hand.specs.Hands.{FarOf, HandOf, handed, out, over, HasGone, IsOver, IsNewRound, can_advance, pending_in}
-use Rattle.rounds_by_hand.specs.declared.hand.Advance.{Advance}
-use Rattle.rounds_by_hand.specs.declared.hand.Advance.TheVariants as did
+use Rattle.rounds_by_hand.specs.Hands.{FarOf, HandOf, handed, out, over, HasGone, IsOver, IsNewRound, pending_in}
+use Rattle.rounds_by_hand.specs.Progress.{Becomes, done_in}
 use Rattle.rounds_by_hand.specs.declared.pending.Pending.{Pending}
+use Rattle.rounds_by_hand.specs.declared.progress.Progress.{Progress}
+use Rattle.rounds_by_hand.specs.declared.progress.Progress.TheVariants.{Done, Round, Waiting, Over}
+use Rattle.rounds_by_hand.specs.Pending.{is_in}
+use Rattle.rounds_by_hand.proofs.Becoming.{each-becomes}
+use Rattle.rounds_by_hand.proofs.Storing.{stores-given}
 use Rattle.plan_requests.specs.Servers.{ServerOf}
 use Rattle.server.specs.Plans.{limited_program, limited_text, limited_loaders, limited_fits}
 use Rattle.server.specs.Clients.{ClientOf, HasLoaders, IsSameClient, client_of}
-use Rattle.server.specs.Hands.{ByHandOf, answer_in, by_hand_of, planned_of, IsFinished, IsStepOf, Ends, Steps, AsksAndSteps, GivesFrom, Responds, GivesUp, GoesOn, GoesOnIfMay, HoldsByHand, OnStep}
+use Rattle.server.specs.Hands.{ByHandOf, by_hand_of, planned_of, MakesResponse, Ends, AsksAndSteps, AsksAndStores, GivesFrom, Responds, GivesUp, GoesOn, GoesOnIfMay, HoldsByHand, StoresReplies}
 use Rattle.server.specs.Planned.{AskedOf, PlannedOf, PlansAsked, AnswersAsked, IsResponse, is_refused}
 use Rattle.gq_resolve.specs.PreparedPlans.{LimitedPlanOf}
-use Rattle.server.specs.declared.by_hand.ClientAdvance.{ClientAdvance}
 use Rattle.server.specs.declared.planned.ResponseForm.{ResponseForm}
-use Rattle.server.specs.declared.by_hand.ClientAdvance.TheVariants as step
 use Rattle.server.proofs.Asking.{asked-answered, asked-refused, asked-stops}
-
--- a client's advance is of the kind of the hand's advance
-each-step : (planned : PlannedOf) (T : Advance → ClientAdvance → Type 0) → ((answers : Vec Answer) (answer : Answer) → IsResponse planned (map report_of answers.items) (report_of answer) → T (did.Finished answers) (step.Answered answer))
-    → T did.Round step.Round → T did.Waiting step.Waiting → T did.Over step.Over → (d : Advance) (s : ClientAdvance) → IsStepOf planned.many planned.refusals d s → T d s
-each-step planned T finished round waiting over' (did.Finished answers) (step.Answered answer) is = finished answers answer is
-each-step planned T finished round waiting over' (did.Finished answers) step.Round is = absurd is
-each-step planned T finished round waiting over' (did.Finished answers) step.Waiting is = absurd is
-each-step planned T finished round waiting over' (did.Finished answers) step.Over is = absurd is
-each-step planned T finished round waiting over' did.Round (step.Answered answer) is = absurd is
-each-step planned T finished round waiting over' did.Round step.Round is = round
-each-step planned T finished round waiting over' did.Round step.Waiting is = absurd is
-each-step planned T finished round waiting over' did.Round step.Over is = absurd is
-each-step planned T finished round waiting over' did.Waiting (step.Answered answer) is = absurd is
-each-step planned T finished round waiting over' did.Waiting step.Round is = absurd is
-each-step planned T finished round waiting over' did.Waiting step.Waiting is = waiting
-each-step planned T finished round waiting over' did.Waiting step.Over is = absurd is
-each-step planned T finished round waiting over' did.Over (step.Answered answer) is = absurd is
-each-step planned T finished round waiting over' did.Over step.Round is = absurd is
-each-step planned T finished round waiting over' did.Over step.Waiting is = absurd is
-each-step planned T finished round waiting over' did.Over step.Over is = over'
 
 -- a new round isn't the end
 pub round-open : {P E : Type 0} (far : FarOf P E) → IsNewRound far → ¬ (IsOver far)
@@ -56,45 +39,29 @@ round-open handed is e = absurd is
 round-open (out run pending) is e = absurd (cc e)
 round-open over is e = absurd is
 
--- of a hand of which nothing is done no order can be answered
-pub answer-keeps : {S P E : Type 0} (old new : HandOf S P E) (number : ℕ) (Refused : Type 0) → (Refused ↔ (length (pending_in old.far) ≤ number)) → (Refused → new ≡ old) → old.far ≡ handed → new.far ≡ handed
-answer-keeps old new number Refused when same e =
+-- of a hand of which nothing is done no order can get a reply
+pub reply-keeps : {S P E : Type 0} (old new : HandOf S P E) (number : ℕ) (Refused : Type 0) → (Refused ↔ (length (pending_in old.far) ≤ number)) → (Refused → new ≡ old) → old.far ≡ handed → new.far ≡ handed
+reply-keeps old new number Refused when same e =
     let none : length (pending_in old.far) ≤ number = subst (λ far. length (pending_in far) ≤ number) (sym e) (omega arith) in
     ap (λ (h : HandOf _ _ _). h.far) (same (when.1 none)) ∙ e
-
--- what is stored at the hand's step is stored at the client's
-pub on-step : (planned : PlannedOf) (d : Advance) (s : ClientAdvance) (fact : Type 0) → IsStepOf planned.many planned.refusals d s → hands.OnStep d fact → OnStep s fact
-on-step planned d s fact is = each-step planned (λ d s. hands.OnStep d fact → OnStep s fact) (λ answers answer is h. h) (λ h. h) (λ h. tt) (λ h. tt) d s is
 
 module _ {S : Type 0} (server : ServerOf) (most : Option ℕ) (planned : PlannedOf) where
   -- the hand with the client that it is of
   abbrev pub held : HandOf S LimitedPlanOf RootState → ByHandOf S
   held hand = by_hand_of (client_of server most hand.session) planned hand.far
 
-  pub steps : (old new : HandOf S LimitedPlanOf RootState) (d : Advance) (s : ClientAdvance) → IsStepOf planned.many planned.refusals d s → hands.Advances old new d → Steps (held old) (held new) s
-  steps old new = each-step planned (λ d s. hands.Advances old new d → Steps (held old) (held new) s) (λ answers answer is h. (h.0, inr h.1)) (λ h. h) (λ h. (h.0, ap held h.1)) (λ h. (h.0, ap held h.1))
-
-  pub asks-steps : (old new : HandOf S LimitedPlanOf RootState) (d : Advance) (s : ClientAdvance) → IsStepOf planned.many planned.refusals d s → hands.AsksAndAdvances old new d → AsksAndSteps (held old) (held new) s
-  asks-steps old new = each-step planned (λ d s. hands.AsksAndAdvances old new d → AsksAndSteps (held old) (held new) s) (λ answers answer is h. (h.0, inr h.1)) (λ h. h) (λ h. h) (λ h. (h.0, ap held h.1))
+  pub asks-steps : (old new : HandOf S LimitedPlanOf RootState) (did : Progress (Vec Answer)) (own : Progress Answer) → Becomes (MakesResponse planned.many planned.refusals) did own → hands.AsksAndAdvances old new did → AsksAndSteps (held old) (held new) own
+  asks-steps old new = each-becomes (MakesResponse planned.many planned.refusals) (λ did own. hands.AsksAndAdvances old new did → AsksAndSteps (held old) (held new) own) (λ answers answer is h. (h.0, inr h.1)) (λ h. h) (λ h. h) (λ h. (h.0, ap held h.1))
 
   -- says where there are answers it is over
-  pub finished : (old new : HandOf S LimitedPlanOf RootState) (d : Advance) → IsFinished d → hands.Advances old new d → Ends (held old) (held new)
-  finished old new (did.Finished answers) is h = inr h.1
-  finished old new did.Round is h = absurd is
-  finished old new did.Waiting is h = absurd is
-  finished old new did.Over is h = absurd is
-
-  pub finished-asks : (old new : HandOf S LimitedPlanOf RootState) (d : Advance) → IsFinished d → hands.AsksAndAdvances old new d → Ends (held old) (held new)
-  finished-asks old new (did.Finished answers) is h = inr h.1
-  finished-asks old new did.Round is h = absurd is
-  finished-asks old new did.Waiting is h = absurd is
-  finished-asks old new did.Over is h = absurd is
+  pub done-ends : (old new : HandOf S LimitedPlanOf RootState) (did : Progress (Vec Answer)) → IsSome (done_in did) → hands.AsksAndAdvances old new did → Ends (held old) (held new)
+  done-ends old new (Done answers) is h = inr h.1
+  done-ends old new Round is h = absurd (cc is)
+  done-ends old new Waiting is h = absurd (cc is)
+  done-ends old new Over is h = absurd (cc is)
 
   -- a request that is refused stays as it is
-  pub refused-steps : (hand : HandOf S LimitedPlanOf RootState) → is_refused planned ≡ true → hand.far ≡ handed → (answer : Answer) → Steps (held hand) (held hand) (step.Answered answer)
-  refused-steps hand refused far answer = (ap can_advance far, inl (refused, refl))
-
-  pub refused-asks : (hand : HandOf S LimitedPlanOf RootState) → is_refused planned ≡ true → hand.far ≡ handed → (answer : Answer) → AsksAndSteps (held hand) (held hand) (step.Answered answer)
+  pub refused-asks : (hand : HandOf S LimitedPlanOf RootState) → is_refused planned ≡ true → hand.far ≡ handed → (answer : Answer) → AsksAndSteps (held hand) (held hand) (Done answer)
   refused-asks hand refused far answer = (λ e. absurd (cc (sym far ∙ e)), inl (refused, refl))
 
   module _ (may : S → List KeyOf → AnswerOf → Type 0) where
@@ -105,13 +72,12 @@ module _ {S : Type 0} (server : ServerOf) (most : Option ℕ) (planned : Planned
     pub goes : (old new : HandOf S LimitedPlanOf RootState) → old.plans ≡ planned.plans → new.plans ≡ old.plans → hands.GoesOn limited_program limited_text may old new → GoesOn may (held old) (held new)
     goes old new is same go = λ begun h. as-planned begun new new.plans planned.plans (same ∙ is) (go begun (as-planned begun old planned.plans old.plans (sym is) h))
 
-    pub responds : (old new : HandOf S LimitedPlanOf RootState) → old.plans ≡ planned.plans → new.plans ≡ old.plans → is_refused planned ≡ false → (d : Advance) (s : ClientAdvance) → IsStepOf planned.many planned.refusals d s
-        → hands.AnswersFrom limited_program limited_text may old new d → Responds may (held old) (held new) s
+    pub responds : (old new : HandOf S LimitedPlanOf RootState) → old.plans ≡ planned.plans → new.plans ≡ old.plans → is_refused planned ≡ false → (did : Progress (Vec Answer)) (own : Progress Answer) → Becomes (MakesResponse planned.many planned.refusals) did own
+        → hands.AnswersFrom limited_program limited_text may old new did → Responds may (held old) (held new) own
     responds old new is same open' =
-        each-step planned (λ d s. hands.AnswersFrom limited_program limited_text may old new d → Responds may (held old) (held new) s) answered (λ _. tt) (λ _. tt) (λ _. tt)
+        each-becomes (MakesResponse planned.many planned.refusals) (λ did own. hands.AnswersFrom limited_program limited_text may old new did → Responds may (held old) (held new) own) answered (λ _. tt) (λ _. tt) (λ _. tt)
       where
-        answered : (answers : Vec Answer) (answer : Answer) → IsResponse planned (map report_of answers.items) (report_of answer) → hands.AnswersFrom limited_program limited_text may old new (did.Finished answers)
-            → Responds may (held old) (held new) (step.Answered answer)
+        answered : (answers : Vec Answer) (answer : Answer) → MakesResponse planned.many planned.refusals answers answer → hands.AnswersFrom limited_program limited_text may old new (Done answers) → Responds may (held old) (held new) (Done answer)
         answered answers answer response tells c asked h p =
             let shared = tells c.session (as-planned c.session old planned.plans old.plans (sym is) h) in
             let asked-for = subst (λ (plans : List LimitedPlanOf). SharedHeadline may (state_of c.session) (state_of new.session) (requests limited_program limited_text plans) (map report_of answers.items)) (same ∙ is) shared in
@@ -121,7 +87,7 @@ module _ {S : Type 0} (server : ServerOf) (most : Option ℕ) (planned : Planned
     untouched : (begun : SessionOf S) (hand : HandOf S LimitedPlanOf RootState) → hand.far ≡ handed → HasGone limited_program limited_text may begun hand.session planned.plans hand.far → hand.session ≡ begun
     untouched begun hand e h = subst (λ (far : FarOf LimitedPlanOf RootState). HasGone limited_program limited_text may begun hand.session planned.plans far) e h
 
-    pub refusal-responds : (hand : HandOf S LimitedPlanOf RootState) → is_refused planned ≡ true → hand.far ≡ handed → (answer : Answer) → IsResponse planned [] (report_of answer) → Responds may (held hand) (held hand) (step.Answered answer)
+    pub refusal-responds : (hand : HandOf S LimitedPlanOf RootState) → is_refused planned ≡ true → hand.far ≡ handed → (answer : Answer) → IsResponse planned [] (report_of answer) → Responds may (held hand) (held hand) (Done answer)
     refusal-responds hand refused far answer response c asked h p =
         subst (λ (s : SessionOf S). AnswersAsked may c asked (report_of answer) s) (sym (untouched c.session hand far h)) (asked-refused may c asked planned (report_of answer) p refused response)
 
@@ -132,12 +98,12 @@ module _ {S : Type 0} (server : ServerOf) (most : Option ℕ) (planned : Planned
         let ended = subst (λ (plans : List LimitedPlanOf). (session ≡ c.session) ⊎ StopsAnswering may (state_of c.session) (state_of session) (joint limited_program limited_text plans)) is end in
         asked-stops may c session asked planned p (λ refused. same ∙ untouched c.session hand (far refused) h) ended
 
-    -- an order is answered
-    pub goes-if-may : {X E : Type 0} (r : Result X E) (at' : Option Pending) (answer : Result (Vec Item) FetchFault) (old new : HandOf S LimitedPlanOf RootState) → old.plans ≡ planned.plans → new.plans ≡ old.plans
-        → OnOk r (IfSome at' (hands.GoesOnIfMay limited_program limited_text may answer old new)) → OnOk r (IfSome at' (GoesOnIfMay may answer (held old) (held new)))
-    goes-if-may (Ok x) (Some one) answer old new is same h = λ can. goes old new is same (h can)
-    goes-if-may (Ok x) None answer old new is same h = tt
-    goes-if-may (Err e) at' answer old new is same h = tt
+    -- an order gets a reply
+    pub goes-if-may : {X E : Type 0} (r : Result X E) (at' : Option Pending) (given : Result (Vec Item) FetchFault) (old new : HandOf S LimitedPlanOf RootState) → old.plans ≡ planned.plans → new.plans ≡ old.plans
+        → OnOk r (IfSome at' (hands.GoesOnIfMay limited_program limited_text may given old new)) → OnOk r (IfSome at' (GoesOnIfMay may given (held old) (held new)))
+    goes-if-may (Ok x) (Some one) given old new is same h = λ can. goes old new is same (h can)
+    goes-if-may (Ok x) None given old new is same h = tt
+    goes-if-may (Err e) at' given old new is same h = tt
 
 -- properties of a client that is handed in
 pub handed-in : {S : Type 0} (client : ClientOf S) (planned : PlannedOf) (hand : HandOf S LimitedPlanOf RootState) → HasLoaders client.server client.session → hand ≡ record { session = client.session; plans = planned.plans; far = handed }
@@ -165,6 +131,11 @@ pub told : {S : Type 0} (server : ServerOf) (most : Option ℕ) (form : Response
     → T (held server most (planned_of form loaders old.plans) new) → T (held server most (planned_of form loaders new.plans) new)
 told server most form loaders old new T same x = subst (λ ps. T (held server most (planned_of form loaders ps) new)) (sym same) x
 
+-- where each order had a reply, what was given is stored
+pub stores-replies : {S : Type 0} (may : S → List KeyOf → AnswerOf → Type 0) (old : ByHandOf S) (client : ClientOf S) → list_all is_in (pending_in old.far) ≡ true → AsksAndStores may old client → StoresReplies old client
+stores-replies may old client each (inl stays) = inl stays
+stores-replies may old client each (inr stores) = inr (stores-given may old.far old.client.session client.session each stores)
+
 -- ---- as a future
 
 module _ {S : Type 0} (may : S → List KeyOf → AnswerOf → Type 0) (b new : ByHandOf S) (goes-on : GoesOn may b new) (planned : new.planned ≡ b.planned) (same : IsSameClient b.client new.client) where
@@ -188,15 +159,11 @@ module _ {S : Type 0} (may : S → List KeyOf → AnswerOf → Type 0) (b new : 
   }
 
   -- it answered
-  pub polled-answered : (client : ClientOf S) (s : ClientAdvance) (answer : Answer) → client ≡ new.client → answer_in s ≡ Some answer → Responds may b new s → GivesFrom may b (client, Ok answer)
-  polled-answered client (step.Answered own) answer is at responds =
-      let own-is : own ≡ answer = cc at in
+  pub polled-answered : (client : ClientOf S) (did : Progress Answer) (answer : Answer) → client ≡ new.client → done_in did ≡ Some answer → Responds may b new did → GivesFrom may b (client, Ok answer)
+  polled-answered client did answer is at responds =
+      let told = rw at at responds in
       record {
-        answered = λ c asked h p. subst (λ (later : ClientOf S). AnswersAsked may c asked (report_of answer) later.session) (sym is)
-            (subst (λ (a : Answer). AnswersAsked may c asked (report_of a) new.client.session) own-is (responds c asked h p));
+        answered = λ c asked h p. subst (λ (later : ClientOf S). AnswersAsked may c asked (report_of answer) later.session) (sym is) (told c asked h p);
         stopped = λ c asked h p. tt;
         same = subst (λ (later : ClientOf S). IsSameClient b.client later) (sym is) same;
       }
-  polled-answered client step.Round answer is at responds = absurd (cc at)
-  polled-answered client step.Waiting answer is at responds = absurd (cc at)
-  polled-answered client step.Over answer is at responds = absurd (cc at)

@@ -1,33 +1,22 @@
 -- Plans of requests that are kept, and what requests ask, prepared.
-use Rattle.std.proofs.Common.{◌≡◌, ◌∙◌, ◌≤◌, ℕ, Bool, false, List, [], ◌∷◌, ◌++◌, length, Option, Some, None, Result, Ok, Err, refl, sym, ap, subst, string_bytes, arith}
+use Rattle.std.proofs.Common.{◌≡◌, ◌∙◌, ◌≤◌, ℕ, Bool, false, List, [], ◌∷◌, ◌++◌, length, Option, Some, None, Ok, Err, refl, sym, ap, subst, string_bytes, arith}
 use Rattle.std.specs.Arc.{arc_value}
-use Rattle.std.specs.declared.alloc.AllocError.{AllocError}
 use Rattle.std.proofs.lemmas.List.{map-append, append-nil}
-use Rattle.std.proofs.lemmas.Result.{IfOk-weaker, on_err_weaker}
-use Rattle.load_memory.specs.Keys.{KeyOf}
-use Rattle.load_queue.specs.Answers.{AnswerOf}
 use Rattle.gq_bindings.specs.Tree.{BindingsOf}
 use Rattle.gq_check.specs.Plans.{PlanOf, PlanParts, plan_of}
 use Rattle.gq_resolve.specs.PreparedPlans.{LimitedPlanOf, within}
-use Rattle.load_rounds.specs.Sessions.{SessionOf}
-use Rattle.load_rounds.specs.declared.answer.Answer.{Answer}
 use Rattle.serde_json.specs.Data.{null}
 use Rattle.request_line.specs.Keys.{IsKey}
 use Rattle.request_line.specs.Requests.{RequestOf}
 use Rattle.request_line.proofs.Keys.{one-operation}
-use Rattle.plan_requests.specs.Planning.{HasOperation, IsPlanned, IsRefusal, PlanValues, values_of}
+use Rattle.plan_requests.specs.Planning.{HasOperation, IsPlanned, PlanValues, values_of}
 use Rattle.plan_requests.specs.Servers.{ServerOf}
 use Rattle.plan_requests.proofs.KeptPlans.{plan-again}
-use Rattle.plan_requests.proofs.Requests.{planned-valid}
 use Rattle.plan_requests.proofs.Values.{refused-more, planned-more}
-use Rattle.server.specs.Answering.{Answered}
-use Rattle.server.specs.Answers.{refused, planned, stopped}
-use Rattle.server.specs.Clients.{ClientOf}
+use Rattle.server.specs.Answers.{planned}
 use Rattle.server.specs.Kept.{HasNoVariables, IsPlanAt, NeedsLoaders, PreparedRequest, PreparesRequest, PreparesValue}
-use Rattle.server.specs.Planned.{AddsRequest, PlannedOf, PlansAll, PlansEach}
+use Rattle.server.specs.Planned.{AddsRequest, PlannedOf, PlansAll, PlansEach, nothing_planned}
 use Rattle.server.specs.Plans.{AreLimited, plan_and_limit}
-use Rattle.server.specs.Runners.{RunsPlan}
-use Rattle.server.proofs.Loaders.{plan-many}
 
 -- ---- plans that are kept
 
@@ -82,35 +71,16 @@ module _ (s : ServerOf) (most : Option ℕ) where
       }
 
   -- nothing is planned
-  pub none-planned : (many : Bool) (loaders : ℕ) → PlansEach s most [] (record { many = many; refusals = []; plans = []; loaders = loaders })
+  pub none-planned : (many : Bool) (loaders : ℕ) → PlansEach s most [] (nothing_planned many loaders)
   none-planned many loaders = record { plans = []; limited = refl; each = tt }
 
   -- one value is planned alone
   pub alone-planned : (value : Option RequestOf) (loaders : ℕ) (asked : PreparedRequest) (what : PlannedOf) → loaders ≡ length s.bindings.loaders → PreparesValue s value asked
-      → AddsRequest most asked (record { many = false; refusals = []; plans = []; loaders = loaders }) what → PlansAll s most (value ∷ []) false what
+      → AddsRequest most asked (nothing_planned false loaders) what → PlansAll s most (value ∷ []) false what
   alone-planned value loaders asked what e is add = record {
-    each = each-more [] value (record { many = false; refusals = []; plans = []; loaders = loaders }) what asked (none-planned false loaders) is add;
+    each = each-more [] value (nothing_planned false loaders) what asked (none-planned false loaders) is add;
     many_is = add.many;
     loaders = add.loaders ∙ e;
-  }
-
--- ---- what answers a request
-
-module _ {S : Type 0} (may : S → List KeyOf → AnswerOf → Type 0) where
-  -- a request that is refused
-  pub said-refused : (c : ClientOf S) (request : RequestOf) (refusal : Answer) → IsRefusal c.server request (string_bytes refusal.text) → refusal.rounds ≡ 0 → Answered may c request (Ok refusal) c.session
-  said-refused c request refusal is none = record {
-    answered = refused is (ap (λ n. record { text = string_bytes refusal.text; rounds = n }) none) refl;
-    stopped = tt;
-    loaders = refl;
-  }
-
-  -- a request that is answered by its plan
-  pub ran-planned : (c : ClientOf S) (request : RequestOf) (plan : PlanParts) (ran : Result Answer AllocError) (new : SessionOf S) → IsPlanned c.server request (plan_of plan) → RunsPlan may c.session (within plan c.most) ran new → Answered may c request ran new
-  ran-planned c request plan ran new is h = record {
-    answered = IfOk-weaker ran _ _ (λ answer told. planned is (record { valid = planned-valid _ _ _ is; headline = told })) h.answer;
-    stopped = on_err_weaker ran (λ told. stopped is told) h.stopped;
-    loaders = plan-many may _ _ _ _ h;
   }
 
 -- where there are no variables, a kept plan is that of each request of its operation

@@ -7,5 +7,7 @@ pub mod Loaders
 pub mod LoadsByHand
 pub mod Opened
 pub mod Outcomes
+pub mod Responding
+pub mod StartedLines
 pub mod Values
 pub mod Counts

@@ -1,6 +1,7 @@
 -- A session keeps its loaders.
 use Rattle.std.proofs.Common.{◌≡◌, ◌∙◌, ◌⊎◌, List, [], ◌∷◌, map, length, inl, inr, sym, ap, Result, Ok, Err}
 use Rattle.std.specs.Global.{Vec}
+use Rattle.std.specs.Prelude.{IfOk, OnErr}
 use Rattle.std.proofs.lemmas.List.{length-map}
 use Rattle.load_memory.specs.Keys.{KeyOf}
 use Rattle.load_memory.specs.Replies.{ReplyOf}
@@ -14,12 +15,11 @@ use Rattle.execution.specs.Sessions.{Forgot, Lost}
 use Rattle.load_rounds.specs.Calls.{RoundLost}
 use Rattle.load_rounds.specs.Headline.{MakesRounds, StopsAnswering, asked_steps}
 use Rattle.load_rounds.specs.Sessions.{SessionOf, StateOf, state_of, rules_of, session_modes, of_first}
-use Rattle.load_rounds.specs.SharedRounds.{together}
+use Rattle.load_rounds.specs.SharedRounds.{AreAnswers, together}
 use Rattle.load_rounds.specs.declared.answer.Answer.{Answer}
 use Rattle.std.specs.declared.alloc.AllocError.{AllocError}
 use Rattle.gq_resolve.specs.PreparedPlans.{LimitedPlanOf as LimitedPlan}
-use Rattle.server.specs.Plans.{limited_program, limited_requests}
-use Rattle.server.specs.Runners.{RunsPlan, RunsPlans}
+use Rattle.server.specs.Plans.{limited_requests}
 use Rattle.load_rounds.proofs.Stepping.{steps-made}
 
 module _ {S : Type 0} where
@@ -49,11 +49,7 @@ module _ {S : Type 0} where
     stops-many h = made-many new.loaders old.loaders (stops-made h)
 
 -- whoever ran the batches of plans
-module _ {S : Type 0} (may : S → List KeyOf → AnswerOf → Type 0) (old new : SessionOf S) where
-  pub plan-many : (l : LimitedPlan) (r : Result Answer AllocError) → RunsPlan may old l r new → length new.loaders ≡ length old.loaders
-  plan-many l (Ok a) h = rounds-many may (state_of old) (state_of new) (limited_program l) h.answer.log h.answer.made
-  plan-many l (Err e) h = stops-many may (state_of old) (state_of new) (limited_program l) h.stopped
-
-  pub plans-many : (ls : List LimitedPlan) (r : Result (Vec Answer) AllocError) → RunsPlans may old ls r new → length new.loaders ≡ length old.loaders
-  plans-many ls (Ok a) h = rounds-many may (state_of old) (state_of new) (together (limited_requests ls)) h.answers.log h.answers.made
-  plans-many ls (Err e) h = stops-many may (state_of old) (state_of new) (together (limited_requests ls)) h.stopped
+pub answers-many : {S : Type 0} (may : S → List KeyOf → AnswerOf → Type 0) (old new : SessionOf S) (plans : List LimitedPlan) (r : Result (Vec Answer) AllocError) → IfOk r (AreAnswers may (state_of old) (state_of new) (limited_requests plans))
+    → OnErr r (StopsAnswering may (state_of old) (state_of new) (together (limited_requests plans))) → length new.loaders ≡ length old.loaders
+answers-many may old new plans (Ok answers) done stopped = rounds-many may (state_of old) (state_of new) (together (limited_requests plans)) done.log done.made
+answers-many may old new plans (Err e) done stopped = stops-many may (state_of old) (state_of new) (together (limited_requests plans)) stopped

@@ -3,9 +3,10 @@ use Rattle.std.proofs.Common.{◌≡◌, ◌≢◌, ◌<◌, ◌≤◌, ◌∙�
 use Rattle.std.proofs.lemmas.List.{length-map}
 use Rattle.std.proofs.lemmas.List.Elements.{All-cons, All-head, All-nil, All-tail}
 use Rattle.std.specs.Global.{Vec}
-use Rattle.std.specs.Prelude.{All, Option, Some, None, Result, Ok, Err, IfOk, IfSome, OnOk}
+use Rattle.std.specs.Prelude.{All, Option, Some, None, Result, IfSome}
 use Rattle.load_memory.specs.Keys.{KeyOf}
 use Rattle.load_memory.specs.declared.outcome.Item.{Item}
+use Rattle.load_memory.specs.declared.outcome.Outcome.{Outcome}
 use Rattle.load_memory.specs.Pairs.{look}
 use Rattle.load_memory.specs.Replies.{ReplyOf, reply_of}
 use Rattle.load_queue.specs.Answers.{AnswerOf}
@@ -22,39 +23,39 @@ use Rattle.load_rounds.specs.Headline.{StopsAnswering, asked_steps}
 use Rattle.load_rounds.specs.Histories.{IsCallOf, StoppedLoading}
 use Rattle.load_rounds.specs.Reading.{KeysOf, CanLoad, HasRead, keys_fits, keys_loaders, keys_program, keys_text}
 use Rattle.load_rounds.specs.SharedRounds.{ReportOf, SharedHeadline, joint, report_of, request_of}
+use Rattle.load_rounds.specs.declared.answer.Answer.{Answer}
 use Rattle.load_rounds.specs.Executions.{plans_in}
 use Rattle.load_rounds.specs.Runs.{RunOf}
 use Rattle.load_rounds.proofs.Reading.{read-complete, read-fills, read-once, reading-front, reading-stops}
 use Rattle.load_rounds.proofs.Requests.{front-one, headline-one, stops-one}
 use Rattle.load_rounds.proofs.Runs.{lost-rules}
 use Rattle.load_rounds.proofs.Stepping.{record-many, steps-rules}
-use Rattle.rounds_by_hand.specs.declared.hand.Advance.{Advance}
-use Rattle.rounds_by_hand.specs.declared.hand.Advance.TheVariants as did
-use Rattle.server.specs.declared.load_by_hand.LoadAdvance.{LoadAdvance}
-use Rattle.server.specs.declared.load_by_hand.LoadAdvance.TheVariants.{Loaded, Round, Waiting, Over}
+use Rattle.rounds_by_hand.specs.Progress.{Becomes, done_in}
+use Rattle.rounds_by_hand.specs.declared.progress.Progress.{Progress}
+use Rattle.rounds_by_hand.specs.declared.progress.Progress.TheVariants.{Done, Round, Waiting, Over}
 use Rattle.rounds_by_hand.specs.declared.pending.Pending.{Pending}
 use Rattle.rounds_by_hand.specs.declared.pending.Pending.TheVariants.{Out, In}
-use Rattle.rounds_by_hand.specs.Pending.{order_in, AreRepliesFor, HasAnswer, IsAnswered}
+use Rattle.rounds_by_hand.specs.Pending.{order_in, AreRepliesFor, HasAnswer, IsReplied}
 use Rattle.rounds_by_hand.specs.Stored.{StoresRound}
 use Rattle.rounds_by_hand.specs.Hands.{FarOf, HandOf, handed, out, over, AnswersFrom, AsksAndAdvances, GivesUp, GoesOn, GoesOnIfMay, HasGone, HoldsFar, IsNewRound, IsOutWith, IsOver, KeepsHand, KeepsLoaders, KeepsSession, StoresAskedFrom}
+use Rattle.rounds_by_hand.proofs.Becoming.{each-becomes}
 use Rattle.plan_requests.specs.Servers.{ServerOf}
 use Rattle.server.specs.Clients.{HasLoaders, client_of}
-use Rattle.server.specs.Hands.{IsFinished}
-use Rattle.server.specs.LoadsByHand.{AsksAndAdvancesLoad, ClientLoads, ClientStopsLoad, HoldsLoad, LoadGoesOn, LoadGoesOnIfMay, OnLoadStep, TellsLoad, load_by_hand_of}
+use Rattle.server.specs.LoadsByHand.{AsksAndAdvancesLoad, ClientLoads, ClientStopsLoad, HoldsLoad, LoadByHandOf, LoadGoesOn, LoadGoesOnIfMay, TellsOutcomes, load_by_hand_of}
 
 -- ---- the replies to a round that is stored
 
 module _ (may : ℕ → List KeyOf → AnswerOf → Type 0) where
-  replies-any : (ps : List Pending) (rs : List ReplyOf) → All (IsAnswered any_answer) ps → AreRepliesFor may ps rs → AreReplies any_answer (map order_in ps) rs
+  replies-any : (ps : List Pending) (rs : List ReplyOf) → All (IsReplied any_answer) ps → AreRepliesFor may ps rs → AreReplies any_answer (map order_in ps) rs
   replies-any [] [] each fit = tt
   replies-any [] (r ∷ rs) each fit = absurd fit
   replies-any (p ∷ ps) [] each fit = absurd fit
   replies-any (Out order ∷ ps) (r ∷ rs) each fit =
       let is = fit.0 in
-      (record { loader = is.loader; keys = is.keys; answer = is.answer; may_be = tt; outcomes = is.outcomes }, replies-any ps rs (All-tail (IsAnswered any_answer) (Out order) ps each) fit.1)
+      (record { loader = is.loader; keys = is.keys; answer = is.answer; may_be = tt; outcomes = is.outcomes }, replies-any ps rs (All-tail (IsReplied any_answer) (Out order) ps each) fit.1)
   replies-any (In reply ∷ ps) (r ∷ rs) each fit =
-      let own : HasAnswer any_answer (reply_of reply) = All-head (IsAnswered any_answer) (In reply) ps each in
-      (rw fit.0 (record { loader = refl; keys = refl; answer = own.answer; may_be = own.may_be; outcomes = own.outcomes }), replies-any ps rs (All-tail (IsAnswered any_answer) (In reply) ps each) fit.1)
+      let own : HasAnswer any_answer (reply_of reply) = All-head (IsReplied any_answer) (In reply) ps each in
+      (rw fit.0 (record { loader = refl; keys = refl; answer = own.answer; may_be = own.may_be; outcomes = own.outcomes }), replies-any ps rs (All-tail (IsReplied any_answer) (In reply) ps each) fit.1)
 
 -- ---- what is missing of the keys
 
@@ -80,7 +81,7 @@ module _ {S : Type 0} (keys : KeysOf) where
   stored-none may old new run ps plans is same h stores kept limited lt =
       let rules : List RuleOf = rules_of (state_of old) in
       let orders : map order_in ps ≡ round_orders rules (lacking (state_of old)) = h.orders ∙ ap (round_orders rules) (keys-front (state_of old) (plans_in run.parts) (same ∙ is)) in
-      let told : AreReplies any_answer (round_orders rules (lacking (state_of old))) stores.replies = subst (λ os. AreReplies any_answer os stores.replies) orders (replies-any (may_at may old.loaders) ps stores.replies h.answers stores.replied) in
+      let told : AreReplies any_answer (round_orders rules (lacking (state_of old))) stores.replies = subst (λ os. AreReplies any_answer os stores.replies) orders (replies-any (may_at may old.loaders) ps stores.replies h.replies stores.replied) in
       let filled = read-fills any_answer rules keys.loader keys.keys (look old.pairs) stores.replies limited (omega (arith, lt, length-map old.loaders rule_of)) (out-lacks (state_of old) run ps plans is same h) told in
       ap (λ rs. front_of_keys (modes_of rs) keys.loader keys.keys (look new.pairs)) kept.rules ∙ ap (front_of_keys (modes_of rules) keys.loader keys.keys) stores.stored ∙ filled
 
@@ -97,6 +98,10 @@ module _ {S : Type 0} (keys : KeysOf) where
   }
 
   module _ (server : ServerOf) (most : Option ℕ) (may : S → List KeyOf → AnswerOf → Type 0) where
+    -- the hand with the client that it is of
+    abbrev pub held : HandOf S KeysOf (Unit {0}) → LoadByHandOf S
+    held hand = load_by_hand_of (client_of server most hand.session) keys hand.far
+
     -- ---- answers
 
     headline-read : (begun now : StateOf S) (reports : List ReportOf) → SharedHeadline may begun now (request_of (keys_program keys) (keys_text keys) ∷ []) reports → HasRead may begun now keys.loader keys.keys
@@ -126,60 +131,39 @@ module _ {S : Type 0} (keys : KeysOf) where
         limited = subst AreLimited (sym kept.session.rules) h.limited;
       }
 
-      module _ (answers : Advance) (tells : AnswersFrom keys_program keys_text may old new answers) where
-        -- from whichever session it was begun: the program was run
-        has-read : (begun : SessionOf S) → HasGone keys_program keys_text may begun old.session old.plans old.far → IsFinished answers → HasRead may (state_of begun) (state_of new.session) keys.loader keys.keys
-        has-read begun is finished = go answers finished tells
-          where
-            go : (a : Advance) → IsFinished a → AnswersFrom keys_program keys_text may old new a → HasRead may (state_of begun) (state_of new.session) keys.loader keys.keys
-            go (did.Finished all) f t =
-                headline-read (state_of begun) (state_of new.session) (map report_of all.items)
-                (subst (λ ps. SharedHeadline may (state_of begun) (state_of new.session) (map (λ plan. request_of (keys_program plan) (keys_text plan)) ps) (map report_of all.items)) (kept.plans ∙ h.plans) (t begun is))
-            go did.Round f t = absurd f
-            go did.Waiting f t = absurd f
-            go did.Over f t = absurd f
+      -- from whichever session it was begun: the program was run
+      has-read : (all : Vec Answer) → AnswersFrom keys_program keys_text may old new (Done all) → (begun : SessionOf S) → HasGone keys_program keys_text may begun old.session old.plans old.far → HasRead may (state_of begun) (state_of new.session) keys.loader keys.keys
+      has-read all tells begun is =
+          headline-read (state_of begun) (state_of new.session) (map report_of all.items)
+          (subst (λ ps. SharedHeadline may (state_of begun) (state_of new.session) (map (λ plan. request_of (keys_program plan) (keys_text plan)) ps) (map report_of all.items)) (kept.plans ∙ h.plans) (tells begun is))
 
-        -- then nothing is missing
-        pub none-missing : AsksAndAdvances old new answers → StoresAskedFrom may old.far old.session new.session → IsFinished answers → front_at (state_of new.session) keys.loader keys.keys ≡ []
-        none-missing adv stores finished = go old.far refl
-          where
-            on : (a : Advance) → IsFinished a → AsksAndAdvances old new a → ¬ (IsOver old.far)
-            on (did.Finished all) f d = d.0
-            on did.Round f d = absurd f
-            on did.Waiting f d = absurd f
-            on did.Over f d = absurd f
+      -- then nothing is missing
+      none-missing : (all : Vec Answer) → AnswersFrom keys_program keys_text may old new (Done all) → ¬ (IsOver old.far) → StoresAskedFrom may old.far old.session new.session → lacking (state_of new.session) ≡ []
+      none-missing all tells on stores = go old.far refl
+        where
+          go : (far : FarOf KeysOf (Unit {0})) → old.far ≡ far → lacking (state_of new.session) ≡ []
+          go handed e = read-complete may (state_of old.session) keys.loader keys.keys (state_of new.session) (has-read all tells old.session (subst (λ f. HasGone keys_program keys_text may old.session old.session old.plans f) (sym e) refl))
+          go (out run ps) e =
+              let round = subst (HoldsFar keys_program keys_text keys_loaders keys_fits old.session old.plans) e h.holds.round in
+              let stored : StoresRound may old.session new.session ps = subst (λ f. StoresAskedFrom may f old.session new.session) e stores in
+              stored-none may old.session new.session run ps old.plans h.plans round.0 round.1 stored kept.session h.limited within
+          go over e = absurd (on e)
 
-            go : (far : FarOf KeysOf (Unit {0})) → old.far ≡ far → lacking (state_of new.session) ≡ []
-            go handed e = read-complete may (state_of old.session) keys.loader keys.keys (state_of new.session) (has-read old.session (subst (λ f. HasGone keys_program keys_text may old.session old.session old.plans f) (sym e) refl) finished)
-            go (out run ps) e =
-                let round = subst (HoldsFar keys_program keys_text keys_loaders keys_fits old.session old.plans) e h.holds.round in
-                let stored : StoresRound may old.session new.session ps = subst (λ f. StoresAskedFrom may f old.session new.session) e stores in
-                stored-none may old.session new.session run ps old.plans h.plans round.0 round.1 stored kept.session h.limited within
-            go over e = absurd (on answers finished adv e)
+      pub done-lacks-none : (did : Progress (Vec Answer)) → AnswersFrom keys_program keys_text may old new did → AsksAndAdvances old new did → StoresAskedFrom may old.far old.session new.session → IfSome (done_in did) (λ _. front_at (state_of new.session) keys.loader keys.keys ≡ [])
+      done-lacks-none (Done all) tells advances stores = none-missing all tells advances.0 stores
+      done-lacks-none Round tells advances stores = tt
+      done-lacks-none Waiting tells advances stores = tt
+      done-lacks-none Over tells advances stores = tt
 
-        -- the outcomes are those of a call that loads the keys
-        pub loads-keys : (told : LoadAdvance) → TellsLoad new.session keys answers told → ClientLoads may (load_by_hand_of (client_of server most old.session) keys old.far) (load_by_hand_of (client_of server most new.session) keys new.far) told
-        loads-keys told is = go answers told is refl
-          where
-            go : (a : Advance) (t : LoadAdvance) → TellsLoad new.session keys a t → a ≡ answers → ClientLoads may (load_by_hand_of (client_of server most old.session) keys old.far) (load_by_hand_of (client_of server most new.session) keys new.far) t
-            go (did.Finished all) (Loaded outcomes) known e = λ begun gone.
-                let run = has-read begun.session (subst (λ ps. HasGone keys_program keys_text may begun.session old.session ps old.far) (sym h.plans) gone) (subst IsFinished e tt) in
-                record { round = read-once may (state_of begun.session) keys.loader keys.keys (state_of new.session) run; known = known }
-            go (did.Finished all) Round known e = tt
-            go (did.Finished all) Waiting known e = tt
-            go (did.Finished all) Over known e = tt
-            go did.Round (Loaded outcomes) known e = absurd known
-            go did.Round Round known e = tt
-            go did.Round Waiting known e = tt
-            go did.Round Over known e = tt
-            go did.Waiting (Loaded outcomes) known e = absurd known
-            go did.Waiting Round known e = tt
-            go did.Waiting Waiting known e = tt
-            go did.Waiting Over known e = tt
-            go did.Over (Loaded outcomes) known e = absurd known
-            go did.Over Round known e = tt
-            go did.Over Waiting known e = tt
-            go did.Over Over known e = tt
+      -- the outcomes are those of a call that loads the keys
+      pub loads-keys : (did : Progress (Vec Answer)) (told : Progress (Vec Outcome)) → Becomes (TellsOutcomes new.session keys) did told → AnswersFrom keys_program keys_text may old new did → ClientLoads may (held old) (held new) told
+      loads-keys =
+          each-becomes (TellsOutcomes new.session keys) (λ did told. AnswersFrom keys_program keys_text may old new did → ClientLoads may (held old) (held new) told) loaded (λ _. tt) (λ _. tt) (λ _. tt)
+        where
+          loaded : (all : Vec Answer) (outcomes : Vec Outcome) → TellsOutcomes new.session keys all outcomes → AnswersFrom keys_program keys_text may old new (Done all) → ClientLoads may (held old) (held new) (Done outcomes)
+          loaded all outcomes known tells = λ begun gone.
+              let run = has-read all tells begun.session (subst (λ ps. HasGone keys_program keys_text may begun.session old.session ps old.far) (sym h.plans) gone) in
+              record { round = read-once may (state_of begun.session) keys.loader keys.keys (state_of new.session) run; known = known }
 
       -- a new round is the first
       pub first-round : ¬ (IsOver old.far) → StoresAskedFrom may old.far old.session new.session → IsNewRound new.far → old.far ≡ handed
@@ -198,36 +182,26 @@ module _ {S : Type 0} (keys : KeysOf) where
 
       -- ---- what a call did
 
-      pub asks-advances : (a : Advance) (t : LoadAdvance) → TellsLoad new.session keys a t → AsksAndAdvances old new a → StoresAskedFrom may old.far old.session new.session → AsksAndAdvancesLoad (load_by_hand_of (client_of server most old.session) keys old.far) (load_by_hand_of (client_of server most new.session) keys new.far) t
-      asks-advances (did.Finished all) (Loaded outcomes) known adv stores = adv
-      asks-advances did.Round Round known adv stores = (first-round adv.0 stores adv.1, adv.1)
-      asks-advances did.Over Over known adv stores = (adv.0, ap (λ (x : HandOf S KeysOf (Unit {0})). load_by_hand_of (client_of server most x.session) keys x.far) adv.1)
-      asks-advances did.Waiting t known adv stores = absurd adv
-      asks-advances (did.Finished all) Round known adv stores = absurd known
-      asks-advances (did.Finished all) Waiting known adv stores = absurd known
-      asks-advances (did.Finished all) Over known adv stores = absurd known
-      asks-advances did.Round (Loaded outcomes) known adv stores = absurd known
-      asks-advances did.Round Waiting known adv stores = absurd known
-      asks-advances did.Round Over known adv stores = absurd known
-      asks-advances did.Over (Loaded outcomes) known adv stores = absurd known
-      asks-advances did.Over Round known adv stores = absurd known
-      asks-advances did.Over Waiting known adv stores = absurd known
+      pub asks-advances : (did : Progress (Vec Answer)) (told : Progress (Vec Outcome)) → Becomes (TellsOutcomes new.session keys) did told → StoresAskedFrom may old.far old.session new.session → AsksAndAdvances old new did → AsksAndAdvancesLoad (held old) (held new) told
+      asks-advances did told is stores =
+          each-becomes (TellsOutcomes new.session keys) (λ did told. AsksAndAdvances old new did → AsksAndAdvancesLoad (held old) (held new) told)
+          (λ all outcomes known advances. (advances, λ e. absurd (cc e))) (λ advances. (advances, λ _. first-round advances.0 stores advances.1)) (λ advances. absurd advances) (λ advances. ((advances.0, ap held advances.1), λ e. absurd (cc e))) did told is
 
     -- ---- what was so before a call is so after it
 
-    pub goes-on : (old new : HandOf S KeysOf (Unit {0})) → old.plans ≡ keys ∷ [] → new.plans ≡ old.plans → GoesOn keys_program keys_text may old new → LoadGoesOn may (load_by_hand_of (client_of server most old.session) keys old.far) (load_by_hand_of (client_of server most new.session) keys new.far)
+    pub goes-on : (old new : HandOf S KeysOf (Unit {0})) → old.plans ≡ keys ∷ [] → new.plans ≡ old.plans → GoesOn keys_program keys_text may old new → LoadGoesOn may (held old) (held new)
     goes-on old new is same goes = λ begun gone.
         subst (λ ps. HasGone keys_program keys_text may begun new.session ps new.far) (same ∙ is) (goes begun (subst (λ ps. HasGone keys_program keys_text may begun old.session ps old.far) (sym is) gone))
 
     pub goes-on-if : (old new : HandOf S KeysOf (Unit {0})) (answer : Result (Vec Item) FetchFault) (one : Option Pending) → old.plans ≡ keys ∷ [] → new.plans ≡ old.plans → IfSome one (GoesOnIfMay keys_program keys_text may answer old new)
-        → IfSome one (LoadGoesOnIfMay may answer (load_by_hand_of (client_of server most old.session) keys old.far) (load_by_hand_of (client_of server most new.session) keys new.far))
+        → IfSome one (LoadGoesOnIfMay may answer (held old) (held new))
     goes-on-if old new answer None is same goes = tt
     goes-on-if old new answer (Some one) is same goes = λ can. goes-on old new is same (goes can)
 
-    -- ---- an order is answered
+    -- ---- an order gets a reply
 
-    pub holds-answered : (old new : HandOf S KeysOf (Unit {0})) → HoldsLoad server keys old → KeepsSession keys_program keys_text keys_loaders keys_fits old new → HoldsLoad server keys new
-    holds-answered old new h kept = record {
+    pub holds-replied : (old new : HandOf S KeysOf (Unit {0})) → HoldsLoad server keys old → KeepsSession keys_program keys_text keys_loaders keys_fits old new → HoldsLoad server keys new
+    holds-replied old new h kept = record {
       has = subst (HasLoaders server) (sym kept.session) h.has;
       plans = kept.plans ∙ h.plans;
       holds = kept.holds;
@@ -244,7 +218,7 @@ module _ {S : Type 0} (keys : KeysOf) where
         go (inr lost) = ap rules_of lost.after ∙ lost-rules h.mid (of_first lost.loaders (front (session_modes begun) p h.mid.memory))
 
     pub load-given-up : (old : HandOf S KeysOf (Unit {0})) (now : SessionOf S) → HoldsLoad server keys old → now ≡ old.session → GivesUp keys_program keys_text may old now
-        → ClientStopsLoad may (load_by_hand_of (client_of server most old.session) keys old.far) (client_of server most now)
+        → ClientStopsLoad may (held old) (client_of server most now)
     load-given-up old now h same gives = λ c gone. go c.session (gives c.session (subst (λ ps. HasGone keys_program keys_text may c.session old.session ps old.far) (sym h.plans) gone))
       where
         go : (begun : SessionOf S) → (now ≡ begun) ⊎ StopsAnswering may (state_of begun) (state_of now) (joint keys_program keys_text old.plans) → (now ≡ begun) ⊎ IsCallOf may (StoppedLoading keys.loader keys.keys) begun now
@@ -259,15 +233,3 @@ module _ {S : Type 0} (keys : KeysOf) where
               within = omega (arith, within-of old h, ap (λ (s : SessionOf S). length s.loaders) same, record-many begun.loaders now.loaders one.recorded);
               limited = subst AreLimited (sym (ap (λ (s : SessionOf S). rules_of (state_of s)) same) ∙ stops-rules (state_of begun) (state_of now) (keys_program keys) one) h.limited;
             }
-
--- ---- a fact of each call is one of each step
-
-on-load-step : (X : Type 0) (told : LoadAdvance) → X → OnLoadStep told X
-on-load-step X (Loaded outcomes) x = x
-on-load-step X Round x = x
-on-load-step X Waiting x = tt
-on-load-step X Over x = tt
-
-pub if-load-step : {T : Type 0} (X : Type 0) (r : Result LoadAdvance T) → OnOk r X → IfOk r (λ told. OnLoadStep told X)
-if-load-step X (Ok told) x = on-load-step X told x
-if-load-step X (Err e) x = tt

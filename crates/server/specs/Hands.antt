@@ -1,5 +1,5 @@
 -- A client that is answered by hand: what contracts see of it, and what was done in its session since.
-use Rattle.std.specs.Prelude.{◌≡◌, ◌⊎◌, ℕ, Bool, true, List, map, option_map, string_bytes, Option, Some, None, IfOk, OnErr, Result}
+use Rattle.std.specs.Prelude.{◌≡◌, ◌⊎◌, ℕ, Bool, true, List, map, option_map, string_bytes, Option, Some, None, IfOk, IfSome, OnErr, Result}
 use Rattle.std.specs.Global.{Vec}
 use Rattle.load_memory.specs.Keys.{KeyOf}
 use Rattle.load_memory.specs.declared.outcome.Item.{Item}
@@ -10,18 +10,16 @@ use Rattle.gq_resolve.specs.declared.root_state.RootState.{RootState}
 use Rattle.load_rounds.specs.Sessions.{SessionOf}
 use Rattle.load_rounds.specs.SharedRounds.{report_of}
 use Rattle.load_rounds.specs.declared.answer.Answer.{Answer}
-use Rattle.rounds_by_hand.specs.Hands.{FarOf, HandOf, handed, Holds, HasGone, IsNewRound, IsWaiting, IsOver, StoresAskedFrom, StoresFrom, can_advance}
-use Rattle.rounds_by_hand.specs.Pending.{order_in, MayAnswer}
-use Rattle.rounds_by_hand.specs.declared.hand.Advance.{Advance}
-use Rattle.rounds_by_hand.specs.declared.hand.Advance.TheVariants as advance
+use Rattle.rounds_by_hand.specs.Hands.{FarOf, HandOf, handed, AsksAndMoves, Holds, HasGone, IsOver, Moves, StoresAskedFrom, StoresFrom}
+use Rattle.rounds_by_hand.specs.Pending.{order_in, MayReply}
+use Rattle.rounds_by_hand.specs.Progress.{done_in}
 use Rattle.rounds_by_hand.specs.declared.pending.Pending.{Pending}
+use Rattle.rounds_by_hand.specs.declared.progress.Progress.{Progress}
 use Rattle.server.specs.Plans.{limited_program, limited_text, limited_loaders, limited_fits}
 use Rattle.server.specs.Clients.{ClientOf, HasLoaders, IsSameClient}
 use Rattle.server.specs.Planned.{AskedOf, PlannedOf, PlansAsked, AnswersAsked, StopsAsked, IsResponseOf, is_refused}
 use Rattle.gq_resolve.specs.PreparedPlans.{LimitedPlanOf}
-use Rattle.server.specs.declared.by_hand.ClientAdvance.{ClientAdvance}
 use Rattle.server.specs.declared.planned.ResponseForm.{ResponseForm}
-use Rattle.server.specs.declared.by_hand.ClientAdvance.TheVariants.{Answered, Round, Waiting, Over}
 
 -- the client as it is, what it is asked, and how far that is
 pub record ByHandOf (S : Type 0) : Type 0 where
@@ -29,21 +27,14 @@ pub record ByHandOf (S : Type 0) : Type 0 where
   pub planned : PlannedOf
   pub far : FarOf LimitedPlanOf RootState
 
--- says what is made of what the hand did: of the answers to the plans a response of this form, and of all else the same
-abbrev pub IsStepOf : Bool → List (Option (List ℕ)) → Advance → ClientAdvance → Type 0
-IsStepOf many refusals (advance.Finished answers) (Answered answer) =
+-- says what is made of the answers to the plans: a response of this form
+abbrev pub MakesResponse : Bool → List (Option (List ℕ)) → Vec Answer → Answer → Type 0
+MakesResponse many refusals answers answer =
     IsResponseOf many refusals (map report_of answers.items) (report_of answer)
-IsStepOf many refusals advance.Round Round = Unit {0}
-IsStepOf many refusals advance.Waiting Waiting = Unit {0}
-IsStepOf many refusals advance.Over Over = Unit {0}
-IsStepOf many refusals did step = ⊥
 
 -- the refusals of a response
 abbrev pub refusals_in : ResponseForm → List (Option (List ℕ))
 refusals_in form = map (option_map string_bytes) form.refusals.items
-
-abbrev pub MakesStep : ResponseForm → Advance → ClientAdvance → Type 0
-MakesStep form did step = IsStepOf form.is_array (refusals_in form) did step
 
 -- what is planned, by its parts
 abbrev pub planned_of : ResponseForm → ℕ → List LimitedPlanOf → PlannedOf
@@ -53,27 +44,6 @@ planned_of form loaders plans = record {
   plans = plans;
   loaders = loaders;
 }
-
--- the answer that a step gives
-abbrev pub answer_in : ClientAdvance → Option Answer
-answer_in (Answered answer) = Some answer
-answer_in Round = None
-answer_in Waiting = None
-answer_in Over = None
-
--- of a call that gave the answer or made a round, and not of one that did nothing
-abbrev pub OnStep : ClientAdvance → Type 0 → Type 0
-OnStep (Answered answer) fact = fact
-OnStep Round fact = fact
-OnStep Waiting fact = Unit {0}
-OnStep Over fact = Unit {0}
-
--- there are answers, of which a response is made
-abbrev pub IsFinished : Advance → Type 0
-IsFinished (advance.Finished answers) = Unit {0}
-IsFinished advance.Round = ⊥
-IsFinished advance.Waiting = ⊥
-IsFinished advance.Over = ⊥
 
 module _ {S : Type 0} where
   abbrev pub by_hand_of : ClientOf S → PlannedOf → FarOf LimitedPlanOf RootState → ByHandOf S
@@ -92,19 +62,12 @@ module _ {S : Type 0} where
   abbrev pub Ends : ByHandOf S → ByHandOf S → Type 0
   Ends old new = ((is_refused old.planned ≡ true) × (new ≡ old)) ⊎ IsOver new.far
 
-  -- says what a call did
-  abbrev pub Steps : ByHandOf S → ByHandOf S → ClientAdvance → Type 0
-  Steps old new (Answered answer) = (can_advance old.far ≡ true) × Ends old new
-  Steps old new Round = (can_advance old.far ≡ true) × IsNewRound new.far
-  Steps old new Waiting = IsWaiting old.far × (new ≡ old)
-  Steps old new Over = IsOver old.far × (new ≡ old)
+  -- says what a call did, and one that asks the sources
+  abbrev pub Steps : ByHandOf S → ByHandOf S → Progress Answer → Type 0
+  Steps old new = Moves old.far new.far (Ends old new) (new ≡ old)
 
-  -- says the same of a call that asks the sources for the orders that nobody answered: it never waits
-  abbrev pub AsksAndSteps : ByHandOf S → ByHandOf S → ClientAdvance → Type 0
-  AsksAndSteps old new (Answered answer) = ¬ (IsOver old.far) × Ends old new
-  AsksAndSteps old new Round = ¬ (IsOver old.far) × IsNewRound new.far
-  AsksAndSteps old new Waiting = ⊥
-  AsksAndSteps old new Over = IsOver old.far × (new ≡ old)
+  abbrev pub AsksAndSteps : ByHandOf S → ByHandOf S → Progress Answer → Type 0
+  AsksAndSteps old new = AsksAndMoves old.far new.far (Ends old new) (new ≡ old)
 
   -- it is one request that is refused, and the client stays as it is
   abbrev pub StaysRefused : ByHandOf S → ClientOf S → Type 0
@@ -121,8 +84,8 @@ module _ {S : Type 0} where
   CanPoll (Some b) = ¬ (IsOver b.far)
 
   module _ (may : S → List KeyOf → AnswerOf → Type 0) where
-    -- It was begun on this session, as it was then. Since then nothing but its rounds was made in it, and each order was answered as its
-    -- source may answer it.
+    -- It was begun on this session, as it was then. Since then nothing but its rounds was made in it, and each order has a reply that its
+    -- source may give, or none yet.
     abbrev pub IsUnderway : SessionOf S → ByHandOf S → Type 0
     IsUnderway begun b =
         HasGone limited_program limited_text may begun b.client.session b.planned.plans b.far
@@ -131,26 +94,22 @@ module _ {S : Type 0} where
     abbrev pub GoesOn : ByHandOf S → ByHandOf S → Type 0
     GoesOn old new = (begun : SessionOf S) → IsUnderway begun old → IsUnderway begun new
 
-    -- says the same where an order is answered, if the answer is one that the order's source may give
+    -- says the same where an order gets a reply, if it is one that the order's source may give
     abbrev pub GoesOnIfMay : Result (Vec Item) FetchFault
         → ByHandOf S → ByHandOf S → Pending → Type 0
-    GoesOnIfMay answer old new one = MayAnswer may old.client.session.loaders (order_in one) answer
+    GoesOnIfMay given old new one = MayReply may old.client.session.loaders (order_in one) given
         → GoesOn old new
 
-    -- What it knows after a step in which the sources were asked for the orders that nobody answered.
+    -- What it knows after a step in which the sources were asked for the orders without a reply.
     abbrev pub AsksAndStores : ByHandOf S → ClientOf S → Type 0
     AsksAndStores old client = StaysRefused old client
         ⊎ StoresAskedFrom may old.far old.client.session client.session
 
     -- says what answers it answers what was asked of the client that it was begun on, in the client's session as it is now
-    abbrev pub Responds : ByHandOf S → ByHandOf S → ClientAdvance → Type 0
-    Responds old new (Answered answer) =
-        (c : ClientOf S) (asked : AskedOf) → IsUnderway c.session old
-        → PlansAsked c asked old.planned
-        → AnswersAsked may c asked (report_of answer) new.client.session
-    Responds old new Round = Unit {0}
-    Responds old new Waiting = Unit {0}
-    Responds old new Over = Unit {0}
+    abbrev pub Responds : ByHandOf S → ByHandOf S → Progress Answer → Type 0
+    Responds old new did = IfSome (done_in did) (λ answer. (c : ClientOf S) (asked : AskedOf)
+        → IsUnderway c.session old → PlansAsked c asked old.planned
+        → AnswersAsked may c asked (report_of answer) new.client.session)
 
     -- it is given up: the finished rounds of what was asked stay in the session, and perhaps one more was lost
     abbrev pub GivesUp : ByHandOf S → ClientOf S → Type 0

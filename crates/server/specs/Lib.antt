@@ -1,10 +1,8 @@
 pub mod Sources
 pub mod Clients
 pub mod Plans
-pub mod Runners
 pub mod Answers
 pub mod Kept
-pub mod Answering
 pub mod Arrays
 pub mod Lines
 pub mod LoadsByHand

@@ -1,9 +1,10 @@
 -- Keys that a client loads by hand: a hand whose one program reads them, in the client's session, and what was done there since it was begun.
-use Rattle.std.specs.Prelude.{◌≡◌, ◌⊎◌, true, List, [], ◌∷◌, Result, map}
+use Rattle.std.specs.Prelude.{◌≡◌, ◌⊎◌, List, [], ◌∷◌, Result, IfSome, map}
 use Rattle.std.specs.Global.{Vec}
 use Rattle.load_memory.specs.Keys.{KeyOf}
 use Rattle.load_memory.specs.Outcomes.{outcome_of}
 use Rattle.load_memory.specs.declared.outcome.Item.{Item}
+use Rattle.load_memory.specs.declared.outcome.Outcome.{Outcome}
 use Rattle.load_queue.specs.Answers.{AnswerOf}
 use Rattle.load_queue.specs.declared.source.FetchFault.{FetchFault}
 use Rattle.execution.specs.Rounds.{AreLimited}
@@ -11,15 +12,15 @@ use Rattle.load_rounds.specs.Calls.{AreKnown}
 use Rattle.load_rounds.specs.Histories.{Loading, StoppedLoading}
 use Rattle.load_rounds.specs.Reading.{KeysOf, keys_fits, keys_loaders, keys_program, keys_text}
 use Rattle.load_rounds.specs.Sessions.{SessionOf, state_of, rules_of}
+use Rattle.load_rounds.specs.declared.answer.Answer.{Answer}
 use Rattle.plan_requests.specs.Servers.{ServerOf}
-use Rattle.rounds_by_hand.specs.Hands.{FarOf, HandOf, handed, can_advance, HasGone, Holds, IsNewRound, IsOver, IsWaiting, StoresAskedFrom, StoresFrom}
-use Rattle.rounds_by_hand.specs.Pending.{order_in, MayAnswer}
-use Rattle.rounds_by_hand.specs.declared.hand.Advance.{Advance}
-use Rattle.rounds_by_hand.specs.declared.hand.Advance.TheVariants as did
+use Rattle.rounds_by_hand.specs.Hands.{FarOf, HandOf, handed, AsksAndMoves, HasGone, Holds, IsOver, Moves, StoresAskedFrom, StoresFrom}
+use Rattle.rounds_by_hand.specs.Pending.{order_in, MayReply}
+use Rattle.rounds_by_hand.specs.Progress.{done_in}
 use Rattle.rounds_by_hand.specs.declared.pending.Pending.{Pending}
+use Rattle.rounds_by_hand.specs.declared.progress.Progress.{Progress}
+use Rattle.rounds_by_hand.specs.declared.progress.Progress.TheVariants.{Round}
 use Rattle.server.specs.Clients.{ClientOf, HasLoaders, IsClientCall}
-use Rattle.server.specs.declared.load_by_hand.LoadAdvance.{LoadAdvance}
-use Rattle.server.specs.declared.load_by_hand.LoadAdvance.TheVariants.{Loaded, Round, Waiting, Over}
 
 -- the client as it is, the keys that it loads, and how far that is
 pub record LoadByHandOf (S : Type 0) : Type 0 where
@@ -27,43 +28,28 @@ pub record LoadByHandOf (S : Type 0) : Type 0 where
   pub keys : KeysOf
   pub far : FarOf KeysOf (Unit {0})
 
--- a fact of each call that gave the outcomes or made the round; of one that did nothing it says nothing
-abbrev pub OnLoadStep : LoadAdvance → Type 0 → Type 0
-OnLoadStep (Loaded outcomes) fact = fact
-OnLoadStep Round fact = fact
-OnLoadStep Waiting fact = Unit {0}
-OnLoadStep Over fact = Unit {0}
-
 module _ {S : Type 0} where
   abbrev pub load_by_hand_of : ClientOf S → KeysOf → FarOf KeysOf (Unit {0}) → LoadByHandOf S
   load_by_hand_of client keys far = record { client = client; keys = keys; far = far }
 
-  -- says what a call did; a load has at most one round
-  abbrev pub AdvancesLoad : LoadByHandOf S → LoadByHandOf S → LoadAdvance → Type 0
-  AdvancesLoad old new (Loaded outcomes) = (can_advance old.far ≡ true) × IsOver new.far
-  AdvancesLoad old new Round = (old.far ≡ handed) × IsNewRound new.far
-  AdvancesLoad old new Waiting = IsWaiting old.far × (new ≡ old)
-  AdvancesLoad old new Over = IsOver old.far × (new ≡ old)
+  -- says what a call did, and one that asks the source; a load has at most one round
+  abbrev pub AdvancesLoad : LoadByHandOf S → LoadByHandOf S → Progress (Vec Outcome) → Type 0
+  AdvancesLoad old new did = Moves old.far new.far (IsOver new.far) (new ≡ old) did
+      × (did ≡ Round → old.far ≡ handed)
 
-  -- says the same of a call that asks the source for the orders that nobody answered: it never waits
-  abbrev pub AsksAndAdvancesLoad : LoadByHandOf S → LoadByHandOf S → LoadAdvance → Type 0
-  AsksAndAdvancesLoad old new (Loaded outcomes) = ¬ (IsOver old.far) × IsOver new.far
-  AsksAndAdvancesLoad old new Round = (old.far ≡ handed) × IsNewRound new.far
-  AsksAndAdvancesLoad old new Waiting = ⊥
-  AsksAndAdvancesLoad old new Over = IsOver old.far × (new ≡ old)
+  abbrev pub AsksAndAdvancesLoad : LoadByHandOf S
+      → LoadByHandOf S → Progress (Vec Outcome) → Type 0
+  AsksAndAdvancesLoad old new did = AsksAndMoves old.far new.far (IsOver new.far) (new ≡ old) did
+      × (did ≡ Round → old.far ≡ handed)
 
   -- What the client knows after a step: what it knew before, with just what the replies to the round say that was out.
   abbrev pub ClientStores : LoadByHandOf S → ClientOf S → Type 0
   ClientStores old client = StoresFrom old.far old.client.session client.session
 
-  -- No public clause names it. Says what is made of what the hand did: of its answer the outcomes that the session knows, of all else the same.
-  abbrev pub TellsLoad : SessionOf S → KeysOf → Advance → LoadAdvance → Type 0
-  TellsLoad now keys (did.Finished answers) (Loaded outcomes) =
+  -- No public clause names it. Says what is made of the answer of the hand: the outcomes that the session knows.
+  abbrev pub TellsOutcomes : SessionOf S → KeysOf → Vec Answer → Vec Outcome → Type 0
+  TellsOutcomes now keys answers outcomes =
       AreKnown (state_of now) keys.loader keys.keys (map outcome_of outcomes.items)
-  TellsLoad now keys did.Round Round = Unit {0}
-  TellsLoad now keys did.Waiting Waiting = Unit {0}
-  TellsLoad now keys did.Over Over = Unit {0}
-  TellsLoad now keys did told = ⊥
 
   -- No public clause names it. What holds between calls: the client has its loaders, of which no limit is 0, and the hand reads the keys.
   pub record HoldsLoad (server : ServerOf) (keys : KeysOf)
@@ -75,8 +61,8 @@ module _ {S : Type 0} where
         hand.session hand.plans hand.far
 
   module _ (may : S → List KeyOf → AnswerOf → Type 0) where
-    -- The load was begun on this session, as it was then. Since then nothing but its round was made in it, and each order was answered as
-    -- its source may answer it.
+    -- The load was begun on this session, as it was then. Since then nothing but its round was made in it, and each order has a reply that
+    -- its source may give, or none yet.
     abbrev pub IsLoadUnderway : SessionOf S → LoadByHandOf S → Type 0
     IsLoadUnderway begun b =
         HasGone keys_program keys_text may begun b.client.session (b.keys ∷ []) b.far
@@ -85,25 +71,22 @@ module _ {S : Type 0} where
     abbrev pub LoadGoesOn : LoadByHandOf S → LoadByHandOf S → Type 0
     LoadGoesOn old new = (begun : SessionOf S) → IsLoadUnderway begun old → IsLoadUnderway begun new
 
-    -- says the same where an order is answered, if the answer is one that the order's source may give
+    -- says the same where an order gets a reply, if it is one that the order's source may give
     abbrev pub LoadGoesOnIfMay : Result (Vec Item) FetchFault
         → LoadByHandOf S → LoadByHandOf S → Pending → Type 0
-    LoadGoesOnIfMay answer old new one =
-        MayAnswer may old.client.session.loaders (order_in one) answer → LoadGoesOn old new
+    LoadGoesOnIfMay given old new one =
+        MayReply may old.client.session.loaders (order_in one) given → LoadGoesOn old new
 
-    -- What it knows after a step in which the source was asked for the orders that nobody answered.
+    -- What it knows after a step in which the source was asked for the orders without a reply.
     abbrev pub ClientAsksAndStores : LoadByHandOf S → ClientOf S → Type 0
     ClientAsksAndStores old client =
         StoresAskedFrom may old.far old.client.session client.session
 
     -- The keys were loaded, from whichever client the load was begun in: all that was done in its session is a call that loads them.
-    abbrev pub ClientLoads : LoadByHandOf S → LoadByHandOf S → LoadAdvance → Type 0
-    ClientLoads old new (Loaded outcomes) = (c : ClientOf S) → IsLoadUnderway c.session old
-        → IsClientCall may (Loading old.keys.loader old.keys.keys (map outcome_of outcomes.items))
-        c new.client
-    ClientLoads old new Round = Unit {0}
-    ClientLoads old new Waiting = Unit {0}
-    ClientLoads old new Over = Unit {0}
+    abbrev pub ClientLoads : LoadByHandOf S → LoadByHandOf S → Progress (Vec Outcome) → Type 0
+    ClientLoads old new did = IfSome (done_in did) (λ outcomes. (c : ClientOf S)
+        → IsLoadUnderway c.session old → IsClientCall may
+        (Loading old.keys.loader old.keys.keys (map outcome_of outcomes.items)) c new.client)
 
     -- The client as it is when the load is given up: nothing was done in its session, or what a call does that stops.
     abbrev pub ClientStopsLoad : LoadByHandOf S → ClientOf S → Type 0

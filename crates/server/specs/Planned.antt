@@ -30,6 +30,11 @@ pub record PlannedOf : Type 0 where
   pub plans : List LimitedPlanOf
   pub loaders : ℕ
 
+-- nothing is planned yet
+abbrev pub nothing_planned : Bool → ℕ → PlannedOf
+nothing_planned many loaders =
+    record { many = many; refusals = []; plans = []; loaders = loaders }
+
 -- one request more was planned: it has its refusal, or its plan within a limit
 pub record AddsRequest (most : Option ℕ) (prepared : PreparedRequest)
     (old new : PlannedOf) : Type 0 where
@@ -119,3 +124,13 @@ module _ {S : Type 0} (may : S → List KeyOf → AnswerOf → Type 0) where
   StopsAsked c (one r) new = StopsRequest may c r new
   StopsAsked c (several values) new = StopsArray may c values new
   StopsAsked c (text asked) new = StopsText may c asked new
+
+  -- a client answers what was planned, whatever it was asked
+  abbrev pub AnswersPlanned : ClientOf S → PlannedOf → ReportOf → SessionOf S → Type 0
+  AnswersPlanned c planned report new =
+      (asked : AskedOf) → PlansAsked c asked planned → AnswersAsked c asked report new
+
+  -- memory ran out at it
+  abbrev pub StopsPlanned : ClientOf S → PlannedOf → SessionOf S → Type 0
+  StopsPlanned c planned new =
+      (asked : AskedOf) → PlansAsked c asked planned → StopsAsked c asked new

@@ -2,9 +2,10 @@
 
 ghost use Rattle.std.specs.Prelude.{◌≡◌, ◌≤◌, [], length, slice_get, IfOk, IfSome, OnOk, OnErr};
 ghost use Rattle.rounds_by_hand.specs.Hands.{handed, given_up, IsOver, pending_in};
-ghost use Rattle.rounds_by_hand.specs.Pending.{RefusesAnswer, TakesAnswer};
+ghost use Rattle.rounds_by_hand.specs.Pending.{RefusesReply, TakesReply};
+ghost use Rattle.rounds_by_hand.specs.Progress.{OnStep};
 ghost use Rattle.server.specs.Clients.{IsSameClient};
-ghost use Rattle.server.specs.Hands.{IsFinished, MakesStep};
+ghost use Rattle.server.specs.Hands.{MakesResponse, refusals_in};
 
 use crate::client::ClientSession;
 use crate::planned::{PlannedRequest, ResponseForm};
@@ -14,42 +15,15 @@ use load_memory::Item;
 use load_queue::{FetchFault, LocalSource};
 use load_rounds::Answer;
 use plan_requests::Server;
-use rounds_by_hand::{Advance, Hand, Pending, TakeFault};
+use rounds_by_hand::{Hand, Pending, Progress, TakeFault, are_in};
 use std::alloc::{AllocError, Global};
 use std::marker::Model;
-
-/// Result of a call of [`ByHand::advance`].
-#[derive(Drop)]
-pub enum ClientAdvance {
-    /// An answer to what was asked, or its refusal.
-    Answered(Answer),
-    /// A new round is out. Its orders are to be answered.
-    Round,
-    /// Nothing: the round that is out has an order that isn't answered.
-    Waiting,
-    /// Nothing: it has answered, or memory ran out.
-    Over,
-}
-
-impl ClientAdvance {
-    ghost use Rattle.server.specs.Hands.{answer_in};
-
-    /// The answer, if the call gave one.
-    pub fn into_answer(self) -> Option<Answer>
-        ensures { result ≡ answer_in self }
-    {
-        match self {
-            ClientAdvance::Answered(answer) => Some(answer),
-            ClientAdvance::Round | ClientAdvance::Waiting | ClientAdvance::Over => None,
-        }
-    }
-}
 
 /// Holds what was asked of a client, on its way to the answer, in rounds that the caller runs. It owns the client meanwhile, so no one else
 /// can change its session.
 ///
-/// It is used in turns. [`advance`](ByHand::advance) returns the answer, or a new round is out: then the caller answers each of its orders
-/// ([`orders`](ByHand::orders)) by its number, in any order ([`answer`](ByHand::answer)), and advances again. How it asks, and what, is
+/// It is used in turns. [`advance`](ByHand::advance) returns the answer, or a new round is out: then the caller replies to each of its
+/// orders ([`orders`](ByHand::orders)) by its number, in any order ([`reply`](ByHand::reply)), and advances again. How it asks, and what, is
 /// the caller's affair: one source after another, or all at the same time. At any time it gives the client back
 /// ([`into_client`](ByHand::into_client)).
 ///
@@ -116,7 +90,7 @@ impl<S> ClientSession<S> {
     /// `answered` of the two that advance, by `Responds` of `server/specs/Hands.antt`: the answer to what was
     /// planned is what `answer`, `answer_all` or `answer_text` answers to it (`AnswersAsked`), from the session
     /// that the client was handed in with to the one that it has now. `underway`: each call goes on from there, of
-    /// `answer` if the answer is one that the order's source may give. `same` and `client`: the server and the
+    /// `reply` if the reply is one that the order's source may give. `same` and `client`: the server and the
     /// limit stay. `plan`, `plan_all` and `plan_text` plan what is asked, within the client's limit (`planned`, by
     /// `PlansAsked`). Given up at any time: `stopped` of `ByHand::into_client`
     pub fn by_hand(self, planned: PlannedRequest) -> ByHand<S>
@@ -149,25 +123,6 @@ impl<S> ClientSession<S> {
     }
 }
 
-// Returns what is made of what the hand did.
-fn step_of(
-    alloc: Global,
-    form: &ResponseForm,
-    advance: Advance,
-) -> Result<ClientAdvance, AllocError>
-    ensures made { IfOk result
-        (MakesStep form.now advance) }
-    // Only a response takes memory.
-    ensures finished { OnErr result (IsFinished advance) }
-{
-    match advance {
-        Advance::Finished(answers) => Ok(ClientAdvance::Answered(form.response(alloc, answers)?)),
-        Advance::Round => Ok(ClientAdvance::Round),
-        Advance::Waiting => Ok(ClientAdvance::Waiting),
-        Advance::Over => Ok(ClientAdvance::Over),
-    }
-}
-
 impl<S> ByHand<S> {
     /// The server of the client.
     pub fn server(&self) -> &Server
@@ -176,7 +131,7 @@ impl<S> ByHand<S> {
         self.queries.server()
     }
 
-    /// The orders of the round that is out, each with its reply once it is answered. There are none where no round is out.
+    /// The orders of the round that is out, each with its reply once it has one. There are none where no round is out.
     pub fn orders(&self) -> &[Pending]
         ensures { result.now ≡ pending_in self.now.far }
     {
@@ -185,9 +140,9 @@ impl<S> ByHand<S> {
 }
 
 impl<S: LocalSource> ByHand<S> {
-    ghost use Rattle.server.specs.Hands.{AsksAndSteps, AsksAndStores, Ends, GivesUp, GoesOn, GoesOnIfMay, OnStep, Responds, Steps, StoresReplies};
+    ghost use Rattle.server.specs.Hands.{AsksAndSteps, AsksAndStores, Ends, GivesUp, GoesOn, GoesOnIfMay, Responds, Steps, StoresReplies};
 
-    /// Stores the round that is out, if each of its orders is answered, and goes on over what is known then: returns the answer, or makes
+    /// Stores the round that is out, if each of its orders has a reply, and goes on over what is known then: returns the answer, or makes
     /// the next round. The first call begins. A request that is refused is answered by each call, and no round is made.
     ///
     /// # Errors
@@ -198,11 +153,11 @@ impl<S: LocalSource> ByHand<S> {
     /// # Headline
     ///
     /// As `ClientSession::by_hand` says
-    pub fn advance(&mut self) -> Result<ClientAdvance, AllocError>
+    pub fn advance(&mut self) -> Result<Progress<Answer>, AllocError>
         ensures stepped { IfOk result
             (Steps self.old self.new) }
         // What was given as the reply to an order is what is stored.
-        ensures stored { IfOk result (λ step. OnStep step
+        ensures stored { IfOk result (λ did. OnStep did
             (StoresReplies self.old self.new.client)) }
         ensures ended { OnErr result
             (Ends self.old self.new) }
@@ -215,17 +170,13 @@ impl<S: LocalSource> ByHand<S> {
         ensures planned { self.new.planned
             ≡ self.old.planned }
     {
-        if self.is_refused {
-            return Ok(ClientAdvance::Answered(
-                self.form.response(self.alloc, Vec::new(self.alloc))?,
-            ));
+        if !are_in(self.orders()) {
+            return Ok(Progress::Waiting);
         }
-        let advance = self.hand.advance()?;
-        Ok(step_of(self.alloc, &self.form, advance)?)
+        self.ask_and_advance()
     }
 
-    /// Does what [`advance`](ByHand::advance) does, but asks the sources of the session for the orders that nobody has answered. So it
-    /// never waits.
+    /// Does what [`advance`](ByHand::advance) does, but asks the sources of the session for the orders without a reply. So it never waits.
     ///
     /// # Errors
     ///
@@ -234,7 +185,7 @@ impl<S: LocalSource> ByHand<S> {
     /// # Headline
     ///
     /// As `ClientSession::by_hand` says
-    pub fn ask_and_advance(&mut self) -> Result<ClientAdvance, AllocError>
+    pub fn ask_and_advance(&mut self) -> Result<Progress<Answer>, AllocError>
         ensures stepped { IfOk result
             (AsksAndSteps self.old self.new) }
         ensures stored { OnOk result
@@ -250,45 +201,50 @@ impl<S: LocalSource> ByHand<S> {
         ensures planned { self.new.planned
             ≡ self.old.planned }
     {
+        let alloc = self.alloc;
+        let form = &self.form;
         if self.is_refused {
-            return Ok(ClientAdvance::Answered(
-                self.form.response(self.alloc, Vec::new(self.alloc))?,
-            ));
+            return Ok(Progress::Done(form.response(alloc, Vec::new(alloc))?));
         }
-        let advance = self.hand.ask_and_advance()?;
-        Ok(step_of(self.alloc, &self.form, advance)?)
+        let did = self.hand.ask_and_advance()?;
+        did.try_map(
+            |answers: Vec<Answer>| -> Result<Answer, AllocError>
+                ensures { IfOk result (MakesResponse form.entry.now.is_array
+                    (refusals_in form.entry.now) answers) }
+            { form.response(alloc, answers) },
+        )
     }
 
-    /// Answers the order of this number in the round that is out, with items that came from elsewhere, or with a fault of the whole batch.
-    /// An answer that hasn't an item for each key fails the batch.
+    /// Replies to the order of this number in the round that is out, with items that came from elsewhere, or with a fault of the whole
+    /// batch. A reply that hasn't an item for each key fails the batch.
     ///
     /// # Errors
     ///
-    /// [`NoSuchOrder`](TakeFault::NoSuchOrder) and [`Answered`](TakeFault::Answered): nothing has changed then.
-    /// [`NoMemory`](TakeFault::NoMemory) when out of memory, or where that is the answer: the round is lost, and it is over.
+    /// [`NoSuchOrder`](TakeFault::NoSuchOrder) and [`Replied`](TakeFault::Replied): nothing has changed then.
+    /// [`NoMemory`](TakeFault::NoMemory) when out of memory, or where that is the reply: the round is lost, and it is over.
     ///
     /// # Headline
     ///
     /// As `ClientSession::by_hand` says
-    pub fn answer(
+    pub fn reply(
         &mut self,
         number: usize,
-        answer: Result<Vec<Item>, FetchFault>,
+        reply: Result<Vec<Item>, FetchFault>,
     ) -> Result<(), TakeFault>
-        ensures refused { RefusesAnswer (pending_in self.old.far) number
+        ensures refused { RefusesReply (pending_in self.old.far) number
             self.old self.new (IsOver self.new.far) result }
         ensures taken { OnOk result
-            (TakesAnswer (pending_in self.old.far) number answer (pending_in self.new.far)) }
-        // It is still as the sources may answer, if this answer is.
+            (TakesReply (pending_in self.old.far) number reply (pending_in self.new.far)) }
+        // It is still as the sources may answer, if this reply is.
         ensures underway { OnOk result (IfSome (slice_get (pending_in self.old.far) number)
-            (GoesOnIfMay S.may_tell answer self.old self.new)) }
+            (GoesOnIfMay S.may_tell reply self.old self.new)) }
         ensures stopped { OnErr result
             (GoesOn S.may_tell self.old self.new) }
         ensures client { self.new.client ≡ self.old.client }
         ensures planned { self.new.planned
             ≡ self.old.planned }
     {
-        self.hand.answer(number, answer)
+        self.hand.reply(number, reply)
     }
 
     /// Gives up the round that is out, if one is: it is lost, and its batches stay in the logs as not stored. It is over then.

@@ -1,28 +1,22 @@
 //! The session of a client.
 
-ghost use Rattle.std.specs.Prelude.{◌≡◌, ◌≤◌, ◌↔◌, true, None, All, length, IfOk, OnOk, OnErr, string_bytes};
-ghost use denote.Param.Send.{IsSync};
+ghost use Rattle.std.specs.Prelude.{◌≡◌, ◌≤◌, ◌↔◌, true, None, All, length, IfOk, OnOk, OnErr};
 ghost use Rattle.load_rounds.specs.SharedRounds.{report_of};
 ghost use Rattle.request_line.specs.Seen.{request_of, requests_of};
 ghost use Rattle.server.specs.Answers.{AnswersRequest, StopsRequest};
 ghost use Rattle.server.specs.Arrays.{AnswersArray, StopsArray};
-ghost use Rattle.server.specs.Asked.{Answers, Stops};
+ghost use Rattle.server.specs.Asked.{asked_of};
 ghost use Rattle.server.specs.Clients.{HasLoaders, IsSameClient, begun, client_of};
 ghost use Rattle.server.specs.Counts.{CountsText};
-ghost use Rattle.server.specs.Lines.{AnswersText, StopsText, ServesLine, StopsLine};
-ghost use Rattle.server.specs.Plans.{HasLoadersFor};
-ghost use Rattle.server.specs.Runners.{RunsPlan, RunsPlans, RunsEach, RunsAll};
+ghost use Rattle.server.specs.Lines.{AnswersText, StopsText};
+ghost use Rattle.server.specs.Planned.{AnswersAsked, AnswersPlanned, PlansAsked, StopsAsked, StopsPlanned};
 
-use crate::answering::{LimitedRequest, answer_request};
-use crate::arrays::answer_requests;
-use crate::batch_runner::{BatchRunner, Workers};
 use crate::planned::PlannedRequest;
-use crate::queries::{KeptQueries, Queries};
-use gq_resolve::LimitedPlan;
+use crate::queries::Queries;
+use crate::workers::Workers;
 use load_queue::{LocalSource, Source};
 use load_rounds::{Answer, Session};
-use plan_requests::{Request, Server, not_a_request};
-use request_line::Line;
+use plan_requests::{Request, Server};
 use std::alloc::{AllocError, Global};
 use std::marker::Model;
 use std::sync::Wait;
@@ -198,126 +192,75 @@ impl<S> ClientSession<S> {
     }
 }
 
-/// Input of a client: a request, several, or text that may be either.
+/// What a client is asked: a request, several, or text that may be either.
 #[derive(Clone, Copy)]
-pub(crate) enum RequestInput<'i> {
+pub enum RequestInput<'i> {
+    /// A request, as [`ClientSession::answer`] takes it.
     One(&'i Request<'i>),
+    /// An array of requests, as [`ClientSession::answer_all`] takes it.
     Several(&'i [Option<Request<'i>>]),
+    /// JSON text, as [`ClientSession::answer_text`] takes it.
     Text(&'i [u8]),
 }
 
-impl KeptQueries {
-    // The response to what is asked of a session of a client, within the limit, by whoever runs the batches.
-    fn respond_by<
-        S: LocalSource,
-        F: Fn(&mut Session<S>, &LimitedPlan) -> Result<Answer, AllocError>,
-        G: Fn(&mut Session<S>, Vec<LimitedPlan>) -> Result<Vec<Answer>, AllocError>,
-    >(
-        &mut self,
-        alloc: Global,
-        runner: &BatchRunner<F, G>,
-        session: &mut Session<S>,
-        asked: RequestInput<'_>,
-        most: Option<usize>,
-    ) -> Result<Answer, AllocError>
-        requires one { RunsEach S.may_tell
-            (F.pre runner.now.one) (F.post runner.now.one) }
-        requires all { RunsAll S.may_tell
-            (G.pre runner.now.all) (G.post runner.now.all) }
-        requires loaders { HasLoaders
-            self.old.requests.server session.old }
-        ensures answered { IfOk result (λ answer. Answers S.may_tell
-            (client_of self.old.requests.server most session.old) asked.entry (report_of answer) session.new) }
-        ensures stopped { OnErr result (Stops S.may_tell
-            (client_of self.old.requests.server most session.old) asked.entry session.new) }
-        ensures server { self.new.requests.server
-            ≡ self.old.requests.server }
-        ensures loaders { length session.new.loaders
-            ≡ length session.old.loaders }
+impl<S> ClientSession<S> {
+    // Returns what is asked of this client, planned.
+    fn plan_asked(&mut self, asked: RequestInput<'_>) -> Result<PlannedRequest, AllocError>
+        ensures planned { IfOk result (PlansAsked self.old (asked_of asked.entry)) }
+        ensures fits { IfOk result (λ planned. planned.loaders ≤ length self.new.session.loaders) }
+        ensures same { self.new ≡ self.old }
     {
-        let KeptQueries { lines, requests } = self;
         match asked {
-            RequestInput::One(request) => {
-                let limited = LimitedRequest {
-                    alloc,
-                    request,
-                    most,
-                };
-                answer_request(&runner.one, requests, session, limited)
-            }
-            RequestInput::Several(values) => {
-                answer_requests(alloc, &runner.all, requests, session, values, most)
-            }
-            RequestInput::Text(text) => match lines.read(alloc, text) {
-                Ok(Line::One(request)) => {
-                    let limited = LimitedRequest {
-                        alloc,
-                        request: &request,
-                        most,
-                    };
-                    answer_request(&runner.one, requests, session, limited)
-                }
-                Ok(Line::Several(values)) => {
-                    answer_requests(alloc, &runner.all, requests, session, &values, most)
-                }
-                Ok(Line::NoRequest) => Ok(Answer {
-                    text: not_a_request(alloc)?,
-                    rounds: 0,
-                }),
-                Err(_) => Err(AllocError),
-            },
+            RequestInput::One(request) => self.plan(request),
+            RequestInput::Several(requests) => self.plan_all(requests),
+            RequestInput::Text(text) => self.plan_text(text),
         }
     }
 }
 
 impl<S: LocalSource> ClientSession<S> {
-    // The response to what is asked, by whoever runs the batches.
-    fn respond_by<
-        F: Fn(&mut Session<S>, &LimitedPlan) -> Result<Answer, AllocError>,
-        G: Fn(&mut Session<S>, Vec<LimitedPlan>) -> Result<Vec<Answer>, AllocError>,
-    >(&mut self, runner: &BatchRunner<F, G>, asked: RequestInput<'_>) -> Result<Answer, AllocError>
-        requires one { RunsEach S.may_tell
-            (F.pre runner.now.one) (F.post runner.now.one) }
-        requires all { RunsAll S.may_tell
-            (G.pre runner.now.all) (G.post runner.now.all) }
-        ensures answered { IfOk result (λ answer.
-            Answers S.may_tell self.old asked.entry (report_of answer) self.new.session) }
-        ensures stopped { OnErr result (Stops S.may_tell self.old asked.entry self.new.session) }
+    /// The response to what is asked, by this thread.
+    pub(crate) fn respond(&mut self, asked: RequestInput<'_>) -> Result<Answer, AllocError>
+        ensures answered { IfOk result (λ answer. AnswersAsked S.may_tell
+            self.old (asked_of asked.entry) (report_of answer) self.new.session) }
+        ensures stopped { OnErr result
+            (StopsAsked S.may_tell self.old (asked_of asked.entry) self.new.session) }
         ensures same { IsSameClient self.old self.new }
     {
-        let ClientSession {
-            alloc,
-            queries,
-            session,
-            max_answer,
-        } = self;
-        let mut kept = queries.take(*alloc)?;
-        let answered = kept.respond_by(*alloc, runner, session, asked, *max_answer);
-        queries.put(kept);
-        answered
+        let planned = self.plan_asked(asked)?;
+        if planned.is_refused() {
+            return planned.form.response(self.alloc, Vec::new(self.alloc));
+        }
+        let PlannedRequest { form, plans, .. } = planned;
+        let answers = self.session.answer_all(plans)?;
+        form.response(self.alloc, answers)
     }
 
-    // The response to what is asked, by this thread.
-    fn respond(&mut self, asked: RequestInput<'_>) -> Result<Answer, AllocError>
-        ensures answered { IfOk result (λ answer.
-            Answers S.may_tell self.old asked.entry (report_of answer) self.new.session) }
-        ensures stopped { OnErr result (Stops S.may_tell self.old asked.entry self.new.session) }
+    /// The response to what was planned, as [`answer`](ClientSession::answer), [`answer_all`](ClientSession::answer_all) or
+    /// [`answer_text`](ClientSession::answer_text) gives it. What is planned once may be answered again, over what the session knows then.
+    ///
+    /// # Errors
+    ///
+    /// Those of [`answer`](ClientSession::answer).
+    ///
+    /// # Headline
+    ///
+    /// `answered`, by `AnswersPlanned`: whatever was asked, it is answered as `AnswersAsked` says; out of memory, `stopped`
+    pub fn answer_planned(&mut self, planned: &PlannedRequest) -> Result<Answer, AllocError>
+        requires { planned.now.loaders ≤ length self.old.session.loaders }
+        ensures answered { IfOk result (λ answer. AnswersPlanned S.may_tell
+            self.old planned.now (report_of answer) self.new.session) }
+        ensures stopped { OnErr result
+            (StopsPlanned S.may_tell self.old planned.now self.new.session) }
         ensures same { IsSameClient self.old self.new }
+        ensures loaders { length self.new.session.loaders ≡ length self.old.session.loaders }
     {
-        let runner = BatchRunner {
-            one: |session: &mut Session<S>, limited: &LimitedPlan| -> Result<Answer, AllocError>
-                requires { HasLoadersFor session.old limited.now }
-                ensures { RunsPlan S.may_tell session.old limited.now result session.new }
-            { session.answer(limited) },
-            all: |session: &mut Session<S>, plans: Vec<LimitedPlan>| -> Result<
-                Vec<Answer>,
-                AllocError,
-            >
-                requires { All (HasLoadersFor session.old) plans.items }
-                ensures { RunsPlans S.may_tell session.old plans.items result session.new }
-            { session.answer_all(plans) },
-        };
-        self.respond_by(&runner, asked)
+        if planned.is_refused() {
+            return planned.form.response(self.alloc, Vec::new(self.alloc));
+        }
+        let copies = planned.copied_plans(self.alloc)?;
+        let answers = self.session.answer_all(copies)?;
+        planned.form.response(self.alloc, answers)
     }
 
     /// The response to a request: the refusal of its first fault, with its message and its place, for which nothing was asked; or the
@@ -385,72 +328,43 @@ impl<S: LocalSource> ClientSession<S> {
     {
         self.respond(RequestInput::Text(text))
     }
-
-    /// The response to a line, in the session, which starts again before it.
-    pub fn serve_line(&mut self, line: &[u8]) -> Result<String, AllocError>
-        ensures served { IfOk result (λ text.
-            ServesLine S.may_tell self.old line.now (string_bytes text) self.new) }
-        ensures stopped { OnErr result (StopsLine S.may_tell self.old line.now self.new) }
-    {
-        self.restart()?;
-        Ok(self.respond(RequestInput::Text(line))?.text)
-    }
 }
 
 impl<S: Source> ClientSession<S> {
-    // The response to what is asked, by workers.
-    fn respond_with<R: Threads + Wait + Sync>(
+    /// The response to what is asked, as [`answer`](ClientSession::answer), [`answer_all`](ClientSession::answer_all) or
+    /// [`answer_text`](ClientSession::answer_text) gives it; workers run the batches of each round. Of a request, an array and text
+    /// `AnswersAsked` and `StopsAsked` are, by computing, what these calls say of it.
+    ///
+    /// # Errors
+    ///
+    /// Those of [`answer`](ClientSession::answer).
+    ///
+    /// # Headline
+    ///
+    /// `answered`, by `AnswersAsked`: it is answered by `AnswersRequest`, `AnswersArray` or `AnswersText`, as
+    /// `answer`, `answer_all` and `answer_text` say; out of memory, `stopped`
+    pub fn answer_with<R: Threads + Wait + Sync>(
         &mut self,
         workers: &Workers<'_, R>,
         asked: RequestInput<'_>,
     ) -> Result<Answer, AllocError>
-        ensures answered { IfOk result (λ answer.
-            Answers S.may_answer self.old asked.entry (report_of answer) self.new.session) }
-        ensures stopped { OnErr result (Stops S.may_answer self.old asked.entry self.new.session) }
-        ensures same { IsSameClient self.old self.new }
-    {
-        let runner = BatchRunner {
-            one: |session: &mut Session<S>, limited: &LimitedPlan| -> Result<Answer, AllocError>
-                requires sync { IsSync R.row × IsSync S.row }
-                requires loaders { HasLoadersFor session.old limited.now }
-                ensures { RunsPlan S.may_answer session.old limited.now result session.new }
-            { workers.answer(session, limited) },
-            all: |session: &mut Session<S>, plans: Vec<LimitedPlan>| -> Result<
-                Vec<Answer>,
-                AllocError,
-            >
-                requires sync { IsSync R.row × IsSync S.row }
-                requires loaders { All (HasLoadersFor session.old) plans.items }
-                ensures { RunsPlans S.may_answer session.old plans.items result session.new }
-            { workers.answer_all(session, plans) },
-        };
-        self.respond_by(&runner, asked)
-    }
-
-    /// The response to a request, as [`answer`](ClientSession::answer) gives it; workers run the batches of each round.
-    ///
-    /// # Errors
-    ///
-    /// Those of [`answer`](ClientSession::answer).
-    ///
-    /// # Headline
-    ///
-    /// As `ClientSession::answer` says
-    pub fn answer_with<R: Threads + Wait + Sync>(
-        &mut self,
-        workers: &Workers<'_, R>,
-        request: &Request<'_>,
-    ) -> Result<Answer, AllocError>
-        ensures answered { IfOk result (λ answer. AnswersRequest S.may_answer
-            self.old (request_of request.now) (report_of answer) self.new.session) }
+        ensures answered { IfOk result (λ answer. AnswersAsked S.may_answer
+            self.old (asked_of asked.entry) (report_of answer) self.new.session) }
         ensures stopped { OnErr result
-            (StopsRequest S.may_answer self.old (request_of request.now) self.new.session) }
+            (StopsAsked S.may_answer self.old (asked_of asked.entry) self.new.session) }
         ensures same { IsSameClient self.old self.new }
     {
-        self.respond_with(workers, RequestInput::One(request))
+        let planned = self.plan_asked(asked)?;
+        if planned.is_refused() {
+            return planned.form.response(self.alloc, Vec::new(self.alloc));
+        }
+        let PlannedRequest { form, plans, .. } = planned;
+        let answers = workers.answer_all(&mut self.session, plans)?;
+        form.response(self.alloc, answers)
     }
 
-    /// The response to an array of requests, as [`answer_all`](ClientSession::answer_all) gives it; workers run the batches of each round.
+    /// The response to what was planned, as [`answer_planned`](ClientSession::answer_planned) gives it; workers run the batches of each
+    /// round.
     ///
     /// # Errors
     ///
@@ -458,54 +372,25 @@ impl<S: Source> ClientSession<S> {
     ///
     /// # Headline
     ///
-    /// As `ClientSession::answer_all` says
-    pub fn answer_all_with<R: Threads + Wait + Sync>(
+    /// As `ClientSession::answer_planned` says
+    pub fn answer_planned_with<R: Threads + Wait + Sync>(
         &mut self,
         workers: &Workers<'_, R>,
-        requests: &[Option<Request<'_>>],
+        planned: &PlannedRequest,
     ) -> Result<Answer, AllocError>
-        ensures answered { IfOk result (λ answer. AnswersArray S.may_answer self.old
-            (requests_of requests.now) (report_of answer) self.new.session) }
+        requires { planned.now.loaders ≤ length self.old.session.loaders }
+        ensures answered { IfOk result (λ answer. AnswersPlanned S.may_answer
+            self.old planned.now (report_of answer) self.new.session) }
         ensures stopped { OnErr result
-            (StopsArray S.may_answer self.old (requests_of requests.now) self.new.session) }
+            (StopsPlanned S.may_answer self.old planned.now self.new.session) }
         ensures same { IsSameClient self.old self.new }
+        ensures loaders { length self.new.session.loaders ≡ length self.old.session.loaders }
     {
-        self.respond_with(workers, RequestInput::Several(requests))
-    }
-
-    /// The response to JSON text, as [`answer_text`](ClientSession::answer_text) gives it; workers run the batches of each round.
-    ///
-    /// # Errors
-    ///
-    /// Those of [`answer`](ClientSession::answer).
-    ///
-    /// # Headline
-    ///
-    /// As `ClientSession::answer_text` says
-    pub fn answer_text_with<R: Threads + Wait + Sync>(
-        &mut self,
-        workers: &Workers<'_, R>,
-        text: &[u8],
-    ) -> Result<Answer, AllocError>
-        ensures answered { IfOk result (λ answer.
-            AnswersText S.may_answer self.old text.now (report_of answer) self.new.session) }
-        ensures stopped { OnErr result (StopsText S.may_answer self.old text.now self.new.session) }
-        ensures same { IsSameClient self.old self.new }
-    {
-        self.respond_with(workers, RequestInput::Text(text))
-    }
-
-    /// The response to a line, as `serve_line` gives it, by workers.
-    pub fn serve_line_with<R: Threads + Wait + Sync>(
-        &mut self,
-        workers: &Workers<'_, R>,
-        line: &[u8],
-    ) -> Result<String, AllocError>
-        ensures served { IfOk result (λ text.
-            ServesLine S.may_answer self.old line.now (string_bytes text) self.new) }
-        ensures stopped { OnErr result (StopsLine S.may_answer self.old line.now self.new) }
-    {
-        self.restart()?;
-        Ok(self.respond_with(workers, RequestInput::Text(line))?.text)
+        if planned.is_refused() {
+            return planned.form.response(self.alloc, Vec::new(self.alloc));
+        }
+        let copies = planned.copied_plans(self.alloc)?;
+        let answers = workers.answer_all(&mut self.session, copies)?;
+        planned.form.response(self.alloc, answers)
     }
 }

@@ -102,7 +102,7 @@ impl<S: LocalSource + Drop> Future for ClientAnswering<S> {
             unreachable!()
         };
         match by_hand.ask_and_advance() {
-            Ok(step) => match step.into_answer() {
+            Ok(progress) => match progress.into_done() {
                 Some(answer) => Poll::Ready((self.take_client(), Ok(answer))),
                 // It never waits, and it isn't over before it has answered: its next round is out.
                 None => cx.yield_now(),

@@ -3,7 +3,7 @@
 //! A [`Server`] has the schema and its bindings, for its whole life. For each client, [`Sessions::session`] makes a
 //! [`ClientSession`]: a loader for each `loader` line over the author's source, and one memory. It answers requests, given by
 //! their parts ([`ClientSession::answer`]), as JSON text ([`ClientSession::answer_text`]) or as the lines of an input ([`serve`]). This
-//! thread runs the batches of a round, or several do ([`Workers`], with which each of these calls has its like: `answer_with`). Or a
+//! thread runs the batches of a round, or several do ([`Workers`]: [`ClientSession::answer_with`], [`serve_with`]). Or a
 //! request is planned first ([`PlannedRequest`]), and then its caller asks the sources ([`ByHand`]), or it is a future ([`ClientAnswering`]).
 //!
 //! The layer above may rely on this: an answer is always a response, the refusal of the request's first fault or the answer of its plan.
@@ -12,9 +12,7 @@
 //! each `loader` line, and that a plan is one of its server, are invariants of the types.
 #![tactic(auto)]
 
-mod answering;
 mod arrays;
-mod batch_runner;
 mod by_hand;
 mod client;
 mod counting;
@@ -28,16 +26,16 @@ mod queries;
 mod request_cache;
 mod serving;
 mod threads;
+mod workers;
 
-pub use batch_runner::Workers;
 pub use batch_workers::WorkFault;
-pub use by_hand::{ByHand, ClientAdvance};
-pub use client::ClientSession;
+pub use by_hand::ByHand;
+pub use client::{ClientSession, RequestInput};
 pub use function_source::{SourceFn, source_fn};
 pub use future::ClientAnswering;
 pub use gq_bindings::{By, LoaderLine};
 pub use gq_schema::SchemaFault;
-pub use load_by_hand::{LoadAdvance, LoadByHand, PlannedLoad};
+pub use load_by_hand::{LoadByHand, PlannedLoad};
 pub use load_memory::{Item, Key, NoMemory, Outcome, Row, Rows, Text, TextPair};
 pub use load_queue::{FetchFault, LocalSource, PerKey, QueueFault, Source};
 pub use load_rounds::{Answer, SessionFault};
@@ -45,6 +43,7 @@ pub use opening::Sessions;
 pub use plan_requests::{Request, Server};
 pub use planned::PlannedRequest;
 pub use queries::Queries;
-pub use rounds_by_hand::{HandedIn, Pending, TakeFault};
+pub use rounds_by_hand::{HandedIn, Pending, Progress, TakeFault};
 pub use server_lines::{CountedDevice, ServeFault};
 pub use serving::{serve, serve_with};
+pub use workers::Workers;

@@ -6,18 +6,18 @@ ghost use Rattle.load_rounds.specs.Calls.{front_at};
 ghost use Rattle.load_rounds.specs.Reading.{keys_of};
 ghost use Rattle.load_rounds.specs.Sessions.{state_of};
 ghost use Rattle.rounds_by_hand.specs.Hands.{handed, IsOver, pending_in};
-ghost use Rattle.rounds_by_hand.specs.Pending.{RefusesAnswer, TakesAnswer};
+ghost use Rattle.rounds_by_hand.specs.Pending.{RefusesReply, TakesReply};
+ghost use Rattle.rounds_by_hand.specs.Progress.{OnStep};
 ghost use Rattle.server.specs.Clients.{IsSameClient};
-ghost use Rattle.server.specs.Hands.{IsFinished};
-ghost use Rattle.server.specs.LoadsByHand.{TellsLoad};
+ghost use Rattle.server.specs.LoadsByHand.{TellsOutcomes};
 
 use crate::client::ClientSession;
 use crate::queries::Queries;
 use load_memory::{Item, Key, Outcome};
 use load_queue::{FetchFault, LocalSource};
-use load_rounds::{KeysToLoad, Session};
+use load_rounds::{Answer, KeysToLoad};
 use plan_requests::Server;
-use rounds_by_hand::{Advance, Hand, Pending, TakeFault, are_in};
+use rounds_by_hand::{Hand, Pending, Progress, TakeFault, are_in};
 use std::alloc::{AllocError, Global};
 use std::marker::Model;
 
@@ -52,24 +52,11 @@ impl PlannedLoad {
     }
 }
 
-/// Says what a call of [`LoadByHand::advance`] did.
-#[derive(Drop)]
-pub enum LoadAdvance {
-    /// All keys are known. There is an outcome for each, in order.
-    Loaded(Vec<Outcome>),
-    /// The round of the keys that aren't known is out. Its orders are to be answered.
-    Round,
-    /// Nothing: the round that is out has an order that isn't answered.
-    Waiting,
-    /// Nothing: the outcomes were given before, or memory ran out.
-    Over,
-}
-
 /// Keys of a loader that a client loads as [`ClientSession::load_many`] loads them, but in a round that the caller runs. It owns the client
 /// meanwhile, so no one else can change its session.
 ///
 /// It is used in turns. [`advance`](LoadByHand::advance) returns the outcomes, or the one round is out that the keys need: then the caller
-/// answers each of its orders ([`orders`](LoadByHand::orders)) by its number, in any order ([`answer`](LoadByHand::answer)), and advances
+/// replies to each of its orders ([`orders`](LoadByHand::orders)) by its number, in any order ([`reply`](LoadByHand::reply)), and advances
 /// again. At any time it gives the client back ([`into_client`](LoadByHand::into_client)).
 ///
 /// A contract sees the client, the keys with their loader, and how far the load is. What was done since it was begun is `IsLoadUnderway` of
@@ -112,26 +99,6 @@ impl<S: Drop> Drop for LoadByHand<S> {
     }
 }
 
-// Returns what is made of what the hand did: of its answer the outcomes of the keys.
-fn told<S>(session: &Session<S>, keys: &KeysToLoad, did: Advance) -> Result<LoadAdvance, AllocError>
-    requires within { keys.now.loader < length session.now.loaders }
-    requires known { IsFinished did
-        → front_at (state_of session.now) keys.now.loader keys.now.keys ≡ [] }
-    ensures told { IfOk result (TellsLoad session.now keys.now did) }
-    // Only outcomes take memory.
-    ensures finished { OnErr result (IsFinished did) }
-{
-    match did {
-        Advance::Finished(_answers) => Ok(LoadAdvance::Loaded(session.known_outcomes(
-            keys.loader(),
-            keys.keys(),
-        )?)),
-        Advance::Round => Ok(LoadAdvance::Round),
-        Advance::Waiting => Ok(LoadAdvance::Waiting),
-        Advance::Over => Ok(LoadAdvance::Over),
-    }
-}
-
 impl<S> ClientSession<S> {
     ghost use Rattle.server.specs.LoadsByHand.{load_by_hand_of};
 
@@ -169,7 +136,7 @@ impl<S> LoadByHand<S> {
         self.queries.server()
     }
 
-    /// The orders of the round that is out, each with its reply once it is answered. There are none where no round is out.
+    /// The orders of the round that is out, each with its reply once it has one. There are none where no round is out.
     pub fn orders(&self) -> &[Pending]
         ensures { result.now ≡ pending_in self.now.far }
     {
@@ -178,15 +145,15 @@ impl<S> LoadByHand<S> {
 }
 
 impl<S: LocalSource> LoadByHand<S> {
-    ghost use Rattle.server.specs.LoadsByHand.{AdvancesLoad, AsksAndAdvancesLoad, ClientAsksAndStores, ClientLoads, ClientStopsLoad, ClientStores, LoadGoesOn, LoadGoesOnIfMay, OnLoadStep};
+    ghost use Rattle.server.specs.LoadsByHand.{AdvancesLoad, AsksAndAdvancesLoad, ClientAsksAndStores, ClientLoads, ClientStopsLoad, ClientStores, LoadGoesOn, LoadGoesOnIfMay};
 
-    /// Stores the round that is out, if each of its orders is answered, and returns the outcomes. The first call begins: it forgets failed
-    /// batches, and returns the outcomes if all keys are known; else the round that asks for the others is out.
+    /// Stores the round that is out, if each of its orders has a reply, and returns the outcomes, one for each key in order. The first call
+    /// begins: it forgets failed batches, and returns the outcomes if all keys are known; else the round that asks for the others is out.
     ///
     /// # Errors
     ///
     /// Only when out of memory: a round that was out is lost, or it is stored and its outcomes aren't copied. The load is over then.
-    pub fn advance(&mut self) -> Result<LoadAdvance, AllocError>
+    pub fn advance(&mut self) -> Result<Progress<Vec<Outcome>>, AllocError>
         ensures advanced { IfOk result (AdvancesLoad self.old self.new) }
         ensures over { OnErr result (IsOver self.new.far) }
         ensures underway { LoadGoesOn S.may_tell
@@ -194,25 +161,24 @@ impl<S: LocalSource> LoadByHand<S> {
         ensures loaded { IfOk result
             (ClientLoads S.may_tell self.old self.new) }
         // What was given as the reply to an order is what is stored.
-        ensures stored { IfOk result (λ did. OnLoadStep did
+        ensures stored { IfOk result (λ did. OnStep did
             (ClientStores self.old self.new.client)) }
         ensures asked { self.new.keys ≡ self.old.keys }
         ensures same { IsSameClient
             self.old.client self.new.client }
     {
         if !are_in(self.orders()) {
-            return Ok(LoadAdvance::Waiting);
+            return Ok(Progress::Waiting);
         }
         self.ask_and_advance()
     }
 
-    /// Does what [`advance`](LoadByHand::advance) does, but asks the source of the loader for the orders that nobody has answered. So it
-    /// never waits.
+    /// Does what [`advance`](LoadByHand::advance) does, but asks the source of the loader for the orders without a reply. So it never waits.
     ///
     /// # Errors
     ///
     /// Those of [`advance`](LoadByHand::advance).
-    pub fn ask_and_advance(&mut self) -> Result<LoadAdvance, AllocError>
+    pub fn ask_and_advance(&mut self) -> Result<Progress<Vec<Outcome>>, AllocError>
         ensures advanced { IfOk result (AsksAndAdvancesLoad self.old self.new) }
         ensures over { OnErr result (IsOver self.new.far) }
         ensures underway { LoadGoesOn S.may_tell
@@ -226,34 +192,43 @@ impl<S: LocalSource> LoadByHand<S> {
             self.old.client self.new.client }
     {
         let did = self.hand.ask_and_advance()?;
-        told(self.hand.session(), &self.keys, did)
+        let session = self.hand.session();
+        let keys = &self.keys;
+        did.try_map(
+            |_answers: Vec<Answer>| -> Result<Vec<Outcome>, AllocError>
+                requires within { keys.now.loader < length session.now.loaders }
+                requires known { front_at (state_of session.now)
+                    keys.now.loader keys.now.keys ≡ [] }
+                ensures { IfOk result (TellsOutcomes session.entry.now keys.entry.now _answers) }
+            { session.known_outcomes(keys.loader(), keys.keys()) },
+        )
     }
 
-    /// Answers the order of this number in the round that is out, with items that came from elsewhere, or with a fault of the whole batch.
-    /// An answer that hasn't an item for each key fails the batch.
+    /// Replies to the order of this number in the round that is out, with items that came from elsewhere, or with a fault of the whole
+    /// batch. A reply that hasn't an item for each key fails the batch.
     ///
     /// # Errors
     ///
-    /// [`NoSuchOrder`](TakeFault::NoSuchOrder) and [`Answered`](TakeFault::Answered): nothing has changed then.
-    /// [`NoMemory`](TakeFault::NoMemory) when out of memory, or where that is the answer: the round is lost, and the load is over.
-    pub fn answer(
+    /// [`NoSuchOrder`](TakeFault::NoSuchOrder) and [`Replied`](TakeFault::Replied): nothing has changed then.
+    /// [`NoMemory`](TakeFault::NoMemory) when out of memory, or where that is the reply: the round is lost, and the load is over.
+    pub fn reply(
         &mut self,
         number: usize,
-        answer: Result<Vec<Item>, FetchFault>,
+        reply: Result<Vec<Item>, FetchFault>,
     ) -> Result<(), TakeFault>
-        ensures refused { RefusesAnswer (pending_in self.old.far) number
+        ensures refused { RefusesReply (pending_in self.old.far) number
             self.old self.new (IsOver self.new.far) result }
-        ensures taken { OnOk result (TakesAnswer (pending_in self.old.far)
-            number answer (pending_in self.new.far)) }
-        // It is still as the sources may answer, if this answer is.
+        ensures taken { OnOk result (TakesReply (pending_in self.old.far)
+            number reply (pending_in self.new.far)) }
+        // It is still as the sources may answer, if this reply is.
         ensures underway { OnOk result (IfSome (slice_get (pending_in self.old.far) number)
-            (LoadGoesOnIfMay S.may_tell answer self.old self.new)) }
+            (LoadGoesOnIfMay S.may_tell reply self.old self.new)) }
         ensures stopped { OnErr result
             (LoadGoesOn S.may_tell self.old self.new) }
         ensures client { self.new.client ≡ self.old.client }
         ensures asked { self.new.keys ≡ self.old.keys }
     {
-        self.hand.answer(number, answer)
+        self.hand.reply(number, reply)
     }
 
     /// Gives the client back, whatever is done. A round that is out is lost, and its batches stay in the log as not stored.

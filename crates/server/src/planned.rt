@@ -6,7 +6,7 @@ ghost use Rattle.load_rounds.specs.SharedRounds.{report_of};
 ghost use Rattle.request_line.specs.Seen.{request_of, requests_of};
 ghost use Rattle.server.specs.Counts.{plans_read};
 ghost use Rattle.server.specs.Kept.{NeedsLoaders};
-ghost use Rattle.server.specs.Planned.{AddsRequest, PlansAll, is_refused};
+ghost use Rattle.server.specs.Planned.{AddsRequest, PlansAll, is_refused, nothing_planned};
 ghost use Rattle.server.specs.Plans.{limited_plan};
 
 use crate::arrays::array_answer;
@@ -107,12 +107,7 @@ impl Model for PlannedRequest {
 impl PlannedRequest {
     /// Nothing yet, for sessions of so many loaders.
     fn new(alloc: Global, is_array: bool, loaders: usize) -> PlannedRequest
-        ensures { result ≡ record {
-          many = is_array;
-          refusals = [];
-          plans = [];
-          loaders = loaders;
-        } }
+        ensures { result ≡ nothing_planned is_array loaders }
     {
         let refusals = Vec::new(alloc);
         PlannedRequest {
@@ -151,7 +146,7 @@ impl PlannedRequest {
     ) -> Result<PlannedRequest, AllocError>
         requires { NeedsLoaders loaders prepared }
         ensures { IfOk result (AddsRequest most prepared
-            (record { many = false; refusals = []; plans = []; loaders = loaders })) }
+            (nothing_planned false loaders)) }
     {
         let mut planned = PlannedRequest::new(alloc, false, loaders);
         planned.push(prepared, most)?;
@@ -165,17 +160,25 @@ impl PlannedRequest {
         self.loaders
     }
 
-    /// Returns how many loads its plans read over what a session knows, one plan after another.
-    pub(crate) fn loads_read<S>(
-        &self,
-        alloc: Global,
-        session: &Session<S>,
-    ) -> Result<u64, AllocError>
+    /// Returns how many loads its plans read over what a session knows, one plan after another: as many as execution of one key at a time
+    /// makes calls ([`ClientSession::loads_read`](crate::ClientSession::loads_read)). It asks for nothing, and goes over the whole answer.
+    ///
+    /// # Errors
+    ///
+    /// Only when out of memory.
+    pub fn loads_read<S>(&self, alloc: Global, session: &Session<S>) -> Result<u64, AllocError>
         requires { self.now.loaders ≤ length session.now.loaders }
         ensures { IfOk result (λ count.
             count ≡ counted (plans_read session.now (map limited_plan self.now.plans))) }
     {
         plans_read(alloc, session, &self.plans)
+    }
+
+    /// Copies of the plans, which share what was prepared.
+    pub(crate) fn copied_plans(&self, alloc: Global) -> Result<Vec<LimitedPlan>, AllocError>
+        ensures { IfOk result (λ copies. copies.items ≡ self.now.plans) }
+    {
+        copies_of(alloc, &self.plans)
     }
 
     /// Tells whether it is one request, which is refused: nothing is asked then.
@@ -184,6 +187,18 @@ impl PlannedRequest {
     {
         !self.form.is_array && self.plans.is_empty()
     }
+}
+
+// Copies of plans, which share what was prepared.
+fn copies_of(alloc: Global, plans: &[LimitedPlan]) -> Result<Vec<LimitedPlan>, AllocError>
+    ensures { IfOk result (λ copies. copies.items ≡ plans.now) }
+{
+    let mut copies = Vec::with_capacity(alloc, plans.len())?;
+    for plan in plans {
+        let copy = plan.clone()?;
+        copies.push(copy)?;
+    }
+    Ok(copies)
 }
 
 /// Returns what one request asks, within a limit.

@@ -6,8 +6,8 @@ ghost use Rattle.server_lines.specs.Devices.{devices};
 ghost use Rattle.server_lines.specs.Serving.{Serves};
 ghost use Rattle.server.specs.Lines.{ServesLine, serving};
 
-use crate::batch_runner::Workers;
-use crate::client::ClientSession;
+use crate::client::{ClientSession, RequestInput};
+use crate::workers::Workers;
 use load_queue::{LocalSource, Source};
 use server_lines::{CountedDevice, LineFault, ServeFault, serve as serve_lines};
 use std::alloc::Global;
@@ -48,10 +48,8 @@ pub fn serve<S: LocalSource, I: Read, W: Write>(
         ensures stopped { IfErr result (λ fault.
             (serving S.may_tell).stops fault client.entry.now line.now client.exit.now) }
     {
-        match client.serve_line(line) {
-            Ok(text) => Ok(text),
-            Err(_) => Err(LineFault::NoMemory),
-        }
+        client.restart()?;
+        Ok(client.respond(RequestInput::Text(line))?.text)
     };
     match serve_lines(alloc, reader, writer, &mut answer) {
         Ok(count) => Ok(count),
@@ -85,10 +83,8 @@ pub fn serve_with<S: Source, R: Threads + Wait + Sync, I: Read, W: Write>(
         ensures stopped { IfErr result (λ fault.
             (serving S.may_answer).stops fault client.entry.now line.now client.exit.now) }
     {
-        match client.serve_line_with(workers, line) {
-            Ok(text) => Ok(text),
-            Err(_) => Err(LineFault::NoMemory),
-        }
+        client.restart()?;
+        Ok(client.answer_with(workers, RequestInput::Text(line))?.text)
     };
     match serve_lines(alloc, reader, writer, &mut answer) {
         Ok(count) => Ok(count),

@@ -1,6 +1,6 @@
 -- Steps of the loops over lines.
 use Rattle.std.proofs.Common.{subst, inl, inr, ne_eqb, cond, ◌≡◌, ◌≢◌, ◌⊎◌, ℕ, ◌+◌, ◌<◌, ◌≤◌, List, [], ◌∷◌, ◌++◌, length, take, refl, sym, ap, ◌∙◌, append_assoc, append-nil, arith, length-append}
-use Rattle.std.specs.Prelude.{Option, Some, None, Result, Ok, Err, String, string_bytes}
+use Rattle.std.specs.Prelude.{Option, Some, None, Result, Ok, Err, IfOk, IfErr, OnOk, String, string_bytes}
 use Rattle.std.specs.Fn.{CalledAt}
 use denote.Param.Members.{Mut}
 use denote.Ref.{Bor}
@@ -14,8 +14,10 @@ use Rattle.std.proofs.lemmas.List.Elements.{All-nil, All-cons, All-head, All-tai
 use Rattle.server_lines.specs.Answering.{AnsweringOf, AreAnswers, FrontOf, IsNext, IsStopped, MayStop, Stops, StopsNext, WithAnswer, WithAnswers, by_calls}
 use Rattle.server_lines.specs.Lines.{HasNoLineFeed, IsLine, Splits, ended, line_feed, limit, input_lines, last_of, on_first}
 use Rattle.server_lines.specs.Output.{Sends, IsCut}
-use Rattle.server_lines.specs.Devices.{CountsOf, DevicesOf, HasFault, IsFlushed, IsReadOut, IsSteady, IsStuck}
-use Rattle.server_lines.specs.Serving.{block_size, IsGiven, IsUnanswered, StartsLong, AtFault, Stopped, IsAnswered, Fails, ReadsAll, StopsAt, CountsServing, Serves}
+use Rattle.server_lines.specs.Devices.{CountsOf, DevicesOf, HasFault, IsFlushed, IsReadOut, IsSteady, IsStuck, counts_of, device_of, devices}
+use Rattle.server_lines.specs.declared.device.CountedDevice.{CountedDevice}
+use Rattle.std.specs.Global.{Vec}
+use Rattle.server_lines.specs.Serving.{block_size, IsGiven, IsUnanswered, StartsLong, AtFault, Stopped, IsAnswered, Fails, ReadsAll, ReaderCounts, StopsAt, WriterCounts, EndsServing, had_failed, closed, was_cut, HasGrown, IsBounded, Serves}
 use Rattle.server_lines.specs.declared.fault.ServeFault.{ServeFault}
 use Rattle.server_lines.specs.declared.fault.ServeFault.TheVariants as fault
 use Rattle.server_lines.specs.declared.fault.LineFault.{LineFault}
@@ -149,6 +151,13 @@ consumes_lines a b c lines more held x later h k s = subst (λ t. Consumes a c t
 pub count_given : (m more g h n : ℕ) (blk : List ℕ) → m ≤ g → more ≤ length (take n blk) → h ≡ g + n → m + more ≤ h
 count_given m more g h n blk was few e = grind (arith, common_steps, was, few, e)
 
+-- what was counted of the reader and the writer while lines were served
+pub record CountsServing {T : Type 0} (reader_old reader_new writer_old writer_new : CountsOf) (result : Result T ServeFault) : Type 0 where
+  pub reader : ReaderCounts reader_old reader_new result
+  pub writer : WriterCounts writer_old writer_new result
+  pub bounded : OnOk result (IsBounded reader_new)
+  pub grown : HasGrown reader_old reader_new
+
 abbrev pub IsNoWriteFault : ServeFault → Type 0
 IsNoWriteFault e = AtFault e (Unit {0}) (Unit {0}) ⊥ (λ _. Unit {0})
 
@@ -174,6 +183,20 @@ any_read fault.ReadFault P Q h = inr h
 any_read fault.WriteFault P Q h = h
 any_read fault.BadCount P Q h = absurd h
 any_read e P Q h = inl h
+
+-- what is counted of the writer from an earlier place on
+pub writes_later : {T : Type 0} (a b c : CountsOf) (r : Result T ServeFault) → IsSteady a b → WriterCounts b c r → WriterCounts a c r
+writes_later a b c (Ok x) steady h = steady_trans steady h
+writes_later a b c (Err fault.WriteFault) steady h = fault_after IsStuck steady h
+writes_later a b c (Err fault.BadCount) steady h = absurd h
+writes_later a b c (Err e) steady h = steady_trans steady h
+
+-- what is counted of the reader at a fault that isn't its own
+pub reads_later : (e : ServeFault) (a b : CountsOf) (P Q R : Type 0) (V : LineFault → Type 0) → IsSteady a b → (Q → ⊥) → AtFault e P Q R V → AtFault e (IsSteady a b) (HasFault IsReadOut a b) (IsSteady a b ⊎ HasFault IsReadOut a b) (λ _. IsSteady a b)
+reads_later fault.ReadFault a b P Q R V steady other h = absurd (other h)
+reads_later fault.WriteFault a b P Q R V steady other h = inl steady
+reads_later fault.BadCount a b P Q R V steady other h = absurd h
+reads_later e a b P Q R V steady other h = steady
 
 -- what a call gave answers its line
 module _ {F : Type 0} (m : Mut F (Bor (List ℕ) × Unit {0}) (Result (String Global) LineFault)) where
@@ -394,7 +417,7 @@ module _ {F : Type 0} (A : AnsweringOf F) where
   writer_failed f g left text Sent More Cut (inr h) = inr h
 
   -- serving, once what was pending went out after a fault and the writer was flushed
-  pub closes : (f g : F) (d : DevicesOf) (p : List ℕ) (c : Option (List ℕ)) (w : CountsOf) (e : ServeFault) → (e ≡ fault.WriteFault → ⊥)
+  closes : (f g : F) (d : DevicesOf) (p : List ℕ) (c : Option (List ℕ)) (w : CountsOf) (e : ServeFault) → (e ≡ fault.WriteFault → ⊥)
       → StopsAt A f g d (Sends d.old [] d.new p) e → CountsServing {T = ℕ} d.reader_old d.reader_new d.writer_old d.writer_new (Err e)
       → Appends d.new c p → IsFlushed w → IsSteady d.writer_new w → Serves A f g (record d { new = c; writer_new = w }) (Err e)
   closes f g d p c w e other (text, went, fails) counts h flushed steady = record {
@@ -408,7 +431,7 @@ module _ {F : Type 0} (A : AnsweringOf F) where
   }
 
   -- or the writer failed there
-  pub cuts : (f g : F) (d : DevicesOf) (p : List ℕ) (c : Option (List ℕ)) (w : CountsOf) (e : ServeFault) → (e ≡ fault.WriteFault → ⊥)
+  cuts : (f g : F) (d : DevicesOf) (p : List ℕ) (c : Option (List ℕ)) (w : CountsOf) (e : ServeFault) → (e ≡ fault.WriteFault → ⊥)
       → StopsAt A f g d (Sends d.old [] d.new p) e → CountsServing {T = ℕ} d.reader_old d.reader_new d.writer_old d.writer_new (Err e)
       → IsCut d.new c p → HasFault IsStuck d.writer_new w → Serves A f g (record d { new = c; writer_new = w }) (Err fault.WriteFault)
   cuts f g d p c w e other (text, went, fails) counts h due = record {
@@ -422,7 +445,7 @@ module _ {F : Type 0} (A : AnsweringOf F) where
   }
 
   -- or at the end of the input
-  pub ends_cut : (f g : F) (d : DevicesOf) (p : List ℕ) (c : Option (List ℕ)) (w : CountsOf) (n : ℕ)
+  ends_cut : (f g : F) (d : DevicesOf) (p : List ℕ) (c : Option (List ℕ)) (w : CountsOf) (n : ℕ)
       → ReadsAll A f g d (Sends d.old [] d.new p) n → CountsServing {T = ℕ} d.reader_old d.reader_new d.writer_old d.writer_new (Ok n)
       → IsCut d.new c p → HasFault IsStuck d.writer_new w → Serves A f g (record d { new = c; writer_new = w }) (Err fault.WriteFault)
   ends_cut f g d p c w n (text, went, end, was) counts h due = record {
@@ -450,6 +473,43 @@ module _ {F : Type 0} (A : AnsweringOf F) where
         bounded = tt;
         grown = k.grown;
       }
+
+  -- serving, once all of the input was answered, what was pending went out and the writer was flushed
+  closes_all : (f g : F) (d : DevicesOf) (p : List ℕ) (c : Option (List ℕ)) (w : CountsOf) (n : ℕ)
+      → ReadsAll A f g d (Sends d.old [] d.new p) n → CountsServing {T = ℕ} d.reader_old d.reader_new d.writer_old d.writer_new (Ok n)
+      → Appends d.new c p → IsFlushed w → IsSteady d.writer_new w → Serves A f g (record d { new = c; writer_new = w }) (Ok n)
+  closes_all f g d p c w n (text, went, end, was) counts h flushed steady = record {
+    all = (text, went, end, record { each = was.each; count = was.count; output = was.output; answers = was.answers; sent = sends_close d.old d.new c p was.output was.sent h });
+    stopped = tt;
+    reader = counts.reader;
+    writer = steady_trans counts.writer steady;
+    flushed = flushed;
+    bounded = counts.bounded;
+    grown = counts.grown;
+  }
+
+  -- serving, once it has ended
+  pub ends : {R W : Type 0} (remaining : R → Option (List ℕ)) (contents : W → Option (List ℕ)) (f g : F) (unread rest : CountedDevice R) (old mid new : CountedDevice W) (pending : Vec ℕ) (served result : Result ℕ ServeFault)
+      → IfOk served (ReadsAll A f g (devices remaining contents unread rest old mid) (Sends (contents (device_of old)) [] (contents (device_of mid)) pending.items))
+      → IfErr served (StopsAt A f g (devices remaining contents unread rest old mid) (Sends (contents (device_of old)) [] (contents (device_of mid)) pending.items))
+      → CountsServing (counts_of unread) (counts_of rest) (counts_of old) (counts_of mid) served
+      → EndsServing contents mid pending new served result → Serves A f g (devices remaining contents unread rest old new) result
+  ends remaining contents f g unread rest old mid new pending (Ok n) result all stopped counts (had_failed is same kept) = absurd (cc is)
+  ends remaining contents f g unread rest old mid new pending (Ok n) result all stopped counts (closed other same went flushed steady) =
+      subst (Serves A f g (devices remaining contents unread rest old new)) (sym same)
+      (closes_all f g (devices remaining contents unread rest old mid) pending.items (contents (device_of new)) (counts_of new) n all counts went flushed steady)
+  ends remaining contents f g unread rest old mid new pending (Ok n) result all stopped counts (was_cut other same out due) =
+      subst (Serves A f g (devices remaining contents unread rest old new)) (sym same)
+      (ends_cut f g (devices remaining contents unread rest old mid) pending.items (contents (device_of new)) (counts_of new) n all counts out due)
+  ends remaining contents f g unread rest old mid new pending (Err e) result all stopped counts (had_failed is same kept) =
+      subst (λ w. Serves A f g (devices remaining contents unread rest old w) result) (sym kept)
+      (subst (Serves A f g (devices remaining contents unread rest old mid)) (sym (same ∙ is)) (stays_failed f g (devices remaining contents unread rest old mid) pending.items e (cc is) stopped counts))
+  ends remaining contents f g unread rest old mid new pending (Err e) result all stopped counts (closed other same went flushed steady) =
+      subst (Serves A f g (devices remaining contents unread rest old new)) (sym same)
+      (closes f g (devices remaining contents unread rest old mid) pending.items (contents (device_of new)) (counts_of new) e (λ is. other (ap Err is)) stopped counts went flushed steady)
+  ends remaining contents f g unread rest old mid new pending (Err e) result all stopped counts (was_cut other same out due) =
+      subst (Serves A f g (devices remaining contents unread rest old new)) (sym same)
+      (cuts f g (devices remaining contents unread rest old mid) pending.items (contents (device_of new)) (counts_of new) e (λ is. other (ap Err is)) stopped counts out due)
 
   pub fails_read : (f g : F) (a c left : Option (List ℕ)) (q : List ℕ) (lines : List (List ℕ)) (held x : List ℕ) → All IsLine lines → IsLine held → AreAnswers A f lines x g → Sends a [] c q x
       → Fails A f g (flat_map ended lines ++ held) (Sends a [] c q) (IsCut a c) left fault.ReadFault

@@ -4,18 +4,16 @@ use Rattle.std.specs.Prelude.{◌≡◌, ◌≢◌, ◌<◌, ◌≤◌, ◌+◌,
 use Rattle.std.specs.List.{All}
 use Rattle.std.specs.Io.KnownBytes.{Appends, Consumes, IsAtEnd}
 use Rattle.std.specs.Global.{Vec}
-use denote.Param.Members.{Mut}
-use denote.Ref.{Bor}
 use Rattle.std.specs.declared.alloc.Global.{Global}
 use Rattle.server_lines.specs.declared.device.CountedDevice.{CountedDevice}
 use Rattle.server_lines.specs.declared.fault.ServeFault.{ServeFault}
 use Rattle.server_lines.specs.declared.fault.ServeFault.TheVariants as fault
 use Rattle.server_lines.specs.declared.fault.LineFault.{LineFault}
 use Rattle.server_lines.specs.declared.fault.LineFault.TheVariants.{NoMemory, TraceFault}
-use Rattle.server_lines.specs.Answering.{AnsweringOf, by_calls, FrontOf, IsOutput, IsStopped, MayStop, WithAnswers}
-use Rattle.server_lines.specs.Devices.{bound, CountsOf, DevicesOf, HasFault, IsFlushed, IsReadOut, IsSteady, IsStuck}
+use Rattle.server_lines.specs.Answering.{AnsweringOf, FrontOf, IsOutput, IsStopped, MayStop, WithAnswers}
+use Rattle.server_lines.specs.Devices.{bound, CountsOf, DevicesOf, HasFault, IsFlushed, IsReadOut, IsSteady, IsStuck, counts_of, device_of}
 use Rattle.server_lines.specs.Lines.{limit, ended, HasNoLineFeed, IsLine, IsLong, Splits, input_lines, last_of}
-use Rattle.server_lines.specs.Output.{Sends, SendsBy, CutsBy, IsCut}
+use Rattle.server_lines.specs.Output.{SendsBy, CutsBy, IsCut}
 
 -- says what holds at each fault; workers aren't counted while lines are served
 abbrev pub AtFault : ServeFault → Type 0 → Type 0 → Type 0 → (LineFault → Type 0) → Type 0
@@ -158,6 +156,20 @@ EndsAll A f g last before contents old pending new later n =
     (n ≡ before + length (last_of last.items))
     × WithAnswers A f (last_of last.items) g (SendsBy contents old pending new later)
 
+-- Says how serving ends: the writer had failed, and is left as it is; or what was pending went out and was flushed; or the writer failed in that.
+pub data EndsServing {D : Type 0} (contents : D → Option (List ℕ)) (old : CountedDevice D)
+    (pending : Vec ℕ) (new : CountedDevice D) (served result : Result ℕ ServeFault) : Type 0 where
+  had_failed : served ≡ Err fault.WriteFault → result ≡ served → new ≡ old
+      → EndsServing contents old pending new served result
+  closed : served ≢ Err fault.WriteFault → result ≡ served
+      → Appends (contents (device_of old)) (contents (device_of new)) pending.items
+      → IsFlushed (counts_of new) → IsSteady (counts_of old) (counts_of new)
+      → EndsServing contents old pending new served result
+  was_cut : served ≢ Err fault.WriteFault → result ≡ Err fault.WriteFault
+      → IsCut (contents (device_of old)) (contents (device_of new)) pending.items
+      → HasFault IsStuck (counts_of old) (counts_of new)
+      → EndsServing contents old pending new served result
+
 -- ---- the whole, from a counted reader to a counted writer
 
 -- the input was read to its end, it has n lines, and each was answered
@@ -172,14 +184,6 @@ abbrev pub StopsAt : {F : Type 0} → AnsweringOf F → F → F
 StopsAt A f g d Sent fault = (text : List ℕ) × Consumes d.unread d.rest text
     × Fails A f g text Sent (IsCut d.old d.new) d.rest fault
 
--- both, where what was to be written went out, or is pending later
-abbrev pub ServesLater : {F : Type 0} → AnsweringOf F → F → F → Vec ℕ → DevicesOf → ℕ → Type 0
-ServesLater A f g later d = ReadsAll A f g d (Sends d.old [] d.new later.items)
-
-abbrev pub StopsLater : {F : Type 0} → AnsweringOf F
-    → F → F → Vec ℕ → DevicesOf → ServeFault → Type 0
-StopsLater A f g later d = StopsAt A f g d (Sends d.old [] d.new later.items)
-
 -- all of the input was read, and what was written is the output of its lines; the number counts those lines
 abbrev pub ServesAll : {F : Type 0} → AnsweringOf F → F → F → DevicesOf → ℕ → Type 0
 ServesAll A f g d = ReadsAll A f g d (Appends d.old d.new)
@@ -188,31 +192,12 @@ ServesAll A f g d = ReadsAll A f g d (Appends d.old d.new)
 abbrev pub StopsServing : {F : Type 0} → AnsweringOf F → F → F → DevicesOf → ServeFault → Type 0
 StopsServing A f g d = StopsAt A f g d (Appends d.old d.new)
 
--- says the same, where the lines are answered by calls
-abbrev pub ServesBy : {F : Type 0}
-    → Mut F (Bor (List ℕ) × Unit {0}) (Result (String Global) LineFault)
-    → F → F → Vec ℕ → DevicesOf → ℕ → Type 0
-ServesBy m = ServesLater (by_calls m)
-
-abbrev pub StopsBy : {F : Type 0}
-    → Mut F (Bor (List ℕ) × Unit {0}) (Result (String Global) LineFault)
-    → F → F → Vec ℕ → DevicesOf → ServeFault → Type 0
-StopsBy m = StopsLater (by_calls m)
-
 -- past a bound of the reader no input is served to its end
 abbrev pub IsBounded : CountsOf → Type 0
 IsBounded c = (c.calls ≤ bound) × (c.given < bound)
 
 abbrev pub HasGrown : CountsOf → CountsOf → Type 0
 HasGrown old new = (old.calls ≤ new.calls) × (old.given ≤ new.given)
-
--- what was counted of the reader and the writer while lines were served
-pub record CountsServing {T : Type 0} (reader_old reader_new writer_old writer_new : CountsOf)
-    (result : Result T ServeFault) : Type 0 where
-  pub reader : ReaderCounts reader_old reader_new result
-  pub writer : WriterCounts writer_old writer_new result
-  pub bounded : OnOk result (IsBounded reader_new)
-  pub grown : HasGrown reader_old reader_new
 
 -- Each line of the reader is answered by a line to the writer, and the states go from f to g.
 pub record Serves {F : Type 0} (A : AnsweringOf F) (f g : F) (d : DevicesOf)

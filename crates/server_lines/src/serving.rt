@@ -1,10 +1,10 @@
 //! Serving: each line is answered by a line.
 
-ghost use Rattle.std.specs.Prelude.{◌≡◌, [], ◌++◌, ◌<◌, ◌≤◌, ◌+◌, ◌^◌, length, OnErr, IfOk, IfErr, vec_len};
+ghost use Rattle.std.specs.Prelude.{◌≡◌, [], ◌≤◌, length, OnErr, IfOk, vec_len};
 ghost use Rattle.std.specs.Io.KnownBytes.{ReadConsumes};
 ghost use Rattle.server_lines.specs.Answering.{by_calls};
 ghost use Rattle.server_lines.specs.Devices.{counts_of, device_of, devices, CountsFaults, CountsNone, CountsRead, IsReadOut};
-ghost use Rattle.server_lines.specs.Serving.{ServesBy, StopsBy, CountsServing, Serves};
+ghost use Rattle.server_lines.specs.Serving.{EndsServing, Serves};
 
 use crate::device::{CountedDevice, DeviceFault};
 use crate::fault::{LineFault, ServeFault};
@@ -43,50 +43,21 @@ fn read_block<R: Read>(
     reader.read(block)
 }
 
-// Reads to the end, and answers each line. Pending answers are written before each further read; at the end some may still be
-// pending.
-fn serve_lines<F: FnMut(&[u8]) -> Result<String, LineFault>, R: Read, W: Write>(
-    alloc: Global,
-    answer: &mut F,
-    reader: &mut CountedDevice<R>,
+// Ends serving: writes what is pending, and flushes, unless the writer has failed.
+fn end<W: Write>(
     writer: &mut CountedDevice<W>,
     pending: &mut Vec<u8>,
+    served: Result<u64, ServeFault>,
 ) -> Result<u64, ServeFault>
-    requires callable { F.IsAlwaysCallable answer.old }
-    requires nothing { pending.old.items ≡ [] }
-    ensures ok { IfOk result (ServesBy F.FnMut answer.old answer.new pending.new
-        (devices R.remaining W.contents reader.old reader.new writer.old writer.new)) }
-    ensures err { IfErr result (StopsBy F.FnMut answer.old answer.new pending.new
-        (devices R.remaining W.contents reader.old reader.new writer.old writer.new)) }
-    ensures counts { CountsServing (counts_of reader.old) (counts_of reader.new)
-        (counts_of writer.old) (counts_of writer.new) result }
+    ensures { EndsServing W.contents writer.old pending.old
+        writer.new served result }
 {
-    let mut room = match new_block(alloc) {
-        Ok(room) => room,
-        Err(_) => return Err(ServeFault::NoMemory),
-    };
-    let block = room.as_mut_slice();
-    let mut held = Vec::new(alloc);
-    let mut count = 0u64;
-    loop {
-        let n = match read_block(reader, pending, block) {
-            Ok(n) => n,
-            Err(_) => return Err(ServeFault::ReadFault),
-        };
-        if n == 0 {
-            match finish(answer, writer, pending, &held, count) {
-                Ok(total) => return Ok(total),
-                Err(fault) => return Err(fault),
-            }
-        }
-        match feed(answer, writer, pending, &mut held, &block[..n]) {
-            Ok(more) => count += more as u64,
-            Err(fault) => return Err(fault),
-        }
-        match send(writer, pending) {
-            Ok(()) => {}
-            Err(_) => return Err(ServeFault::WriteFault),
-        }
+    match served {
+        Err(ServeFault::WriteFault) => Err(ServeFault::WriteFault),
+        _ => match close(writer, pending) {
+            Ok(()) => served,
+            Err(_) => Err(ServeFault::WriteFault),
+        },
     }
 }
 
@@ -117,17 +88,29 @@ pub fn serve<F: FnMut(&[u8]) -> Result<String, LineFault>, R: Read, W: Write>(
         (devices R.remaining W.contents reader.old reader.new writer.old writer.new) result }
 {
     let mut pending = Vec::new(alloc);
-    match serve_lines(alloc, answer, reader, writer, &mut pending) {
-        Ok(count) => match close(writer, &mut pending) {
-            Ok(()) => Ok(count),
-            Err(_) => Err(ServeFault::WriteFault),
-        },
-        Err(fault) => match fault {
-            ServeFault::WriteFault => Err(ServeFault::WriteFault),
-            _ => match close(writer, &mut pending) {
-                Ok(()) => Err(fault),
-                Err(_) => Err(ServeFault::WriteFault),
-            },
-        },
+    let mut room = match new_block(alloc) {
+        Ok(room) => room,
+        Err(_) => return end(writer, &mut pending, Err(ServeFault::NoMemory)),
+    };
+    let block = room.as_mut_slice();
+    let mut held = Vec::new(alloc);
+    let mut count = 0u64;
+    loop {
+        let n = match read_block(reader, &pending, block) {
+            Ok(n) => n,
+            Err(_) => return end(writer, &mut pending, Err(ServeFault::ReadFault)),
+        };
+        if n == 0 {
+            let served = finish(answer, writer, &mut pending, &held, count);
+            return end(writer, &mut pending, served);
+        }
+        match feed(answer, writer, &mut pending, &mut held, &block[..n]) {
+            Ok(more) => count += more as u64,
+            Err(fault) => return end(writer, &mut pending, Err(fault)),
+        }
+        match send(writer, &mut pending) {
+            Ok(()) => {}
+            Err(_) => return Err(ServeFault::WriteFault),
+        }
     }
 }

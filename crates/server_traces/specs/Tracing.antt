@@ -41,6 +41,11 @@ pub record IsQuiet (old new : TraceDevice) : Type 0 where
   pub kept : Keeps old.contents new.contents
   pub steady : IsSteady old.counts new.counts
 
+-- says why a text didn't go out whole
+abbrev pub FailsText : LineFault → List ℕ → TraceDevice → TraceDevice → Type 0
+FailsText NoMemory text old new = IsQuiet old new
+FailsText TraceFault text old new = HasCut text old new
+
 -- a client whose lines are traced, and the device of the trace
 pub record TracedOf (S : Type 0) : Type 0 where
   pub client : ClientOf S
@@ -75,11 +80,6 @@ module _ {S : Type 0} where
     pub text : List ℕ
     pub says : SaysTrace c line text
     pub cut : HasCut text old new
-
-  -- says why it didn't go out whole
-  abbrev pub FailsTrace : LineFault → ClientOf S → List ℕ → TraceDevice → TraceDevice → Type 0
-  FailsTrace NoMemory c line old new = IsQuiet old new
-  FailsTrace TraceFault c line old new = PutsFront c line old new
 
   module _ (A : AnsweringOf (ClientOf S)) where
     -- A line is answered, and its trace went out: the batches that its answer asked, which are those of the client's logs then.

@@ -3,7 +3,7 @@
 ghost use Rattle.std.specs.Prelude.{◌≡◌, IfOk, IfErr, OnOk, string_bytes};
 ghost use denote.Param.Send.{IsSync};
 ghost use Rattle.server.specs.Lines.{serving};
-ghost use Rattle.server_traces.specs.Tracing.{FailsTrace, HasCut, HasTraced, PutsTrace, SaysTrace, StopsBy, TracesBy, session_line, trace_device};
+ghost use Rattle.server_traces.specs.Tracing.{FailsText, HasCut, HasTraced, StopsBy, TracesBy, session_line, trace_device};
 
 use load_queue::{LocalSource, Source};
 use load_rounds::Session;
@@ -47,38 +47,19 @@ fn put_text<T: Write>(trace: &mut CountedDevice<T>, line: &str) -> Result<(), Li
     }
 }
 
-// The trace of a client that has answered a line: what its session asked, and how many calls execution key by key makes for the line.
-fn trace_answer<S>(
-    alloc: Global,
-    client: &mut ClientSession<S>,
-    line: &[u8],
-) -> Result<String, LineFault>
-    ensures ok { IfOk result (λ text.
-        SaysTrace client.old line.now (string_bytes text)) }
-    ensures err { IfErr result
-        (λ fault. fault ≡ LineFault.NoMemory) }
-    ensures same { client.new ≡ client.old }
-{
-    match client.loads_read(line) {
-        Ok(count) => trace_line(alloc, client.session(), count),
-        Err(_) => Err(LineFault::NoMemory),
-    }
-}
-
-// Writes that trace, and flushes.
+// Writes the trace of a session, and of `count` calls of execution key by key, and flushes.
 fn put_trace<S, T: Write>(
     alloc: Global,
-    client: &mut ClientSession<S>,
-    line: &[u8],
+    session: &Session<S>,
+    count: u64,
     trace: &mut CountedDevice<T>,
 ) -> Result<(), LineFault>
-    ensures ok { OnOk result (PutsTrace client.old line.now
+    ensures ok { OnOk result (HasTraced (session_line session.now count)
         (trace_device T.contents trace.old) (trace_device T.contents trace.new)) }
-    ensures err { IfErr result (λ fault. FailsTrace fault client.old line.now
+    ensures err { IfErr result (λ fault. FailsText fault (session_line session.now count)
         (trace_device T.contents trace.old) (trace_device T.contents trace.new)) }
-    ensures same { client.new ≡ client.old }
 {
-    match trace_answer(alloc, client, line) {
+    match trace_line(alloc, session, count) {
         Ok(text) => match put_text(trace, text.as_str()) {
             Ok(()) => Ok(()),
             Err(_) => Err(LineFault::TraceFault),
@@ -147,13 +128,13 @@ impl<S: LocalSource, T: Write> TracedClient<S, T> {
         ensures stopped { IfErr result
             (StopsBy T.contents (serving S.may_tell) self.old line.now self.new) }
     {
-        match self.client.serve_line(line) {
-            Ok(text) => match put_trace(self.alloc, &mut self.client, line, &mut self.trace) {
-                Ok(()) => Ok(text),
-                Err(fault) => Err(fault),
-            },
-            Err(_) => Err(LineFault::NoMemory),
-        }
+        self.client.restart()?;
+        let planned = self.client.plan_text(line)?;
+        let answer = self.client.answer_planned(&planned)?;
+        let session = self.client.session();
+        let count = planned.loads_read(self.alloc, session)?;
+        put_trace(self.alloc, session, count, &mut self.trace)?;
+        Ok(answer.text)
     }
 }
 
@@ -173,12 +154,12 @@ impl<S: Source, T: Write> TracedClient<S, T> {
         ensures stopped { IfErr result
             (StopsBy T.contents (serving S.may_answer) self.old line.now self.new) }
     {
-        match self.client.serve_line_with(workers, line) {
-            Ok(text) => match put_trace(self.alloc, &mut self.client, line, &mut self.trace) {
-                Ok(()) => Ok(text),
-                Err(fault) => Err(fault),
-            },
-            Err(_) => Err(LineFault::NoMemory),
-        }
+        self.client.restart()?;
+        let planned = self.client.plan_text(line)?;
+        let answer = self.client.answer_planned_with(workers, &planned)?;
+        let session = self.client.session();
+        let count = planned.loads_read(self.alloc, session)?;
+        put_trace(self.alloc, session, count, &mut self.trace)?;
+        Ok(answer.text)
     }
 }

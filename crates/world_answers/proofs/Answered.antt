@@ -27,7 +27,7 @@ use Rattle.load_rounds.specs.Sessions.{StateOf, state_of, rules_of, session_mode
 use Rattle.load_rounds.specs.Calls.{RoundRan}
 use Rattle.execution.specs.Executes.{IsTextOf}
 use Rattle.load_rounds.specs.KeyByKey.{item_over}
-use Rattle.gq_resolve.specs.PlanLoads.{plan-loads}
+use Rattle.gq_resolve.proofs.PlanLoads.{plan-loads}
 use Rattle.gq_resolve.specs.Within.{text_within}
 use Rattle.load_rounds.proofs.Following.{InRounds, in-none, in-more, in-all}
 use Rattle.load_rounds.proofs.Holding.{rounds-held}

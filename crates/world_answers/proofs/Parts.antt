@@ -12,6 +12,7 @@ use Rattle.schema_syntax.specs.declared.tree.Definition as rust
 use Rattle.schema_syntax.specs.declared.tree.Definition.TheVariants as rust-definition
 use Rattle.schema_syntax.specs.declared.tree.FieldDefinition as rust-field
 use Rattle.schema_syntax.specs.declared.tree.ArgumentDefinition as rust-argument
+use Rattle.gq_schema.specs.Schemas.{condition_argument}
 use Rattle.gq_schema.specs.Types.{tree_of, own_fields, fields_in, is_field, type_in, defines}
 use Rattle.rules_parts.specs.declared.part.Owner.{Owner}
 use Rattle.rules_parts.specs.declared.part.Owner.TheVariants as owner
@@ -22,7 +23,7 @@ use Rattle.rules_parts.specs.Parts.{PartsOf}
 use Rattle.rules_parts.specs.Parents.{known_field, inside_operation, inside_field, inside_condition, inside_inline}
 use Rattle.rules_parts.specs.Selections.{selections_in, selections_among, selections_from, selections_below, operation_selections, fragment_selections, document_selections}
 use Rattle.rules_parts.specs.Uses.{uses_in, uses_among, uses_within, argument_uses, item_location}
-use Rattle.rules_parts.specs.Listing.{field_from, field_part, spread_from, spread_part, inline_from, inline_part, fields_in as all_fields, operation_variables, variables_in, directives_at, variable_directives, operation_directives, fragment_directives, directives_from, selection_directives, directives_in, condition_argument, field_arguments, arguments_with, directive_arguments, argument_with, listed_arguments, argument_lists_in, arguments_in, uses_from, parts_of}
+use Rattle.rules_parts.specs.Listing.{field_from, field_part, spread_from, spread_part, inline_from, inline_part, fields_in as all_fields, operation_variables, variables_in, directives_at, variable_directives, operation_directives, fragment_directives, directives_from, selection_directives, directives_in, field_arguments, arguments_with, directive_arguments, argument_with, listed_arguments, argument_lists_in, arguments_in, uses_from, parts_of}
 use Rattle.plan_laws.proofs.Each.{Each, Maybe, each-append, each-find, each-map, each-filter_map, each-flat_map, maybe-map}
 use Rattle.world_answers.proofs.Names.{IsWritten, ValueNames, ValuesNames, MembersNames, ArgumentNames, DirectiveNames, ConditionNames, SelectionNames, BelowNames, SetNames, SelectionsNames, VariableNames, OperationNames, FragmentNames, DocumentNames}
 use Rattle.world_answers.proofs.Strings.{IsSaid, said-word}

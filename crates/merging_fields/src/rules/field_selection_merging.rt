@@ -20,7 +20,6 @@ use crate::attributes::response_key;
 use crate::clashing::clashing_sets;
 use crate::grounds::{fields_in_order, grounds_of};
 use crate::known::{ComparedFields, Grounds};
-use crate::lone::has_lone_fields;
 use crate::ranks::rank_fragments;
 use merging_members::{
     ClashingSet, FragmentMembers, NumberedDocument, first_member, fragment_starts, known_fragments,
@@ -158,9 +157,9 @@ fn compare<'d>(
 /// Field Selection Merging: the selection set with the earliest `{` that can't be merged, by its first response key with a
 /// failing pair (section 5.3.2). `graph` is that of the document's fragments.
 ///
-/// Where each set has one field, none needs a look. Else one pass compares each field with the first of its response key. Where all
-/// have its name, equal arguments and a type of its shape, every set can be merged; the table of pairs is made for other
-/// documents alone. Object values are compared in order, since no argument takes one.
+/// Fields of one response key are compared first, wherever they stand. Where all have one name, equal arguments and types of one
+/// shape, every set can be merged; the table of pairs is made for other documents alone. Object values are compared in order,
+/// since no argument takes one.
 ///
 /// It requires that no fragment reaches itself and that there are at most 1,024 fields: `check` of `gq_check`
 /// allows 1,000, and asks this rule last, of documents without another fault.
@@ -194,9 +193,6 @@ pub fn field_selection_merging<'d>(
         ≤ 1024 }
     ensures { IfOk result (λ report. IsMerging (parts_in parts.now) (option_map broken_of report)) }
 {
-    if has_lone_fields(parts.document) {
-        return Ok(None);
-    }
     if agree_by_key(alloc, parts)? {
         return Ok(None);
     }

@@ -11,7 +11,7 @@ ghost use Rattle.rules_typed.specs.RequiredArguments.{is_null, is_called, is_giv
 
 use gq_parser::{Argument, Literal, Value};
 use gq_schema::ArgDef;
-use rules_parts::{ArgumentList, EarliestViolation, Parts, Violation};
+use rules_parts::{ArgumentList, EarliestViolation, Parts, Violation, field_arguments};
 
 fn is_null(literal: &Literal) -> bool
     ensures { result ≡ is_null (literal_of literal.now) }
@@ -83,13 +83,16 @@ fn missing_argument<'d>(list: &ArgumentList<'d>) -> Option<Violation<'d>>
 ///
 /// | `{user{name}}` | `5.4.2.1 Required Arguments: id` | 2, the field or directive | Give a value, other than `null`, to each non-null argument
 /// without a default. The first missing one is reported. |
-#[tactic(auto, using(crate::proofs::Keeping::keep_next))]
+#[tactic(auto, using(crate::proofs::Keeping::keep_next, crate::proofs::Keeping::keep_before))]
 pub fn required_arguments<'d>(parts: &Parts<'d>) -> Option<Violation<'d>>
     ensures { option_map broken_of result ≡ earliest
         (required_arguments (parts_in parts.now)) }
 {
     let mut earliest = EarliestViolation::new();
-    for list in &parts.argument_lists {
+    for part in &parts.fields {
+        earliest.add_if(missing_argument(&field_arguments(part)));
+    }
+    for list in &parts.directive_arguments {
         earliest.add_if(missing_argument(list));
     }
     earliest.found

@@ -23,7 +23,10 @@ pub fn argument_uniqueness<'d>(
         option_map broken_of broken ≡ earliest (argument_uniqueness (parts_in parts.now))) }
 {
     let mut earliest = EarliestViolation::new();
-    for list in &parts.argument_lists {
+    for part in &parts.fields {
+        add_repeated(alloc, &part.field.arguments, &mut earliest)?;
+    }
+    for list in &parts.directive_arguments {
         add_repeated(alloc, list.arguments, &mut earliest)?;
     }
     Ok(earliest.found)

@@ -1,5 +1,5 @@
 use Rattle.std.proofs.Common.{◌≡◌, map, take}
-use Rattle.gq_resolve.specs.Answered.{part_of}
+use Rattle.answer_json.specs.Answer.{part_of}
 use Rattle.gq_resolve.proofs.bounded.copy_path.Given as goal
 
 abbrev pub invariant-loop-step : goal.invariant-loop-step

@@ -1,5 +1,4 @@
-use Rattle.std.proofs.Common.{◌≡◌, ◌<◌, ℕ, List, [], ◌∷◌, ◌++◌, map, length, ap, arith, Result, Ok, Err}
-use Rattle.std.proofs.lemmas.List.{length_push}
+use Rattle.std.proofs.Common.{◌≡◌, ◌<◌, ℕ, [], ◌∷◌, map, length, arith, Result, Ok, Err}
 use Rattle.std.proofs.lemmas.List.Elements.{All-map}
 use Rattle.std.specs.Prelude.{All, OnOk}
 use Rattle.load_memory.specs.Replies.{ReplyOf, reply_of}
@@ -9,16 +8,12 @@ use Rattle.load_queue.proofs.IdentityLaws.{have-loaders}
 use Rattle.execution.specs.Rounds.{may_at}
 use Rattle.execution.proofs.StoreLaws.{reply-ran}
 use Rattle.load_rounds.proofs.Numbering.{replies-below}
+use Rattle.load_rounds.proofs.Running.{only}
 use Rattle.load_rounds.proofs.round.run_and_keep.Goals as goal
 
 on-ok : {T E P Q : Type 0} (r : Result T E) → (P → Q) → OnOk r P → OnOk r Q
 on-ok (Ok x) f h = f h
 on-ok (Err e) f h = tt
-
--- a list of one is what is taken off its end
-only : {X : Type 0} (all rest : List X) (x : X) → all ≡ rest ++ x ∷ [] → length all ≡ 1 → all ≡ x ∷ []
-only all [] x is one = is
-only all (y ∷ rest) x is one = absurd (omega (arith, one, ap length is, length_push (y ∷ rest) x))
 
 pub returns-then-len-eq1-clause-kept : goal.returns-then-len-eq1-clause-kept
 returns-then-len-eq1-clause-kept g c =

@@ -19,7 +19,7 @@ pub take_owned-requires : goal.take_owned-requires
 take_owned-requires g c =
     let s = state_of c.args.session.now in
     let p : Program = program_of g.P.Execute.program g.P.Execute.text_of c.args.run in
-    let fit = rw c.loaders.ensures at (c.in_ok-replies.ensures.any c.requires.out.answers) in
+    let fit = rw c.loaders.ensures at (c.in_ok-replies.ensures.any c.requires.out.replies) in
     record {
       out = record { out = c.requires.out.stage; latest = c.requires.out.latest };
       round = received-in any_tell s p c.args.pending.items (map reply_of c.in_ok-replies.replies.items) c.requires.out.orders fit;

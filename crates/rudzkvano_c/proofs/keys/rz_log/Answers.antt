@@ -1,16 +1,20 @@
-use Rattle.std.proofs.Common.{rules}
+use Rattle.std.proofs.Common.{rules, Err}
 use Rattle.host_clients.specs.declared.fault.Fault.TheVariants as fault
-use Rattle.flat_orders.specs.Written.{lists_said}
-use Rattle.load_memory.specs.Cells.{cut}
-use Rattle.rudzkvano_c.proofs.Logging.{copies-no-log, copies-none-of-log}
+use Rattle.rudzkvano_c.proofs.Holding.{copies_held}
 use Rattle.rudzkvano_c.proofs.keys.rz_log.Goals as goal
 
 pub returns-in-Err-clause-copied : goal.returns-in-Err-clause-copied
 returns-in-Err-clause-copied c =
-    copies-no-log c.args.loader c.args.rounds.now c.args.stored.now (lists_said c.args.keys.now c.args.texts.now (cut c.args.bytes.now 0 c.args.ends.now)) c.args.client.now.held c.in-Some.object.value _
-    c.in-Some.ensures.taken c.in-Err.fault (search rules) (search rules)
+    (Err c.in-Err.fault, search rules, copies_held _ _ _ _ c.on_client.result _ (Err c.in-Err.fault) (search rules) (λ x y k. tt) _ _ c.on_client.ensures)
 
 pub returns-then-not-has_rounds-clause-copied : goal.returns-then-not-has_rounds-clause-copied
 returns-then-not-has_rounds-clause-copied c =
-    copies-none-of-log c.args.loader c.args.rounds.now c.args.stored.now (lists_said c.args.keys.now c.args.texts.now (cut c.args.bytes.now 0 c.args.ends.now)) c.args.client.now.held c.in-Some.object.value _
-    c.in-Some.ensures.taken c.in-Ok.log fault.BadSize (search rules) (search rules)
+    (Err fault.BadSize, search rules, copies_held _ _ _ _ c.on_client.result _ (Err fault.BadSize) (search rules) (λ x y k. tt) _ _ c.on_client.ensures)
+
+pub returns-in-Err-copy_keys-clause-copied : goal.returns-in-Err-copy_keys-clause-copied
+returns-in-Err-copy_keys-clause-copied c =
+    (Err c.in-Err-copy_keys.fault, search rules, copies_held _ _ _ _ c.on_client.result _ (Err c.in-Err-copy_keys.fault) (search rules) (λ x y k. tt) _ _ c.on_client.ensures)
+
+pub returns-clause-copied : goal.returns-clause-copied
+returns-clause-copied c =
+    (c.copy_rounds.result, search rules, copies_held _ _ _ _ c.on_client.result _ c.copy_rounds.result (search rules) (λ x y k. search rules) _ _ c.on_client.ensures)

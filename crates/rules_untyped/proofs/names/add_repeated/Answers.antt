@@ -1,14 +1,9 @@
-use Rattle.std.proofs.Common.{◌≡◌, ◌∙◌, ◌+◌, ap, ◌∷◌, map, drop, arith}
-use Rattle.std.proofs.lemmas.List.{length-map}
+use Rattle.std.proofs.Common.{◌≡◌, ◌∙◌, ◌+◌, ap, ◌∷◌, map, drop}
 use Rattle.rules_parts.specs.Broken.{BrokenOf}
 use Rattle.rules_untyped.specs.Named.{named}
 use Rattle.rules_untyped.specs.Scans.{report, has_text, left}
-use Rattle.rules_untyped.proofs.ScanLaws.{drop-next, left-all, repeated-short}
+use Rattle.rules_untyped.proofs.ScanLaws.{drop-next, left-all}
 use Rattle.rules_untyped.proofs.names.add_repeated.Goals as goal
-
-pub returns-then-parts-lt2 : goal.returns-then-parts-lt2
-returns-then-parts-lt2 g c =
-    rw (repeated-short (map g.T.HasName.part c.args.parts.now) (omega (arith, length-map c.args.parts.now g.T.HasName.part)))
 
 pub loop-part-init : goal.loop-part-init
 loop-part-init g c =

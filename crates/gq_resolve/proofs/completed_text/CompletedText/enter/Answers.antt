@@ -1,5 +1,5 @@
 use Rattle.std.proofs.Common.{List, [], ◌∷◌, ◌++◌, ap, ◌∙◌}
-use Rattle.answer_json.specs.declared.response.PathSegment.{PathSegment}
+use Rattle.answer_json.specs.declared.field_error.PathSegment.{PathSegment}
 use Rattle.execution.specs.Program.{Part}
 use Rattle.gq_resolve.specs.Texted.{WrittenOf, depth_in, written_of}
 use Rattle.plan_walk.specs.Positions.{is_non_null}

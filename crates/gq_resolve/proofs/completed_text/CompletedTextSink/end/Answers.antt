@@ -1,7 +1,7 @@
 use Rattle.std.proofs.Common.{◌≡◌, List, ◌∷◌, ap, ◌∙◌, map}
 use Rattle.std.proofs.lemmas.Result.{on_ok_weaker}
 use Rattle.execution.specs.Program.{Part}
-use Rattle.gq_resolve.specs.Answered.{part_of}
+use Rattle.answer_json.specs.Answer.{part_of}
 use Rattle.gq_resolve.specs.Texted.{OpenOf, WrittenOf, level_seen, levels_seen, written_of}
 use Rattle.plan_walk.specs.Positions.{kind_of}
 use Rattle.gq_resolve.proofs.Completing.{open-push, steps-left, ended-null, ended-kept}

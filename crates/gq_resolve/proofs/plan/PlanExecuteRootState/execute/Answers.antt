@@ -1,5 +1,5 @@
 use Rattle.gq_check.specs.Plans.{plan_of}
-use Rattle.gq_resolve.specs.PlanLoads.{plan-loads}
+use Rattle.gq_resolve.proofs.PlanLoads.{plan-loads}
 use Rattle.gq_resolve.proofs.Evaluating.{on_ok}
 use Rattle.gq_resolve.proofs.plan.PlanExecuteRootState.execute.Goals as goal
 

@@ -23,22 +23,22 @@ returns-in-In-clause-fault c =
 
 pub returns-in_ok-items-in-Out-clause-items : goal.returns-in_ok-items-in-Out-clause-items
 returns-in_ok-items-in-Out-clause-items c =
-    let server = c.in-Some.server.now in let order = c.in-Out.order in let r = laid_rows c.args.reply.now in let items = c.in_ok-items-in-Out.field-0 in
-    of-read c.args.self.now c.args.number server order c.in-Some.ensures.server (c.in-Some.ensures.some ∙ ap Some c.in-Out.is) (keyed_by_of c.keyed_by-by.result)
-    (c.keyed_by-by.ensures ∙ ap (λ n. keyed_by (by_at server n)) c.loader.ensures) (map key_of c.keys.result.now) c.keys.ensures (λ by keys. map item_of items.items ≡ replied_items by keys r)
+    let order = c.in-Out.order in let r = laid_rows c.args.reply.now in let items = c.in_ok-items-in-Out.field-0 in
+    of-read c.args.self.now c.args.number order (c.in-Some.ensures.some ∙ ap Some c.in-Out.is) (keyed_by_of c.keyed_by-by.result)
+    (c.keyed_by-by.ensures ∙ ap (λ n. keyed_by (by_at c.server.result.now n)) c.loader.ensures ∙ ap (λ s. keyed_by (by_at s order.loader)) c.server.ensures) (map key_of c.keys.result.now) c.keys.ensures (λ by keys. map item_of items.items ≡ replied_items by keys r)
     c.in_ok-items-in-Out.ensures.items
 
 pub returns-in_ok-items-in-Out-clause-taken : goal.returns-in_ok-items-in-Out-clause-taken
 returns-in_ok-items-in-Out-clause-taken c =
-    let server = c.in-Some.server.now in let order = c.in-Out.order in let r = laid_rows c.args.reply.now in
-    of-read c.args.self.now c.args.number server order c.in-Some.ensures.server (c.in-Some.ensures.some ∙ ap Some c.in-Out.is) (keyed_by_of c.keyed_by-by.result)
-    (c.keyed_by-by.ensures ∙ ap (λ n. keyed_by (by_at server n)) c.loader.ensures) (map key_of c.keys.result.now) c.keys.ensures (λ by keys. IsKeyedReply by keys r)
+    let order = c.in-Out.order in let r = laid_rows c.args.reply.now in
+    of-read c.args.self.now c.args.number order (c.in-Some.ensures.some ∙ ap Some c.in-Out.is) (keyed_by_of c.keyed_by-by.result)
+    (c.keyed_by-by.ensures ∙ ap (λ n. keyed_by (by_at c.server.result.now n)) c.loader.ensures ∙ ap (λ s. keyed_by (by_at s order.loader)) c.server.ensures) (map key_of c.keys.result.now) c.keys.ensures (λ by keys. IsKeyedReply by keys r)
     c.in_ok-items-in-Out.ensures.taken
 
 pub returns-in_err-items-in-Out-clause-fault : goal.returns-in_err-items-in-Out-clause-fault
 returns-in_err-items-in-Out-clause-fault c =
-    let server = c.in-Some.server.now in let order = c.in-Out.order in let r = laid_rows c.args.reply.now in let found = c.in_err-items-in-Out.field-0.0 in
+    let order = c.in-Out.order in let r = laid_rows c.args.reply.now in let found = c.in_err-items-in-Out.field-0.0 in
     refused-rows c.args.number r c.args.self.now found c.from_residual.result c.from_residual.ensures.1
-    (of-read c.args.self.now c.args.number server order c.in-Some.ensures.server (c.in-Some.ensures.some ∙ ap Some c.in-Out.is) (keyed_by_of c.keyed_by-by.result)
-    (c.keyed_by-by.ensures ∙ ap (λ n. keyed_by (by_at server n)) c.loader.ensures) (map key_of c.keys.result.now) c.keys.ensures (λ by keys. KeyedReplyFault by keys r found)
+    (of-read c.args.self.now c.args.number order (c.in-Some.ensures.some ∙ ap Some c.in-Out.is) (keyed_by_of c.keyed_by-by.result)
+    (c.keyed_by-by.ensures ∙ ap (λ n. keyed_by (by_at c.server.result.now n)) c.loader.ensures ∙ ap (λ s. keyed_by (by_at s order.loader)) c.server.ensures) (map key_of c.keys.result.now) c.keys.ensures (λ by keys. KeyedReplyFault by keys r found)
     c.in_err-items-in-Out.ensures.fault)

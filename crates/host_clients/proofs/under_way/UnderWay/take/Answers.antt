@@ -1,30 +1,29 @@
-use Rattle.std.proofs.Common.{◌≡◌, Err}
-use Rattle.rounds_by_hand.specs.declared.fault.TakeFault.TheVariants.{NoMemory}
-use Rattle.rounds_by_hand.specs.Hands.{pending_in}
-use Rattle.host_clients.proofs.Refusals.{waits-at}
-use Rattle.host_clients.proofs.Underway.{holds-taken, holds-over, stopped-at, takes-it}
+use Rattle.std.proofs.Common.{◌∙◌, ap, refl}
+use Rattle.rounds_by_hand.specs.Hands.{IsOver, pending_in}
+use Rattle.rounds_by_hand.specs.declared.handed_in.HandedIn.{HandedIn}
+use Rattle.server.specs.Hands.{ByHandOf}
+use Rattle.host_clients.specs.declared.client.HostClient.TheVariants.{Asked}
+use Rattle.host_clients.proofs.Underway.{goes-on, holds-under-way, orders-are, takes-it}
 use Rattle.host_clients.proofs.under_way.UnderWay.take.Goals as goal
 
 pub invariant_of-self : goal.invariant_of-self
 invariant_of-self c =
-    let e = c.answer.ensures in
-    holds-taken c.self.inside.hand c.answer.new.self c.args.number c.args.answer c.in-Ok.ensures.taken c.in-Ok.ensures.underway e.client e.planned c.self.inside.queries.value c.self.inside.note.asked c.self.inside.orders
+    let own = c.self.inside in let e = c.reply.ensures in let old = pending_in own.hand.far in let new = pending_in c.reply.new.self.far in
+    holds-under-way own.queries.value own.hand c.reply.new.self own.note.asked own.orders c.taken.new.orders
+    (goes-on old new c.args.number c.args.reply own.hand.client.session.loaders c.reply.result e.taken e.underway e.stopped) e.planned
+    (c.taken.ensures.orders ∙ orders-are old new c.args.number c.args.reply own.hand c.reply.new.self (IsOver c.reply.new.self.far) c.reply.result own.orders c.self.invariant.orders_are e.taken e.refused
+    (λ is. ap (λ (h : ByHandOf HandedIn). pending_in h.far) is) (λ over. ap pending_in over))
     c.self.invariant
 
-pub invariant_of-self-in-Err-NoMemory : goal.invariant_of-self-in-Err-NoMemory
-invariant_of-self-in-Err-NoMemory c =
-    let e = c.answer.ensures in let is : c.answer.result ≡ Err NoMemory = (let i = c.in-Err-NoMemory.is in let f = c.in-Err-NoMemory.field-0-is in cc) in
-    holds-over c.self.inside.queries.value c.self.inside.hand c.answer.new.self c.self.inside.note.asked c.clear.new.self c.in-Err-NoMemory.ensures.stopped e.planned (e.refused.over is) c.clear.ensures c.self.invariant.is_of
-
-pub returns-in-Ok-clause-taken : goal.returns-in-Ok-clause-taken
-returns-in-Ok-clause-taken c =
-    let e = c.answer.ensures in
-    rw (← c.self.view_is)
-    (takes-it c.self.inside.hand c.answer.new.self c.args.number c.args.answer c.in-Ok.ensures.taken c.in-Ok.ensures.underway e.client e.planned c.self.inside.queries.value c.self.inside.note.asked)
-
-pub returns-in-Err-NoMemory-clause-stopped : goal.returns-in-Err-NoMemory-clause-stopped
-returns-in-Err-NoMemory-clause-stopped c = λ stops.
-    let e = c.answer.ensures in let is : c.answer.result ≡ Err NoMemory = (let i = c.in-Err-NoMemory.is in let f = c.in-Err-NoMemory.field-0-is in cc) in
-    rw (← c.self.view_is)
-    (stopped-at c.self.inside.queries.value c.self.inside.hand c.answer.new.self c.args.number c.self.inside.note.asked c.in-Err-NoMemory.ensures.stopped e.client e.planned
-    (waits-at (pending_in c.self.inside.hand.far) c.args.number c.answer.result is e.refused.no_order e.refused.answered) (e.refused.over is))
+pub returns : goal.returns
+returns c =
+    let own = c.self.inside in let e = c.reply.ensures in let old = pending_in own.hand.far in let new = pending_in c.reply.new.self.far in
+    rw (← c.self.view_is, c.taken.ensures.same)
+    (takes-it (λ (h : ByHandOf HandedIn). Asked (record { hand = h; server = own.queries.value; asked = own.note.asked })) own.hand c.reply.new.self c.args.number c.args.reply c.reply.result e.refused e.taken
+    (record {
+      server_is = refl;
+      asked_is = refl;
+      planned_is = e.planned;
+      goes_on = goes-on old new c.args.number c.args.reply own.hand.client.session.loaders c.reply.result e.taken e.underway e.stopped;
+    })
+    e.client (λ over. over))

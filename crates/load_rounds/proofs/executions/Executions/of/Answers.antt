@@ -2,14 +2,20 @@ use Rattle.std.proofs.Common.{◌≡◌, ◌++◌, List, ◌∷◌, [], append_a
 use Rattle.std.proofs.lemmas.List.{append-nil, map-append}
 use Rattle.load_rounds.specs.Executions.{PartOf, plans_in, reports_in}
 use Rattle.load_rounds.proofs.GoingOn.{begun-fits, fit-more, unreported-begun}
-use Rattle.load_rounds.proofs.Running.{none-left}
+use Rattle.load_rounds.proofs.Running.{none-left, only}
 use Rattle.load_rounds.proofs.executions.Executions.of.Goals as goal
+
+pub returns-then-len-eq1 : goal.returns-then-len-eq1
+returns-then-len-eq1 g c =
+    let plan = c.in-Some.plan in
+    let whole : c.args.plans.items ≡ plan ∷ [] = only c.args.plans.items c.pop.new.self.items plan c.in-Some.ensures.items (omega (arith, c.if-len-eq1.true, c.len.ensures, c.args.plans.ok.0)) in
+    rw whole c.of_one.ensures
 
 pub loop-plan-preserved : goal.loop-plan-preserved
 loop-plan-preserved g c =
-    let plan = c.in-Some.plan in
+    let plan = c.in-Some-plan.plan in
     let rest = c.next.new.self.rest.items in
-    let is : c.loop-plan.plan-iterator.rest.items ≡ plan ∷ rest = c.in-Some.ensures.steps.0 in
+    let is : c.loop-plan.plan-iterator.rest.items ≡ plan ∷ rest = c.in-Some-plan.ensures.steps.0 in
     let was = c.loop-plan.invariant in
     let items = c.loop-plan.executions.items in
     let one = c.start.result in

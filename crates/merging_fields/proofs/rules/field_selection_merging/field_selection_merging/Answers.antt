@@ -21,7 +21,6 @@ use Rattle.merging_fields.specs.Orders.{IsFree, IsGraphOrder}
 use Rattle.merging_fields.specs.FieldSelectionMerging.{IsMerging}
 use Rattle.merging_fields.proofs.Acyclic.{one-place, free-of, ranks, are-ranked}
 use Rattle.merging_fields.proofs.Listed.{counted}
-use Rattle.merging_fields.proofs.LoneSets.{lone-merged}
 use Rattle.merging_fields.proofs.Merged.{all-merged}
 use Rattle.merging_fields.proofs.Ordering.{is-free, order-of}
 use Rattle.merging_fields.proofs.rules.field_selection_merging.field_selection_merging.Goals as goal
@@ -50,9 +49,6 @@ known p g listed graph cycles =
       fixed = ranked-fixed (ranks defs d free) (place_in d.fragments) d (λ q. refl) ranked;
       count = counted defs d p.fields (ap (λ (q : PartsOf). q.fields) listed);
     }
-
-pub returns-then-has_lone_fields : goal.returns-then-has_lone_fields
-returns-then-has_lone_fields c = lone-merged (parts_in c.args.parts.now) (c.has_lone_fields.ensures c.if-has_lone_fields.true)
 
 pub returns-then-branch : goal.returns-then-branch
 returns-then-branch c =

@@ -1,5 +1,5 @@
 use Rattle.std.specs.Arc.{arc_value}
-use Rattle.std.proofs.Common.{◌≡◌, ◌-◌, ◌∙◌, ◌<◌, ◌++◌, rules, ℕ, List, [], ◌∷◌, map, length, arith, sym, ap, subst, refl, Option, Some, Vec, Global, string_bytes, false}
+use Rattle.std.proofs.Common.{◌≡◌, ◌-◌, ◌∙◌, ◌<◌, ◌++◌, rules, ℕ, List, [], ◌∷◌, map, length, arith, sym, ap, subst, refl, Bool, Option, Some, None, Vec, Global, string_bytes, false}
 use Rattle.std.specs.Prelude.{OnOk}
 use Rattle.std.specs.Option.{option_map, option_copied}
 use Rattle.std.proofs.lemmas.List.{take_all}
@@ -11,9 +11,10 @@ use Rattle.gq_bindings.specs.Seen.{step_of}
 use Rattle.load_memory.specs.Keys.{KeyOf, key_of, borrowed_of}
 use Rattle.load_memory.specs.Rows.{RowOf}
 use Rattle.load_memory.specs.Outcomes.{outcome_of}
+use Rattle.load_memory.specs.Pairs.{MemoryOf}
 use Rattle.load_memory.specs.declared.key.Key.{Key}
 use Rattle.execution.specs.Loads.{Reader}
-use Rattle.execution.specs.Program.{Fault, Program, Is, Under, ListOf, ObjectOf}
+use Rattle.execution.specs.Program.{Fault, Null, Program, Is, Under, ListOf, ObjectOf}
 use Rattle.gq_check.specs.Plans.{PlanOf, plan_of}
 use Rattle.plan_program.specs.PlanPrograms.{TypeOf, object_type, type_fault, type_of_row, places, read_key, read_if, typed_object, object_program}
 use Rattle.plan_program.specs.FieldValues.{ChildrenOf}
@@ -22,12 +23,13 @@ use Rattle.plan_walk.specs.Groups.{children_at, then_at, steps_in, Covers, AreOn
 use Rattle.plan_walk.specs.Puts.{Ends, Waits, View, OnwardOf, puts}
 use Rattle.plan_walk.specs.Positions.{is_non_null, onward_of, later_of}
 use Rattle.plan_walk.specs.Reading.{lookup}
-use Rattle.plan_walk.specs.Walks.{WalksList, items_read}
+use Rattle.plan_walk.specs.Walks.{WalksAt, WalksList, items_read}
 use Rattle.plan_program.specs.Prepared.{keys_seen}
 use Rattle.plan_walk.specs.declared.positions.Onward.{Onward}
 use Rattle.plan_walk.specs.Following.{followed_puts}
 use Rattle.plan_walk.specs.declared.loading_fields.LoadingField.{LoadingField}
 use Rattle.plan_walk.specs.declared.loading_fields.Member.{Member}
+use Rattle.plan_walk.proofs.Lookups.{looked-up}
 use Rattle.plan_walk.proofs.Touring.{Laws, goes-put, goes-as, walks-as, goes-probed, goes-entered, goes-ended, goes-full, goes-made, goes-only-none, goes-only, goes-let_go, fields_put, fields-more, fields-rest, known-at, items-more, items-rest, items-whole, joined_by, after-one, after-taken, after-followed, after-missing, after-row, after-head, map-map}
 use Rattle.plan_walk.proofs.walk.Walk.+walk.Given.{Over}
 use Rattle.plan_walk.proofs.walk.Walk.+walk.Goals as goal
@@ -153,28 +155,46 @@ ask-returns-in-Each g t c =
     let put = λ (o : Onward). WalksList g.S.Sink.goes g.S.Sink.below c.args.self.now o (λ v. items_read v c.in-Each.items (onward_of o) c.in-Each.loader (keys_seen c.deref.result.now)) c.args.at.now c.each.new.at in
     rw (c.in-Each.is, ← c.deref.ensures.value) (subst (λ (o : Onward). OnOk c.each.result (put o)) c.at-in-Each.ensures c.each.ensures)
 
-pub read_from-returns-in-Known : goal.read_from-returns-in-Known
-read_from-returns-in-Known g t c =
-    on_ok_weaker c.read.result
-    (λ p. walks-as (is_non_null c.args.to.nullability) _ _ _ p (λ k v cov. sym (c.in-Known.ensures c.args.loader (v.after (onward_of c.args.to.onward)))))
-    c.read.ensures
+-- a load by a key that is made of the row
+pub ask-returns-in-Known-key_over : goal.ask-returns-in-Known-key_over
+ask-returns-in-Known-key_over g t c =
+    let non_null : Bool = is_non_null c.args.nullability in
+    let onward : OnwardOf = record { group = c.in-Load.group; later = None; levels = c.args.levels } in
+    let put = λ (o : Onward). WalksAt g.S.Sink.goes g.S.Sink.below c.args.self.now (record { onward = o; nullability = c.args.nullability })
+    (λ v. read_key c.in-Load.loader (borrowed_of c.in-Known-key_over.key) (v.after (onward_of o))) c.args.at.now c.read.new.at in
+    rw c.in-Load.is (on_ok_weaker c.read.result
+    (λ p. walks-as non_null _ _ _ p (λ k v cov. sym (c.in-Known-key_over.ensures c.in-Load.loader (v.after onward))))
+    (subst (λ (o : Onward). OnOk c.read.result (put o)) c.at.ensures c.read.ensures))
+
+pub ask-returns-in_ok-no_column_message-in-Lacking : goal.ask-returns-in_ok-no_column_message-in-Lacking
+ask-returns-in_ok-no_column_message-in-Lacking g t c =
+    let non_null : Bool = is_non_null c.args.nullability in
+    let onward : OnwardOf = record { group = c.in-Load.group; later = None; levels = c.args.levels } in
+    rw c.in-Load.is (on_ok_weaker c.leaf_value-in-Lacking.result
+    (λ q. walks-as non_null _ (λ v. Is (Fault (string_bytes c.in_ok-no_column_message-in-Lacking.field-0))) _ (goes-put refl (λ k v _. q v))
+    (λ k v cov. ap (λ m. Is (Fault m)) c.in_ok-no_column_message-in-Lacking.ensures ∙ sym (c.in-Lacking.ensures c.in-Load.loader (v.after onward))))
+    c.leaf_value-in-Lacking.ensures)
+
+pub ask-returns-in-Null : goal.ask-returns-in-Null
+ask-returns-in-Null g t c =
+    let non_null : Bool = is_non_null c.args.nullability in
+    let onward : OnwardOf = record { group = c.in-Load.group; later = None; levels = c.args.levels } in
+    rw c.in-Load.is (on_ok_weaker c.leaf_value-in-Null.result
+    (λ q. walks-as non_null _ (λ v. Is Null) _ (goes-put refl (λ k v _. q v))
+    (λ k v cov. sym (c.in-Null.ensures c.in-Load.loader (v.after onward))))
+    c.leaf_value-in-Null.ensures)
 
 pub read_if-returns-in-Some : goal.read_if-returns-in-Some
 read_if-returns-in-Some g t c = rw (c.in-Some.is, ← c.as_key_ref.ensures) c.read.ensures
-
-pub read_from-returns-in_ok-no_column_message-in-Lacking : goal.read_from-returns-in_ok-no_column_message-in-Lacking
-read_from-returns-in_ok-no_column_message-in-Lacking g t c =
-    on_ok_weaker c.leaf_value-in-Lacking.result
-    (λ q. walks-as (is_non_null c.args.to.nullability) _ (λ v. Is (Fault (string_bytes c.in_ok-no_column_message-in-Lacking.field-0))) _ (goes-put refl (λ k v _. q v))
-    (λ k v cov. ap (λ m. Is (Fault m)) c.in_ok-no_column_message-in-Lacking.ensures ∙ sym (c.in-Lacking.ensures c.args.loader (v.after (onward_of c.args.to.onward)))))
-    c.leaf_value-in-Lacking.ensures
 
 -- ---- loads
 
 pub read-returns-in-Some : goal.read-returns-in-Some
 read-returns-in-Some g t c =
-    let known : lookup c.args.self.now.memory.now (record { loader = c.args.loader; key = borrowed_of c.args.key }) ≡ Some (outcome_of c.in-Some.outcome.now) =
-    sym c.in_ok-outcome.ensures ∙ ap (λ x. option_map outcome_of (option_copied x)) c.in-Some.is in
+    let m : MemoryOf = c.args.self.now.memory.now in
+    let key : KeyOf = borrowed_of c.args.key in
+    let known : lookup m (record { loader = c.args.loader; key = key }) ≡ Some (outcome_of c.in-Some.outcome.now) =
+    sym (looked-up m c.args.loader key (c.knows_nothing.ensures.there c.if-knows_nothing.false)) ∙ sym c.in_ok-outcome.ensures ∙ ap (λ x. option_map outcome_of (option_copied x)) c.in-Some.is in
     rw known (on_ok_weaker c.go_on.result (λ p. goes-probed _ p) c.go_on.ensures)
 
 pub go_on-returns-in-Rows : goal.go_on-returns-in-Rows

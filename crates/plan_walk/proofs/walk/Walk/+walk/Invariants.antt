@@ -43,9 +43,6 @@ decreases-read g l = 30 * l.to.onward.levels + 6
 abbrev pub decreases-read_if : goal.decreases-read_if
 decreases-read_if g l = 30 * l.to.onward.levels + 7
 
-abbrev pub decreases-read_from : goal.decreases-read_from
-decreases-read_from g l = 30 * l.to.onward.levels + 7
-
 abbrev pub decreases-each : goal.decreases-each
 decreases-each g l = 30 * l.onward.levels + 8
 

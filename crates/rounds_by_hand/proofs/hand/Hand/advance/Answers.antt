@@ -5,7 +5,8 @@ use Rattle.load_rounds.specs.Sessions.{state_of}
 use Rattle.rounds_by_hand.specs.Hands.{pending_in, StoresReplies}
 use Rattle.rounds_by_hand.specs.Pending.{is_in}
 use Rattle.rounds_by_hand.proofs.Far.{keeps-hand, same-kept}
-use Rattle.rounds_by_hand.proofs.Storing.{stores-given, if-step}
+use Rattle.rounds_by_hand.proofs.Becoming.{if-step}
+use Rattle.rounds_by_hand.proofs.Storing.{stores-given}
 use Rattle.rounds_by_hand.proofs.hand.Hand.advance.Goals as goal
 
 pub returns-clause-stored : goal.returns-clause-stored

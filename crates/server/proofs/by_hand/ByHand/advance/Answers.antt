@@ -1,54 +1,18 @@
-use Rattle.std.proofs.Common.{◌∙◌, List, map, refl, sym, subst}
-use Rattle.load_rounds.specs.SharedRounds.{report_of}
-use Rattle.load_rounds.specs.declared.answer.Answer.{Answer}
-use Rattle.server.specs.Hands.{GoesOn, Responds, planned_of, refusals_in}
-use Rattle.server.specs.Planned.{IsResponseOf}
-use Rattle.server.proofs.Handing.{goes, held, holds-on, refusal-responds, responds, told}
+use Rattle.std.proofs.Common.{◌≡◌, ◌∙◌, ◌⊎◌, inl, inr, sym, true}
+use Rattle.std.proofs.lemmas.Result.{on_ok_weaker}
+use Rattle.std.specs.List.{list_all}
+use Rattle.rounds_by_hand.specs.Hands.{pending_in}
+use Rattle.rounds_by_hand.specs.Pending.{is_in}
+use Rattle.rounds_by_hand.proofs.Becoming.{if-step}
+use Rattle.server.proofs.Handing.{stores-replies}
+use Rattle.server.specs.Hands.{StoresReplies}
 use Rattle.server.proofs.by_hand.ByHand.advance.Goals as goal
 
-pub returns-then-self-clause-answered : goal.returns-then-self-clause-answered
-returns-then-self-clause-answered g c =
-    let hand = c.self.inside.hand in
-    let form = c.self.inside.form in
-    let planned = planned_of form c.self.inside.loaders hand.plans in
-    let refused = sym c.self.invariant.refuses_is ∙ c.if-self.true in
-    let answer = c.in_ok-response.field-0 in
-    let response = subst (λ (answers : List Answer). IsResponseOf form.is_array (refusals_in form) (map report_of answers) (report_of answer)) c.new.ensures.items c.in_ok-response.ensures in
-    rw (← c.self.view_is) (refusal-responds c.self.inside.queries c.self.inside.max_answer planned g.S.LocalSource.may_tell hand refused (c.self.invariant.refused refused) answer response)
-
-pub invariant_of-self : goal.invariant_of-self
-invariant_of-self g c = holds-on c.self.inside.queries c.self.inside.max_answer c.self.inside.form c.self.inside.loaders c.self.inside.is_refused c.self.inside.hand c.advance.new.self c.self.invariant c.if-self.false c.advance.ensures.kept
-
-pub returns-in_err-advance-clause-underway : goal.returns-in_err-advance-clause-underway
-returns-in_err-advance-clause-underway g c =
-    let hand = c.self.inside.hand in
-    let planned = planned_of c.self.inside.form c.self.inside.loaders hand.plans in
-    let e = c.advance.ensures in
-    rw (← c.self.view_is) (told c.self.inside.queries c.self.inside.max_answer c.self.inside.form c.self.inside.loaders hand c.advance.new.self (GoesOn g.S.LocalSource.may_tell (held c.self.inside.queries c.self.inside.max_answer planned hand)) e.kept.plans
-    (goes c.self.inside.queries c.self.inside.max_answer planned g.S.LocalSource.may_tell hand c.advance.new.self refl e.kept.plans e.underway))
-
-pub returns-in_err-step_of-clause-underway : goal.returns-in_err-step_of-clause-underway
-returns-in_err-step_of-clause-underway g c =
-    let hand = c.self.inside.hand in
-    let planned = planned_of c.self.inside.form c.self.inside.loaders hand.plans in
-    let e = c.advance.ensures in
-    rw (← c.self.view_is) (told c.self.inside.queries c.self.inside.max_answer c.self.inside.form c.self.inside.loaders hand c.advance.new.self (GoesOn g.S.LocalSource.may_tell (held c.self.inside.queries c.self.inside.max_answer planned hand)) e.kept.plans
-    (goes c.self.inside.queries c.self.inside.max_answer planned g.S.LocalSource.may_tell hand c.advance.new.self refl e.kept.plans e.underway))
-
-pub returns-clause-underway : goal.returns-clause-underway
-returns-clause-underway g c =
-    let hand = c.self.inside.hand in
-    let planned = planned_of c.self.inside.form c.self.inside.loaders hand.plans in
-    let e = c.advance.ensures in
-    rw (← c.self.view_is) (told c.self.inside.queries c.self.inside.max_answer c.self.inside.form c.self.inside.loaders hand c.advance.new.self (GoesOn g.S.LocalSource.may_tell (held c.self.inside.queries c.self.inside.max_answer planned hand)) e.kept.plans
-    (goes c.self.inside.queries c.self.inside.max_answer planned g.S.LocalSource.may_tell hand c.advance.new.self refl e.kept.plans e.underway))
-
-pub returns-clause-answered : goal.returns-clause-answered
-returns-clause-answered g c =
-    let hand = c.self.inside.hand in
-    let planned = planned_of c.self.inside.form c.self.inside.loaders hand.plans in
-    let e = c.advance.ensures in
-    let open' = sym c.self.invariant.refuses_is ∙ c.if-self.false in
-    let step = c.in_ok-step_of.field-0 in
-    rw (← c.self.view_is) (told c.self.inside.queries c.self.inside.max_answer c.self.inside.form c.self.inside.loaders hand c.advance.new.self (λ b. Responds g.S.LocalSource.may_tell (held c.self.inside.queries c.self.inside.max_answer planned hand) b step) e.kept.plans
-    (responds c.self.inside.queries c.self.inside.max_answer planned g.S.LocalSource.may_tell hand c.advance.new.self refl e.kept.plans open' c.in_ok-advance.advance step c.in_ok-step_of.ensures.made c.in_ok-advance.ensures.answers))
+pub returns-clause-stored : goal.returns-clause-stored
+returns-clause-stored g c =
+    let old = c.args.self.now in
+    let new = c.ask_and_advance.new.self in
+    let result = c.ask_and_advance.result in
+    let each : list_all is_in (pending_in old.far) ≡ true = rw c.orders.ensures at (sym c.are_in.ensures ∙ c.if-not-are_in.false) in
+    if-step (StoresReplies old new.client) result
+    (on_ok_weaker result (stores-replies g.S.LocalSource.may_tell old new.client each) c.ask_and_advance.ensures.stored)

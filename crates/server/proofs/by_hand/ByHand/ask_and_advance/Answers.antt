@@ -1,4 +1,6 @@
 use Rattle.std.proofs.Common.{◌∙◌, List, map, refl, sym, subst}
+use Rattle.std.proofs.lemmas.Result.{IfOk-weaker}
+use Rattle.std.specs.Prelude.{IfOk}
 use Rattle.load_rounds.specs.SharedRounds.{report_of}
 use Rattle.load_rounds.specs.declared.answer.Answer.{Answer}
 use Rattle.server.specs.Hands.{GoesOn, Responds, planned_of, refusals_in}
@@ -19,16 +21,8 @@ returns-then-self-clause-answered g c =
 pub invariant_of-self : goal.invariant_of-self
 invariant_of-self g c = holds-on c.self.inside.queries c.self.inside.max_answer c.self.inside.form c.self.inside.loaders c.self.inside.is_refused c.self.inside.hand c.ask_and_advance.new.self c.self.invariant c.if-self.false c.ask_and_advance.ensures.kept
 
-pub returns-in_err-advance-clause-underway : goal.returns-in_err-advance-clause-underway
-returns-in_err-advance-clause-underway g c =
-    let hand = c.self.inside.hand in
-    let planned = planned_of c.self.inside.form c.self.inside.loaders hand.plans in
-    let e = c.ask_and_advance.ensures in
-    rw (← c.self.view_is) (told c.self.inside.queries c.self.inside.max_answer c.self.inside.form c.self.inside.loaders hand c.ask_and_advance.new.self (GoesOn g.S.LocalSource.may_tell (held c.self.inside.queries c.self.inside.max_answer planned hand)) e.kept.plans
-    (goes c.self.inside.queries c.self.inside.max_answer planned g.S.LocalSource.may_tell hand c.ask_and_advance.new.self refl e.kept.plans e.underway))
-
-pub returns-in_err-step_of-clause-underway : goal.returns-in_err-step_of-clause-underway
-returns-in_err-step_of-clause-underway g c =
+pub returns-in_err-did-clause-underway : goal.returns-in_err-did-clause-underway
+returns-in_err-did-clause-underway g c =
     let hand = c.self.inside.hand in
     let planned = planned_of c.self.inside.form c.self.inside.loaders hand.plans in
     let e = c.ask_and_advance.ensures in
@@ -47,8 +41,7 @@ pub returns-clause-answered : goal.returns-clause-answered
 returns-clause-answered g c =
     let hand = c.self.inside.hand in
     let planned = planned_of c.self.inside.form c.self.inside.loaders hand.plans in
-    let e = c.ask_and_advance.ensures in
+    let e = c.in_ok-did.ensures in
     let open' = sym c.self.invariant.refuses_is ∙ c.if-self.false in
-    let step = c.in_ok-step_of.field-0 in
-    rw (← c.self.view_is) (told c.self.inside.queries c.self.inside.max_answer c.self.inside.form c.self.inside.loaders hand c.ask_and_advance.new.self (λ b. Responds g.S.LocalSource.may_tell (held c.self.inside.queries c.self.inside.max_answer planned hand) b step) e.kept.plans
-    (responds c.self.inside.queries c.self.inside.max_answer planned g.S.LocalSource.may_tell hand c.ask_and_advance.new.self refl e.kept.plans open' c.in_ok-advance.advance step c.in_ok-step_of.ensures.made c.in_ok-advance.ensures.answers))
+    let own = IfOk-weaker c.try_map.result _ _ (λ own is. responds c.self.inside.queries c.self.inside.max_answer planned g.S.LocalSource.may_tell hand c.ask_and_advance.new.self refl e.kept.plans open' c.in_ok-did.did own is e.answers) c.try_map.ensures.made in
+    rw (← c.self.view_is) (told c.self.inside.queries c.self.inside.max_answer c.self.inside.form c.self.inside.loaders hand c.ask_and_advance.new.self (λ b. IfOk c.try_map.result (Responds g.S.LocalSource.may_tell (held c.self.inside.queries c.self.inside.max_answer planned hand) b)) e.kept.plans own)

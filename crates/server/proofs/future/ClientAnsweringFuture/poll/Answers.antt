@@ -16,9 +16,9 @@ returns-in-Err-clause-value g c =
     (polled-failed g.S.LocalSource.may_tell c.in-Some.by_hand c.ask_and_advance.new.self e.underway e.planned e.same c.take_client-in-Err.result c.in-Err.fault c.take_client-in-Err.ensures.client
     c.take_client-in-Err.ensures.stopped)
 
-pub returns-in-Some-into_answer-clause-value : goal.returns-in-Some-into_answer-clause-value
-returns-in-Some-into_answer-clause-value g c =
+pub returns-in-Some-into_done-clause-value : goal.returns-in-Some-into_done-clause-value
+returns-in-Some-into_done-clause-value g c =
     let e = c.ask_and_advance.ensures in
-    subst (λ b. Gives g.S.LocalSource.may_tell b (c.take_client.result, Ok c.in-Some-into_answer.answer)) (sym c.in-Some.is)
-    (polled-answered g.S.LocalSource.may_tell c.in-Some.by_hand c.ask_and_advance.new.self e.underway e.planned e.same c.take_client.result c.in-Ok.step c.in-Some-into_answer.answer
-    c.take_client.ensures.client (sym c.into_answer.ensures ∙ c.in-Some-into_answer.is) c.in-Ok.ensures.answered)
+    subst (λ b. Gives g.S.LocalSource.may_tell b (c.take_client.result, Ok c.in-Some-into_done.answer)) (sym c.in-Some.is)
+    (polled-answered g.S.LocalSource.may_tell c.in-Some.by_hand c.ask_and_advance.new.self e.underway e.planned e.same c.take_client.result c.in-Ok.progress c.in-Some-into_done.answer
+    c.take_client.ensures.client (sym c.into_done.ensures ∙ c.in-Some-into_done.is) c.in-Ok.ensures.answered)

@@ -1,5 +1,7 @@
+use Rattle.std.proofs.lemmas.Option.{IfSome_then}
 use Rattle.std.proofs.lemmas.Result.{IfOk-weaker}
-use Rattle.server.proofs.LoadsByHand.{asks-advances, goes-on, holds-after, loads-keys, none-missing, within-after}
+use Rattle.rounds_by_hand.specs.Progress.{done_in}
+use Rattle.server.proofs.LoadsByHand.{asks-advances, done-lacks-none, goes-on, holds-after, loads-keys, within-after}
 use Rattle.server.proofs.load_by_hand.LoadByHand.ask_and_advance.Goals as goal
 
 pub invariant_of-self : goal.invariant_of-self
@@ -10,19 +12,19 @@ returns-in_err-did-clause-underway g c =
     let e = c.ask_and_advance.ensures in
     rw (← c.self.view_is) (goes-on c.self.inside.keys c.self.inside.queries c.self.inside.max_answer g.S.LocalSource.may_tell c.self.inside.hand c.ask_and_advance.new.self c.self.invariant.plans e.kept.plans e.underway)
 
-pub told-requires-clause-within : goal.told-requires-clause-within
-told-requires-clause-within g c = rw c.session.ensures (within-after c.self.inside.keys c.self.inside.queries c.self.inside.max_answer g.S.LocalSource.may_tell c.self.inside.hand c.ask_and_advance.new.self c.self.invariant c.ask_and_advance.ensures.kept)
-
-pub told-requires-clause-known : goal.told-requires-clause-known
-told-requires-clause-known g c = λ finished.
+pub try_map-requires : goal.try_map-requires
+try_map-requires g c =
     let e = c.in_ok-did.ensures in
-    rw c.session.ensures (none-missing c.self.inside.keys c.self.inside.queries c.self.inside.max_answer g.S.LocalSource.may_tell c.self.inside.hand c.ask_and_advance.new.self c.self.invariant e.kept c.in_ok-did.did e.answers e.advanced e.stored finished)
+    let new = c.ask_and_advance.new.self in
+    let within = within-after c.self.inside.keys c.self.inside.queries c.self.inside.max_answer g.S.LocalSource.may_tell c.self.inside.hand new c.self.invariant c.ask_and_advance.ensures.kept in
+    let none = done-lacks-none c.self.inside.keys c.self.inside.queries c.self.inside.max_answer g.S.LocalSource.may_tell c.self.inside.hand new c.self.invariant e.kept c.in_ok-did.did e.answers e.advanced e.stored in
+    IfSome_then (done_in c.in_ok-did.did) none (λ answers lacks. (rw c.session-session.ensures within, rw c.session-session.ensures lacks))
 
 pub returns-clause-advanced : goal.returns-clause-advanced
 returns-clause-advanced g c =
     let e = c.in_ok-did.ensures in
     rw (← c.self.view_is)
-    (IfOk-weaker c.told.result _ _ (λ told known. asks-advances c.self.inside.keys c.self.inside.queries c.self.inside.max_answer g.S.LocalSource.may_tell c.self.inside.hand c.ask_and_advance.new.self c.self.invariant e.kept c.in_ok-did.did told (rw c.session.ensures at known) e.advanced e.stored) c.told.ensures.told)
+    (IfOk-weaker c.try_map.result _ _ (λ told is. asks-advances c.self.inside.keys c.self.inside.queries c.self.inside.max_answer g.S.LocalSource.may_tell c.self.inside.hand c.ask_and_advance.new.self c.self.invariant e.kept c.in_ok-did.did told (rw c.session-session.ensures at is) e.stored e.advanced) c.try_map.ensures.made)
 
 pub returns-clause-underway : goal.returns-clause-underway
 returns-clause-underway g c =
@@ -33,4 +35,4 @@ pub returns-clause-loaded : goal.returns-clause-loaded
 returns-clause-loaded g c =
     let e = c.in_ok-did.ensures in
     rw (← c.self.view_is)
-    (IfOk-weaker c.told.result _ _ (λ told known. loads-keys c.self.inside.keys c.self.inside.queries c.self.inside.max_answer g.S.LocalSource.may_tell c.self.inside.hand c.ask_and_advance.new.self c.self.invariant e.kept c.in_ok-did.did e.answers told (rw c.session.ensures at known)) c.told.ensures.told)
+    (IfOk-weaker c.try_map.result _ _ (λ told is. loads-keys c.self.inside.keys c.self.inside.queries c.self.inside.max_answer g.S.LocalSource.may_tell c.self.inside.hand c.ask_and_advance.new.self c.self.invariant e.kept c.in_ok-did.did told (rw c.session-session.ensures at is) e.answers) c.try_map.ensures.made)

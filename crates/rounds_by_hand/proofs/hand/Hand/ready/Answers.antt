@@ -1,0 +1,55 @@
+use Rattle.std.proofs.Common.{◌∙◌, sym, ap, subst, refl}
+use Rattle.execution.specs.Sessions.{Forgot}
+use Rattle.load_rounds.specs.Sessions.{state_of, after_step}
+use Rattle.load_rounds.specs.Executions.{plans_in}
+use Rattle.load_rounds.specs.Runs.{RunOf, IsRun}
+use Rattle.load_rounds.specs.SharedRounds.{joint}
+use Rattle.load_rounds.proofs.Stages.{forgot-stops, stopped-all}
+use Rattle.load_rounds.proofs.States.{on-err}
+use Rattle.rounds_by_hand.proofs.Far.{forgot-kept, same-kept}
+use Rattle.rounds_by_hand.proofs.hand.Hand.ready.Goals as goal
+
+pub returns-in_err-begin_all-in-Handed-clause-stopped : goal.returns-in_err-begin_all-in-Handed-clause-stopped
+returns-in_err-begin_all-in-Handed-clause-stopped g c =
+    let p = joint g.P.Execute.program g.P.Execute.text_of c.self.inside.plans.value.items in
+    rw c.replace.ensures.after (on-err c.from_residual.result (λ begun h.
+    let own = rw (sym c.replace.ensures.value ∙ c.in-Handed.is) at (rw (← c.self.view_is) at h) in
+    forgot-stops g.S.LocalSource.may_tell p (state_of begun) (state_of c.begin_all.new.self) (c.begin_all.ensures.forgot ∙ ap (λ s. after_step (state_of s) Forgot) own)))
+
+pub returns-in_err-store-in-Out-clause-stopped : goal.returns-in_err-store-in-Out-clause-stopped
+returns-in_err-store-in-Out-clause-stopped g c =
+    let X = g.P.Execute in
+    let may = g.S.LocalSource.may_tell in
+    let run = c.in-Out.run' in
+    rw c.replace.ensures.after (on-err c.from_residual-in_err-store-in-Out.result (λ begun h.
+    let gone = rw (sym c.replace.ensures.value ∙ c.in-Out.is) at (rw (← c.self.view_is) at h) in
+    stopped-all X.program X.text_of X.loaders X.fits may (state_of begun) (state_of c.store.new.session) c.self.inside.plans.value.items run gone.0
+    (subst (λ s. IsRun X.program X.text_of may (state_of begun) s run) (sym c.in_err-store-in-Out.ensures.lost) gone.1)))
+
+pub returns-in_ok-store-in-Out-clause-ready : goal.returns-in_ok-store-in-Out-clause-ready
+returns-in_ok-store-in-Out-clause-ready g c =
+    let value = sym c.replace.ensures.value ∙ c.in-Out.is in
+    let round = rw value at (rw (← c.self.view_is) at c.requires.round) in
+    let ready = c.in_ok-store-in-Out.ensures.ready in
+    rw (← c.self.view_is) (record {
+      left = rw value (λ e. absurd (cc e));
+      stage = ap (λ (r : RunOf _ _). r.stage) ready;
+      plans = ap (λ (r : RunOf _ _). plans_in r.parts) ready ∙ round.0;
+      holds = c.in_ok-store-in-Out.ensures.holds;
+      went = λ begun h. let gone = rw value at h in c.in_ok-store-in-Out.ensures.ran gone.2 (state_of begun) gone.1;
+    })
+
+-- ---- the loaders stay
+
+pub returns-in-Over-clause-loaders : goal.returns-in-Over-clause-loaders
+returns-in-Over-clause-loaders g c =
+    let s = state_of c.self.inside.session in
+    rw (← c.self.view_is) (same-kept s s refl)
+
+pub returns-in_err-begin_all-in-Handed-clause-loaders : goal.returns-in_err-begin_all-in-Handed-clause-loaders
+returns-in_err-begin_all-in-Handed-clause-loaders g c =
+    rw (← c.self.view_is) (forgot-kept (state_of c.self.inside.session) (state_of c.begin_all.new.self) c.begin_all.ensures.forgot)
+
+pub returns-in_ok-begin_all-in-Handed-clause-loaders : goal.returns-in_ok-begin_all-in-Handed-clause-loaders
+returns-in_ok-begin_all-in-Handed-clause-loaders g c =
+    rw (← c.self.view_is) (forgot-kept (state_of c.self.inside.session) (state_of c.begin_all.new.self) c.begin_all.ensures.forgot)
