@@ -393,6 +393,8 @@ static void reads_answer(world *w, int h) {
 
 static void limits(world *w, int h) {
     CHECK(rz_limit_answers(&w->at[h], 5), unless_busy(&w->of[h], RZ_DONE));
+    CHECK(rz_limit_work(&w->at[h], SIZE_MAX), unless_busy(&w->of[h], RZ_DONE));
+    CHECK(rz_limit_rounds(&w->at[h], UINT32_MAX), unless_busy(&w->of[h], RZ_DONE));
     lets_go(&w->of[h]);
 }
 
@@ -516,6 +518,8 @@ static void still_answers(rz_handle *client, rz_handle *queries) {
     *client = (rz_handle){0};
     rz_cancel(&host.client);
     CHECK(rz_limit_answers(&host.client, 0), RZ_DONE);
+    CHECK(rz_limit_work(&host.client, 0), RZ_DONE);
+    CHECK(rz_limit_rounds(&host.client, 0), RZ_DONE);
     CHECK(rz_restart(&host.client), RZ_DONE);
     CHECK(rz_begin(&host.client, queries, TEXT(LINE)), RZ_DONE);
     CHECK(rz_next(&host.client), RZ_ROUND);

@@ -201,7 +201,18 @@ static void close_client(host *host) {
     close_host(host);
 }
 
-/* Opens a server and queries, answers all lines by two clients, of which the second takes the plans that are kept, and closes all. */
+/* Limits a client. A request of four rounds is refused after one, also where another one was made before memory ran out. From then on only the work
+   is counted. */
+static void limit_again(host *host, rz_handle *queries) {
+    request asked = {.query = text_of("{users{liked{author{name}}}}"), .operation = text_of(""), .variables = text_of(""),
+                     .answer = text_of("{\"errors\":[{\"message\":\"too many rounds\"}]}")};
+    AGAIN(rz_limit_work(&host->client, SIZE_MAX));
+    AGAIN(rz_limit_rounds(&host->client, 1));
+    answer_again(host, queries, &asked);
+    AGAIN(rz_limit_rounds(&host->client, 0));
+}
+
+/* Opens a server and queries, answers all lines by two clients, of which the second takes the plans that are kept and is limited, and closes all. */
 static void whole_run(files *files) {
     rz_handle server = open_again(files), other = {0}, queries = {0};
     rz_loader_sizes sizes;
@@ -212,6 +223,7 @@ static void whole_run(files *files) {
     host first = client_again(&other, files), second = client_again(&other, files);
     rz_close(&other);
     answer_all(&first, &queries, files);
+    limit_again(&second, &queries);
     answer_all(&second, &queries, files);
     change_known(&first, &queries);
     renew_queries(&server, &queries, &second, &last);

@@ -56,6 +56,8 @@ static void no_client(rz_handle *handle) {
     WANTS(rz_cancel(handle), RZ_BAD_HANDLE);
     WANTS(rz_restart(handle), RZ_BAD_HANDLE);
     WANTS(rz_limit_answers(handle, 1), RZ_BAD_HANDLE);
+    WANTS(rz_limit_work(handle, 1), RZ_BAD_HANDLE);
+    WANTS(rz_limit_rounds(handle, 1), RZ_BAD_HANDLE);
     WANTS(rz_prime(handle, 0, none, 0, byte, 0, 0, 0, none, 0, byte, 0, &word), RZ_BAD_HANDLE);
     WANTS(rz_clear(handle, 0, none, 0, byte, 0, &word), RZ_BAD_HANDLE);
     WANTS(rz_clear_all(handle, 0), RZ_BAD_HANDLE);
@@ -150,6 +152,8 @@ static void turns(rz_handle *client) {
     WANTS(rz_begin(client, &queries, TEXT(LINE)), RZ_BUSY);
     WANTS(rz_restart(client), RZ_BUSY);
     WANTS(rz_limit_answers(client, 9), RZ_BUSY);
+    WANTS(rz_limit_work(client, 9), RZ_BUSY);
+    WANTS(rz_limit_rounds(client, 9), RZ_BUSY);
     WANTS(rz_clear_all(client, 0), RZ_BUSY);
     WANTS(rz_clear(client, 0, none, 0, byte, 0, &word), RZ_BUSY);
     WANTS(rz_sizes(client, &sizes), RZ_DONE);
@@ -748,6 +752,57 @@ static void lent_queries(rz_handle *server) {
     closed_queries(server);
 }
 
+/* ---- Limits on work and rounds. */
+
+/* Replies with Ada, whose best is the user 2. */
+static void reply_ada(rz_handle *client) {
+    const uint32_t rows[] = {1}, ends[] = {4, 8, 11, 12};
+    WANTS(rz_take_rows(client, 0, 2, rows, 1, ends, 4, TEXT("namebestAda2")), RZ_DONE);
+}
+
+/* Two requests of an array have the work 3 each, and the third one has none, since it is wrong. */
+static void limited_work(rz_handle *client) {
+    const char *array = "[{\"query\":\"{user(id:1){name}}\"},{\"query\":\"{a:user(id:1){name}}\"},{\"query\":\"{nosuch}\"}]";
+    WANTS(rz_limit_work(client, 5), RZ_DONE);
+    WANTS(rz_begin(client, &queries, TEXT(array)), RZ_DONE);
+    WANTS(rz_next(client), RZ_ROUND);
+    reply_ada(client);
+    WANTS(rz_next(client), RZ_DONE);
+    print_answer(client);
+    WANTS(rz_limit_work(client, 6), RZ_DONE);
+    WANTS(rz_begin(client, &queries, TEXT(array)), RZ_DONE);
+    WANTS(rz_next(client), RZ_DONE);
+    print_answer(client);
+}
+
+/* A request needs two rounds. What the first one brought stays known: then it needs one. */
+static void limited_rounds(rz_handle *client) {
+    const char *line = "{\"query\":\"{user(id:1){best{name}}}\"}";
+    rz_sizes_t sizes;
+    WANTS(rz_limit_rounds(client, 1), RZ_DONE);
+    WANTS(rz_restart(client), RZ_DONE);
+    WANTS(rz_begin(client, &queries, TEXT(line)), RZ_DONE);
+    WANTS(rz_next(client), RZ_ROUND);
+    reply_ada(client);
+    WANTS(rz_next(client), RZ_DONE);
+    WANTS(rz_sizes(client, &sizes), RZ_DONE);
+    WANTS(sizes.rounds, 1);
+    print_answer(client);
+    WANTS(rz_begin(client, &queries, TEXT(line)), RZ_DONE);
+    WANTS(rz_next(client), RZ_ROUND);
+    reply_name(client, "Bob");
+    WANTS(rz_next(client), RZ_DONE);
+    print_answer(client);
+}
+
+static void limited(rz_handle *server) {
+    rz_handle client = {0};
+    WANTS(rz_client(server, &client, NULL, 0), RZ_DONE);
+    limited_work(&client);
+    limited_rounds(&client);
+    rz_close(&client);
+}
+
 /* ---- All together. */
 
 /* The codes and their names. */
@@ -793,6 +848,7 @@ int main(int argc, char **argv) {
     requests(&client);
     loads(&client);
     lent_queries(&other);
+    limited(&other);
     WANTS(rz_client(&other, &client, none, 0), RZ_DONE);
     WANTS(rz_next(&client), RZ_IDLE);
     rz_close(&client);

@@ -133,8 +133,19 @@ int32_t rz_client(rz_handle *server, rz_handle *client, const uint32_t *limits, 
    refused with "answer too long", in the answer. It lets an answer or outcomes go. RZ_BUSY. */
 int32_t rz_limit_answers(rz_handle *client, size_t bytes);
 
-/* Forgets all keys, logs and rounds, and lets an answer or outcomes go. The limits of rz_client and rz_limit_answers stay. RZ_BUSY;
-   RZ_NO_MEMORY, and then an answer or outcomes are let go, and all else is as it was. */
+/* From now on a request, or all requests of an array in sum, may be at most `positions` work; 0 for no limit. Work is the number of the positions of
+   an answer: the response, its objects, lists, leaves, nulls and faults, and each field that waits for a load. As soon as it is more by what is
+   known, nothing more is asked, and the answer is "too much work"; in an array it stands in the place of each value that does nothing wrong itself.
+   The rounds until then stay known. Keys that are loaded have no limit. It lets an answer or outcomes go. RZ_BUSY. */
+int32_t rz_limit_work(rz_handle *client, size_t positions);
+
+/* From now on a request, or all requests of an array together, may take at most `rounds` rounds; 0 for no limit. What needs more is answered with
+   "too many rounds", as by rz_limit_work; where its work is over the limit too, with "too much work". Keys that are loaded have no limit. It lets an
+   answer or outcomes go. RZ_BUSY. */
+int32_t rz_limit_rounds(rz_handle *client, uint32_t rounds);
+
+/* Forgets all keys, logs and rounds, and lets an answer or outcomes go. The limits of the client stay. RZ_BUSY; RZ_NO_MEMORY, and then an answer or
+   outcomes are let go, and all else is as it was. */
 int32_t rz_restart(rz_handle *client);
 
 /* ---- Requests. */

@@ -54,6 +54,12 @@ type Options struct {
 	MaxBatchOf map[string]int
 	// MaxAnswer is how many bytes an answer may have. A longer one is answered with "answer too long". 0 is no limit.
 	MaxAnswer int
+	// MaxWork is how much work a request may be, or all of an array in sum: how many positions its answer has. As soon as it is more, by what is
+	// known, no further batch is asked for, and the answer is "too much work". 0 is no limit.
+	MaxWork int
+	// MaxRounds is how many rounds a request may take, or all of an array together. One that needs more is answered with "too many rounds". 0 is no
+	// limit.
+	MaxRounds int
 	// OnRound is called after each round.
 	OnRound func(Round)
 }
@@ -397,8 +403,8 @@ func (s *Server) limits(options *Options) ([]uint32, error) {
 	if options == nil {
 		return limits, nil
 	}
-	if options.MaxAnswer < 0 {
-		return nil, fmt.Errorf("MaxAnswer is %d, and not 0 or more", options.MaxAnswer)
+	if err := options.check(); err != nil {
+		return nil, err
 	}
 	for number := range limits {
 		limits[number] = limit(options.MaxBatch)
@@ -413,7 +419,22 @@ func (s *Server) limits(options *Options) ([]uint32, error) {
 	return limits, nil
 }
 
-// limit is a number of keys. One that is out of range stays so.
+// check refuses limits of answers that are less than 0.
+func (o *Options) check() error {
+	limits := []struct {
+		name string
+		most int
+	}{{"MaxAnswer", o.MaxAnswer}, {"MaxWork", o.MaxWork}, {"MaxRounds", o.MaxRounds}}
+	for _, limit := range limits {
+		if limit.most < 0 {
+			return fmt.Errorf("%s is %d, and not 0 or more", limit.name, limit.most)
+		}
+	}
+	return nil
+}
+
+// limit is a number of keys, or of rounds. One that is out of range is the largest of 32 bits: so many keys are refused, and no answer takes so
+// many rounds.
 func limit(most int) uint32 {
 	if most < 0 || most > math.MaxUint32 {
 		return math.MaxUint32
@@ -426,16 +447,31 @@ func (s *Server) newMemory(limits []uint32, options *Options) (*memory, error) {
 	made := &memory{newHandle(), s.pool, s.loaders, map[string]error{}}
 	_, err := s.handle.call(func(at *C.rz_handle) C.int32_t {
 		code := C.rz_client(at, &made.handle.at, wordsAt(limits), C.size_t(len(limits)))
-		if code < 0 || options == nil || options.MaxAnswer == 0 {
+		if code < 0 || options == nil {
 			return code
 		}
-		return C.rz_limit_answers(&made.handle.at, C.size_t(options.MaxAnswer))
+		return limitAnswers(&made.handle.at, options)
 	})
 	if err != nil {
 		s.pool.leave()
 		return nil, err
 	}
 	return made, nil
+}
+
+// limitAnswers sets the limits of answers that there are.
+func limitAnswers(client *C.rz_handle, options *Options) C.int32_t {
+	code := C.int32_t(C.RZ_DONE)
+	if options.MaxAnswer > 0 {
+		code = C.rz_limit_answers(client, C.size_t(options.MaxAnswer))
+	}
+	if code >= 0 && options.MaxWork > 0 {
+		code = C.rz_limit_work(client, C.size_t(options.MaxWork))
+	}
+	if code >= 0 && options.MaxRounds > 0 {
+		code = C.rz_limit_rounds(client, C.uint32_t(limit(options.MaxRounds)))
+	}
+	return code
 }
 
 func numberOf(loaders []Loader, name string) (int, error) {

@@ -563,6 +563,14 @@ func TestLimitsAreKept(t *testing.T) {
 		{Options{MaxBatch: -1}, nil, refusal(-6).Error()},
 		{Options{MaxBatchOf: map[string]int{"userById": -1}}, nil, refusal(-6).Error()},
 		{Options{MaxAnswer: -1}, nil, "MaxAnswer is -1, and not 0 or more"},
+		// the positions are the response, the list and three users, two of them with a best and its id and one with null; at first the users wait
+		{Options{MaxWork: 10}, []string{"1 userById [[1 ] [2 ] [3 ]] <nil>"}, whole},
+		{Options{MaxWork: 9}, []string{"1 userById [[1 ] [2 ] [3 ]] <nil>"}, `{"errors":[{"message":"too much work"}]}`},
+		{Options{MaxWork: 4}, nil, `{"errors":[{"message":"too much work"}]}`},
+		{Options{MaxRounds: 1}, []string{"1 userById [[1 ] [2 ] [3 ]] <nil>"}, whole},
+		{Options{MaxRounds: 1 << 40}, []string{"1 userById [[1 ] [2 ] [3 ]] <nil>"}, whole},
+		{Options{MaxWork: -1}, nil, "MaxWork is -1, and not 0 or more"},
+		{Options{MaxRounds: -1}, nil, "MaxRounds is -1, and not 0 or more"},
 	}
 	for _, each := range cases {
 		var batches []string
@@ -575,6 +583,16 @@ func TestLimitsAreKept(t *testing.T) {
 		expect(t, each.options, text, each.text)
 		expect(t, each.options, strings.Join(batches, ""), strings.Join(append(each.batches, ""), "\n"))
 	}
+}
+
+func TestRoundsAreLimited(t *testing.T) {
+	world := readWorld("")
+	defer world.server.Close()
+	client := must(world.server.Client(world.loaders(true, now), &Options{MaxRounds: 1}))
+	defer client.Close()
+	request := Request{Query: "{user(id:1){best{name}}}"}
+	expect(t, "two rounds", answer(client.AnswerText(context.Background(), request)), `{"errors":[{"message":"too many rounds"}]}`)
+	expect(t, "the second alone", answer(client.AnswerText(context.Background(), request)), `{"data":{"user":{"best":{"name":"Bob"}}}}`)
 }
 
 func TestACancelledAnswerAsksNoFurtherBatch(t *testing.T) {

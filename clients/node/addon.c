@@ -152,7 +152,21 @@ static void let_go(held *held) {
     held->queries = NULL;
 }
 
-/* Opens a client of a server. The head has the number of limits, which come after it, and how many bytes an answer may have, in two words. */
+/* The number that two words are, of which the first is the lower half. */
+static size_t number_at(const uint32_t *words) {
+    return (size_t)words[1] << 32 | words[0];
+}
+
+/* Limits a client, by how many bytes an answer may have, how much work it may be, both in two words, and how many rounds it may take. */
+static int32_t limit(rz_handle *client, const uint32_t *words) {
+    size_t bytes = number_at(words), work = number_at(words + 2);
+    int32_t code = bytes ? rz_limit_answers(client, bytes) : RZ_DONE;
+    if (code >= 0 && work) code = rz_limit_work(client, work);
+    if (code >= 0 && words[4]) code = rz_limit_rounds(client, words[4]);
+    return code;
+}
+
+/* Opens a client of a server. The head has the number of limits on batches, which come after it, and the limits on answers. */
 static int32_t open_client(border *border, held *client, held *server) {
     uint32_t *words = border->words;
     if (HEAD + (size_t)words[0] > border->words_len) return RZ_BAD_SIZE;
@@ -160,8 +174,7 @@ static int32_t open_client(border *border, held *client, held *server) {
     if (code < 0) return code;
     client->queries = server->queries;
     client->queries->users++;
-    size_t most = (size_t)words[2] << 32 | words[1];
-    return most ? rz_limit_answers(&client->handle, most) : RZ_DONE;
+    return limit(&client->handle, words + 1);
 }
 
 /* Opens the client of a call that names its server; else it is to be open. */

@@ -6,6 +6,8 @@ export interface HandlerOptions extends Omit<Options, 'signal'> {
   maxBody?: number;
   /** How many bytes the text of an answer may have: 16,777,216 where it isn't given. 0 is no limit. */
   maxAnswer?: number;
+  /** How much work a request may be: 1,000,000 where it isn't given. 0 is no limit. */
+  maxWork?: number;
 }
 
 /** A status of its own for a request, from 400 to 599. The function that makes the batch functions of a request may throw it. */

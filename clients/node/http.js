@@ -7,8 +7,8 @@ const { PublicError } = require('./faults.js');
 
 const GRAPHQL = 'application/graphql-response+json';
 const JSON_TYPE = 'application/json';
-/** How many bytes a body, and the text of an answer, may have. */
-const [MAX_BODY, MAX_ANSWER] = [1 << 20, 1 << 24];
+/** How many bytes a body, and the text of an answer, may have, and how much work a request may be. */
+const [MAX_BODY, MAX_ANSWER, MAX_WORK] = [1 << 20, 1 << 24, 1_000_000];
 const READING = ['GET', 'HEAD'];
 /** The answer to a request that the library doesn't read. */
 const NOT_READ = '{"errors":[{"message":"not a request"}]}';
@@ -135,7 +135,7 @@ function logged(error) {
  * A listener for the requests of a server of node:http. `loaders` are the batch functions, or a function that makes them for a request. `options`
  * are those of Server.answer, and `maxBody`: how many bytes a body may have.
  */
-function handler(server, loaders, { maxBody = MAX_BODY, maxAnswer = MAX_ANSWER, onError = logged, ...options } = {}) {
+function handler(server, loaders, { maxBody = MAX_BODY, maxAnswer = MAX_ANSWER, maxWork = MAX_WORK, onError = logged, ...options } = {}) {
   /** The text of the answer to a request, by its media type. */
   async function answer(request, type, signal) {
     const { method } = request;
@@ -143,7 +143,7 @@ function handler(server, loaders, { maxBody = MAX_BODY, maxAnswer = MAX_ANSWER, 
     if (!type) throw new HttpError(406, `the response is ${GRAPHQL} or ${JSON_TYPE}`);
     const asked = await requestOf(request, maxBody);
     const functions = typeof loaders === 'function' ? await loaders(request) : loaders;
-    const text = await server.answerText(asked, functions, { ...options, maxAnswer, onError, signal });
+    const text = await server.answerText(asked, functions, { ...options, maxAnswer, maxWork, onError, signal });
     const refused = refusedBy(text, method);
     if (refused) throw refused;
     return text;

@@ -97,7 +97,7 @@ export interface AnswerOptions {
   rows?: Form | { readonly [loader: string]: Form };
   /**
    * Answers an operation that asks for `__schema` or `__type` alone, which isn't in an array: what `require('graphql')` returns. Without it these
-   * are refused. graphql-js has no limits for a query, and `maxAnswer` holds for what it has answered.
+   * are refused. graphql-js has no limits for a query: `maxAnswer` holds for what it has answered, and `maxWork` and `maxRounds` don't.
    */
   introspection?: GraphQLLibrary;
 }
@@ -112,6 +112,13 @@ export interface Options extends AnswerOptions {
   maxBatch?: number | { readonly [loader: string]: number };
   /** How many bytes the text of an answer may have. 0 is no limit. */
   maxAnswer?: number;
+  /**
+   * How much work a request may be, or all of an array in sum: how many positions its answer has. As soon as it is more, by what is known, no further
+   * batch is asked for, and the answer is `too much work`. 0 is no limit.
+   */
+  maxWork?: number;
+  /** How many rounds a request may take, or all of an array together. One that needs more is answered with `too many rounds`. 0 is no limit. */
+  maxRounds?: number;
 }
 
 /** A call of the library was refused. `name` is the name of the code, as RZ_BUSY. */

@@ -13,10 +13,10 @@ const { writeItem, writeKeys } = require('./rows.js');
 const { Run } = require('./run.js');
 
 const BAD_SCHEMA = -4;
-/** More keys than any limit of a batch may have. */
+/** The largest word. */
 const MOST_WORD = 0xffffffff;
 /** The words that a client without limits is opened with. */
-const NO_LIMITS = [0, 0, 0];
+const NO_LIMITS = [0, 0, 0, 0, 0, 0];
 
 /** What holds nothing now, for clients that answer once. */
 const spare = [];
@@ -36,9 +36,15 @@ function countOf(value, what) {
   return value;
 }
 
-/** A limit of keys, as a word. One that no word holds is refused as others that are too large. */
-function limitOf(maxBatch) {
-  return Math.min(countOf(maxBatch, 'maxBatch'), MOST_WORD);
+/** A limit as a word. Where no word holds it: so many keys are refused as others that are too many, and no answer takes so many rounds. */
+function wordOf(value, what) {
+  return Math.min(countOf(value, what), MOST_WORD);
+}
+
+/** A limit as two words. */
+function twoWordsOf(value, what) {
+  const count = countOf(value, what);
+  return [count % 2 ** 32, Math.floor(count / 2 ** 32)];
 }
 
 /** Ends a promise, with an error or with what is read of a result. */
@@ -121,19 +127,20 @@ class Server {
   }
 
   /** The words that a client is opened with. */
-  #limits({ maxBatch, maxAnswer }) {
+  #limits({ maxBatch, maxAnswer, maxWork, maxRounds }) {
     if (this.#closed) throw new Error('the server is closed');
-    if (maxBatch === undefined && maxAnswer === undefined) return NO_LIMITS;
-    const [batches, bytes] = [this.#batches(maxBatch), countOf(maxAnswer, 'maxAnswer')];
-    return [batches.length, bytes % 2 ** 32, Math.floor(bytes / 2 ** 32), 0, 0, 0, 0, 0, ...batches];
+    if (maxBatch === undefined && maxAnswer === undefined && maxWork === undefined && maxRounds === undefined) return NO_LIMITS;
+    const batches = this.#batches(maxBatch);
+    const answers = [...twoWordsOf(maxAnswer, 'maxAnswer'), ...twoWordsOf(maxWork, 'maxWork'), wordOf(maxRounds, 'maxRounds')];
+    return [batches.length, ...answers, 0, 0, ...batches];
   }
 
   /** For each loader how many keys one batch may have; or no element. */
   #batches(maxBatch) {
     if (maxBatch === undefined) return [];
-    if (typeof maxBatch !== 'object') return this.loaders.map(() => limitOf(maxBatch));
+    if (typeof maxBatch !== 'object') return this.loaders.map(() => wordOf(maxBatch, 'maxBatch'));
     for (const name in maxBatch) if (!this.#byName.has(name)) throw new TypeError(`the bindings have no loader ${name}`);
-    return this.loaders.map(({ name }) => limitOf(maxBatch[name]));
+    return this.loaders.map(({ name }) => wordOf(maxBatch[name], 'maxBatch'));
   }
 }
 

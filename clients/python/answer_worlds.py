@@ -112,12 +112,27 @@ def call_each(library: Library, folder: str, tables: Tables) -> None:
     print("each call answered as wanted, by version", *library.version())
 
 
+def limit_each(library: Library, folder: str, tables: Tables) -> None:
+    """The limits on work and on rounds."""
+    schema, bindings = read_text(f"{folder}/schema.graphql"), read_text(f"{folder}/bindings.txt")
+    query = "{user(id:1){best{name}}}"
+    with Server(schema, bindings, library) as server, server.client({}) as client:
+        for limit, refusal in ((client.limit_work, "too much work"), (client.limit_rounds, "too many rounds")):
+            limit(1)
+            client.begin_request(query)
+            assert answer(client, tables) == f'{{"errors":[{{"message":"{refusal}"}}]}}'
+            limit(None)
+        client.begin_request(query)
+        assert answer(client, tables) == '{"data":{"user":{"best":{"name":"Bob"}}}}'
+
+
 def main(path: str, examples: str) -> None:
     library = Library(path)
     tables = {name: read_table(f"{examples}/{name}.csv") for name in ("users", "posts", "named", "likes")}
     answer_world(library, examples, tables)
     answer_world(library, f"{examples}/votes", {**tables, "votes": read_table(f"{examples}/votes/votes.csv")})
     call_each(library, examples, tables)
+    limit_each(library, examples, tables)
 
 
 if __name__ == "__main__":

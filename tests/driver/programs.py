@@ -296,10 +296,11 @@ def report_alike(case: Case) -> str:
 # ---- lines that are served
 
 
-def within(case: Case) -> int | None:
-    """The limit that a case sets on the bytes of an answer."""
-    found = re.search(r" within (\d+)", case.asked)
-    return int(found[1]) if found else None
+def limits(case: Case) -> list[str]:
+    """The words for the limits that a case sets: on the bytes of an answer, and on the work of a line."""
+    options = {"--max-answer": r" within (\d+)", "--max-work": r" of (\d+) work"}
+    found = {option: re.search(limit, case.asked) for option, limit in options.items()}
+    return [word for option, limit in found.items() if limit for word in (option, limit[1])]
 
 
 def sample_words(*options: str) -> list[bytes]:
@@ -310,9 +311,8 @@ def sample_words(*options: str) -> list[bytes]:
 
 def serving(case: Case, text: bytes, how: str = "", **devices: Any) -> Run:
     """A run over the sample world, the one in the program or, if there is a limit, the one in files."""
-    limit = within(case)
-    words = [] if limit is None else sample_words("--max-answer", str(limit))
-    return Run(words, [Given(INPUT, how, text)], **devices)
+    words = limits(case)
+    return Run(sample_words(*words) if words else [], [Given(INPUT, how, text)], **devices)
 
 
 def served(run: Run) -> str:
@@ -321,7 +321,7 @@ def served(run: Run) -> str:
     return done.output.decode() if done.status == 0 and not done.error else done.told()
 
 
-@asks(r"serve( within \d+)?")
+@asks(r"serve( within \d+)?( of \d+ work)?")
 def report_lines(case: Case) -> str:
     return served(serving(case, as_bytes(case.text)))
 

@@ -46,6 +46,34 @@ describe('options', () => {
     }
   });
 
+  it('maxWork limits the positions of an answer, and of those of an array together', async () => {
+    const [query, ada, refused] = ['{user(id:1){name}}', '{"data":{"user":{"name":"Ada"}}}', '{"errors":[{"message":"too much work"}]}'];
+    // the positions are the response, the user and the name, and at first the response and a user that waits
+    for (const [maxWork, text, asked] of [[3, ada, 1], [2, refused, 1], [1, refused, 0], [0, ada, 1], [undefined, ada, 1], [2 ** 32 + 1, ada, 1]]) {
+      const { calls, loaders } = counted();
+      assert.equal(await server.answerText({ query }, loaders, { maxWork }), text);
+      assert.equal(calls.length, asked);
+    }
+    const requests = [{ query }, { query: '{nosuch}' }, { query }];
+    const wrong = '{"errors":[{"message":"5.3.1 Field Selections: nosuch","locations":[{"line":1,"column":2}]}]}';
+    assert.equal(await server.answerText(requests, users, { maxWork: 6 }), `[${ada},${wrong},${ada}]`);
+    assert.equal(await server.answerText(requests, users, { maxWork: 5 }), `[${refused},${wrong},${refused}]`);
+  });
+
+  it('maxRounds limits the rounds of an answer, and what they brought stays known', async () => {
+    const query = '{user(id:1){best{name}}}';
+    const [bob, refused] = ['{"data":{"user":{"best":{"name":"Bob"}}}}', '{"errors":[{"message":"too many rounds"}]}'];
+    for (const [maxRounds, text, asked] of [[2, bob, 2], [1, refused, 1], [0, bob, 2], [undefined, bob, 2], [2 ** 32, bob, 2]]) {
+      const { calls, loaders } = counted();
+      assert.equal(await server.answerText({ query }, loaders, { maxRounds }), text);
+      assert.deepEqual(calls, [['userById', ['1']], ['userById', ['2']]].slice(0, asked));
+    }
+    const client = server.client(users, { maxRounds: 1 });
+    assert.equal(await client.answerText({ query }), refused);
+    assert.equal(await client.answerText({ query }), bob);
+    client.close();
+  });
+
   it('onRound is told of each round', async () => {
     const rounds = [];
     const loaders = { ...users, userById: async () => { await wait(20); throw new Error('down'); } };
@@ -244,7 +272,7 @@ describe('a client', () => {
 
   it('outlives its server', async () => {
     const { server: closed } = openWorld();
-    const clients = [{}, { maxBatch: 1 }, { maxAnswer: 1000 }].map((options) => closed.client(users, options));
+    const clients = [{}, { maxBatch: 1 }, { maxAnswer: 1000 }, { maxWork: 1000, maxRounds: 10 }].map((options) => closed.client(users, options));
     const late = { ...users, userById: (keys) => wait(5).then(() => users.userById(keys)) };
     const answers = [1, 2].map(() => closed.answerText({ query: '{user(id:1){best{name}}}' }, late));
     closed.close();

@@ -8,7 +8,7 @@ const { after, before, describe, it, mock } = require('node:test');
 const net = require('node:net');
 const { PublicError } = require('..');
 const { handler, HttpError } = require('../http.js');
-const { loadersOver, openWorld, tables } = require('./tables.js');
+const { loadersOver, openFriends, openWorld, tables } = require('./tables.js');
 
 const GRAPHQL = 'application/graphql-response+json';
 const JSON_TYPE = 'application/json';
@@ -172,6 +172,30 @@ describe('GraphQL over HTTP', () => {
         other.close();
       }
     }
+  });
+
+  it('a request is at most 1,000,000 work, unless it may be more', async () => {
+    const friends = openFriends();
+    const refused = '{"errors":[{"message":"too much work"}]}';
+    // with 17 levels of friends it is 524,287 work, and with 18 it is 1,048,575
+    const cases = [
+      [{}, 17, GRAPHQL, 200, friends.answer(17)],
+      [{}, 18, GRAPHQL, 400, refused],
+      [{}, 18, JSON_TYPE, 200, refused],
+      [{ maxWork: 0 }, 18, GRAPHQL, 200, friends.answer(18)],
+      [{ maxRounds: 1 }, 1, GRAPHQL, 400, '{"errors":[{"message":"too many rounds"}]}'],
+    ];
+    for (const [options, levels, accept, status, text] of cases) {
+      const other = http.createServer(handler(friends.server, friends.loaders, options)).listen(0);
+      try {
+        const found = await ask(other.address().port, { accept, body: { query: friends.query(levels) } });
+        assert.equal(found.status, status);
+        assert.ok(found.text === text, found.text.slice(0, 100));
+      } finally {
+        other.close();
+      }
+    }
+    friends.server.close();
   });
 
   it('batch functions for each request; one that is given up asks for no further batch', async () => {

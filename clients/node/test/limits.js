@@ -1,11 +1,11 @@
-// Texts that are too long for a string, and the memory of large requests.
+// Texts that are too long for a string, the memory of large requests, and short queries with long answers.
 'use strict';
 
 const assert = require('node:assert/strict');
 const { constants } = require('node:buffer');
 const { describe, it } = require('node:test');
 const { addon, border } = require('../border.js');
-const { openWorld } = require('./tables.js');
+const { openFriends, openWorld } = require('./tables.js');
 
 const { server } = openWorld();
 const users = (name) => ({ userById: async (ids) => ids.map((id) => ({ id, name })) });
@@ -61,10 +61,32 @@ describe('what a large request needed', () => {
   });
 });
 
+describe('a short query with a long answer', () => {
+  const { server, loaders, query, answer } = openFriends();
+  const TOO_MUCH = '{"errors":[{"message":"too much work"}]}';
+  /** As many levels of friends as a query may have: with `user` and `id` these are 128 fields on a path. */
+  const MOST_LEVELS = 126;
+
+  it('is refused, and nothing more is asked once that is known', async () => {
+    const asked = [];
+    const onRound = ({ batches }) => asked.push(...batches.map(({ loader, keys }) => [loader, keys]));
+    assert.equal(await server.answerText({ query: query(MOST_LEVELS) }, loaders, { maxWork: 1_000_000, onRound }), TOO_MUCH);
+    assert.deepEqual(asked, [['userById', ['1']], ['friendsByUser', ['1']], ['friendsByUser', ['2']]]);
+  });
+
+  it('is answered if its work is within the limit', async () => {
+    for (const levels of [0, 1, 5]) {
+      const maxWork = 4 * 2 ** levels - 1;
+      assert.equal(await server.answerText({ query: query(levels) }, loaders, { maxWork }), answer(levels));
+      assert.equal(await server.answerText({ query: query(levels) }, loaders, { maxWork: maxWork - 1 }), TOO_MUCH);
+    }
+  });
+});
+
 describe('what a server keeps of queries', () => {
   it('serves answers with whatever limits', async () => {
     for (let i = 1; i <= 100; i++) {
-      const limits = { maxBatch: i, maxAnswer: 1000 + i };
+      const limits = { maxBatch: i, maxAnswer: 1000 + i, maxWork: 1000 + i, maxRounds: i };
       assert.deepEqual(await server.answer({ query: '{user(id:1){name}}' }, users('Ada'), limits), { data: { user: { name: 'Ada' } } });
     }
   });

@@ -2,7 +2,7 @@
 'use strict';
 
 const { readFileSync } = require('node:fs');
-const { Server } = require('..');
+const { aligned, Server } = require('..');
 
 /** The records of a text by RFC 4180. */
 function records(text) {
@@ -73,4 +73,29 @@ function openWorld(folder = '.') {
   return { server, lines };
 }
 
-module.exports = { examples, forms, loadersOver, openWorld, tables };
+/**
+ * A server of the users 1 and 2, who are friends of each other and of themselves, and its batch functions; and the query for so many levels of
+ * friends, and its answer. Each level has twice as many users as the one above: with the response, the lists and the ids there are
+ * 4 * 2 ** levels - 1 positions.
+ */
+function openFriends() {
+  const schema = 'type Query { user(id: ID!): User } type User { id: ID! friends: [User!]! }';
+  const bindings = `bindings 1
+    loader userById users by id
+    loader friendsByUser friends by user
+    field Query.user one userById arg id
+    field User.friends many friendsByUser column id`;
+  const loaders = {
+    userById: (ids) => aligned(ids.map((id) => ({ id }))),
+    friendsByUser: (ids) => aligned(ids.map(() => [{ id: 1 }, { id: 2 }])),
+  };
+  const user = (id, levels) => (levels === 0 ? `{"id":"${id}"}` : `{"friends":[${user(1, levels - 1)},${user(2, levels - 1)}]}`);
+  return {
+    server: new Server({ schema, bindings }),
+    loaders,
+    query: (levels) => `{user(id:1)${'{friends'.repeat(levels)}{id}${'}'.repeat(levels)}}`,
+    answer: (levels) => `{"data":{"user":${user(1, levels)}}}`,
+  };
+}
+
+module.exports = { examples, forms, loadersOver, openFriends, openWorld, tables };

@@ -19,7 +19,7 @@ from .errors import OnError, edit_errors, fault_text, has_extensions, message_of
 from .handles import Opened, keys_of
 from .library import BUSY, COUNTS, NO_COLUMN, NO_KEY_COLUMN, NOT_ASKED, SIZES, Argument, Refused, buffers, cut, flat, packed, pointer_to, texts_of
 from .library import words, words_of
-from .limits import checked_limit
+from .limits import MOST_ROUNDS, Limits, checked_limit
 from .loaders import Batch, Form, Keys, Loaded, Loader, Loaders, OnRound, Order, Ran, Round
 from .native import NATIVE
 from .rows import AnyReply, Keyed, Misfit, Reply, Unread, item_of, outcomes_of, reply_of, text_of, unread_of, without_casts
@@ -458,6 +458,25 @@ class Client:
         """From now on an answer has at most `most` bytes; None is no limit."""
         self._call("rz_limit_answers", SIZES[0 if most is None else checked_limit("max_answer", most)])
         self._max_answer = most
+
+    @_alone
+    def limit_work(self, most: int | None) -> None:
+        """From now on a request, or all of a list in sum, may be at most `most` work; None is no limit."""
+        self._call("rz_limit_work", SIZES[0 if most is None else checked_limit("max_work", most)])
+
+    @_alone
+    def limit_rounds(self, most: int | None) -> None:
+        """From now on a request, or all of a list together, may take at most `most` rounds; None is no limit."""
+        self._call("rz_limit_rounds", COUNTS[0 if most is None else checked_limit("max_rounds", most, MOST_ROUNDS)])
+
+    def _limit(self, limits: Limits) -> None:
+        """Sets the limits that are given. The others stay."""
+        if limits.answer is not None:
+            self.limit_answers(limits.answer)
+        if limits.work is not None:
+            self.limit_work(limits.work)
+        if limits.rounds is not None:
+            self.limit_rounds(limits.rounds)
 
     @_alone
     def prime(self, loader: str, key: Any, rows: Any) -> bool:

@@ -14,8 +14,8 @@ from .loaders import Loaders
 from .server import Options
 
 RESPONSE_JSON, JSON = "application/graphql-response+json", "application/json"
-# how many bytes the body of a request, and an answer, may have, unless told otherwise
-MAX_BODY, MAX_ANSWER = 1_048_576, 16_777_216
+# how many bytes the body of a request, and an answer, may have, and how much work a request may be, unless told otherwise
+MAX_BODY, MAX_ANSWER, MAX_WORK = 1_048_576, 16_777_216, 1_000_000
 # the longest length that a request may tell
 _LONGEST = 2**64 - 1
 _BYTE_ORDER_MARK = b"\xef\xbb\xbf"
@@ -128,10 +128,11 @@ def loaders_for(loaders: LoadersOf, request: Any) -> Loaders | Awaitable[Loaders
 
 
 def with_defaults(options: Options) -> Options:
-    """These options; where they don't say how long an answer may be, MAX_ANSWER, and where they don't say what callers are told of errors, errors are
-    logged, and callers aren't told."""
+    """These options; where they don't say how long an answer or how much work a request may be, MAX_ANSWER and MAX_WORK, and where they don't say
+    what callers are told of errors, errors are logged, and callers aren't told."""
     told = options.copy()
     told.setdefault("max_answer", MAX_ANSWER)
+    told.setdefault("max_work", MAX_WORK)
     told["on_error"] = options.get("on_error") or log_error
     return told
 

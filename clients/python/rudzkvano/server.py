@@ -12,7 +12,7 @@ from .handles import Opened
 from .errors import OnError
 from .introspection import GraphQL, Introspection
 from .library import BAD_SCHEMA, SIZES, Argument, Library, Refused, SchemaFault, buffers, cut, packed, pointer_to, words
-from .limits import checked_limit
+from .limits import Limits, checked_limit
 from .loaders import Forms, Loader, Loaders, OnRound, checked_forms
 
 if TYPE_CHECKING:
@@ -28,14 +28,21 @@ class _AskOptions(TypedDict, total=False):
     rows: Forms
 
 
-class Options(_AskOptions, total=False):
+class _AnswerOptions(_AskOptions, total=False):
+    max_answer: Union[int, None]
+    max_work: Union[int, None]
+    max_rounds: Union[int, None]
+
+
+class Options(_AnswerOptions, total=False):
     """`max_batch`: the greatest number of keys in one batch, for all loaders or by their names, 1 to 65,535. `max_answer`: the greatest number of
-    bytes in an answer. `on_round`: what is called after each round. `on_error`: what is called with each error of a batch function, and says what
-    callers are told of it. `introspection`: the module `graphql` of graphql-core, which answers operations that ask for `__schema` or `__type`
-    alone. `rows`: how the lists of all loaders, or of loaders by their names, are read: "aligned" or "in_any_order". Each may be None."""
+    bytes in an answer. `max_work`: how much work a request may be at most, or all of a list in sum: how many positions its answer has.
+    `max_rounds`: how many rounds it may take at most. `on_round`: what is called after each round. `on_error`: what is called with each error of
+    a batch function, and says what callers are told of it. `introspection`: the module `graphql` of graphql-core, which answers operations that
+    ask for `__schema` or `__type` alone, without the limits on work and rounds. `rows`: how the lists of all loaders, or of loaders by their
+    names, are read: "aligned" or "in_any_order". Each may be None."""
 
     max_batch: MaxBatch
-    max_answer: Union[int, None]
 
 
 class Server:
@@ -154,12 +161,22 @@ class Server:
             self._check(loaders)
         return Client(self._opened, self.loaders, loaders)
 
-    def _made(self, loaders: Loaders, max_batch: MaxBatch = None, max_answer: int | None = None, **asks: Unpack[_AskOptions]) -> Client:
+    def _made(self, loaders: Loaders, max_batch: MaxBatch = None, **options: Unpack[_AnswerOptions]) -> Client:
         self._check(loaders)
-        client = Client(self._opened, self.loaders, loaders, self._asks(**asks), self._limits(max_batch))
-        if max_answer is not None:
-            client.limit_answers(max_answer)
+        limits, asks = self._parted(**options)
+        client = Client(self._opened, self.loaders, loaders, asks, self._limits(max_batch))
+        client._limit(limits)
         return client
+
+    def _parted(
+        self,
+        max_answer: int | None = None,
+        max_work: int | None = None,
+        max_rounds: int | None = None,
+        **asks: Unpack[_AskOptions],
+    ) -> tuple[Limits, Asks]:
+        """The limits of answers, and how a client asks."""
+        return Limits(max_answer, max_work, max_rounds), self._asks(**asks)
 
     def _asks(
         self,

@@ -89,11 +89,17 @@ class Refusals(Calls):
             with self.assertRaises(ValueError):
                 self.server.answer(USER, self.functions, max_batch=limit)
         no_limits: list[Any] = [0, -1, float("nan"), float("inf"), 1.5]
+        with self.assertRaisesRegex(ValueError, "^max_rounds is 4294967296, and not 1 to 4,294,967,295$"):
+            self.server.answer(USER, self.functions, max_rounds=2**32)
         for limit in no_limits:
             with self.assertRaisesRegex(ValueError, "^max_batch of loader [A-Za-z]* is .*, and not 1 to 65,535$"):
                 self.server.answer(USER, self.functions, max_batch=limit)
             with self.assertRaisesRegex(ValueError, "^max_answer is .*, and not 1 to [0-9,]*$"):
                 self.server.answer(USER, self.functions, max_answer=limit)
+            with self.assertRaisesRegex(ValueError, "^max_work is .*, and not 1 to [0-9,]*$"):
+                self.server.answer(USER, self.functions, max_work=limit)
+            with self.assertRaisesRegex(ValueError, "^max_rounds is .*, and not 1 to [0-9,]*$"):
+                self.server.answer(USER, self.functions, max_rounds=limit)
             with self.assertRaises(ValueError):
                 self.server.client({}).limit_answers(limit)
         for key in (float("nan"), float("-inf"), Decimal("nan")):
@@ -334,6 +340,49 @@ class Options(Calls):
         self.assertEqual(self.server.answer(USER, self.functions, max_answer=32), ADA)
         self.assertEqual(self.server.answer(USER, self.functions, max_answer=31), too_long)
         self.assertEqual(self.server.answer(USER, self.functions), ADA)
+
+    def test_work_is_limited(self) -> None:
+        too_much = {"errors": [{"message": "too much work"}]}
+        # the positions are the response, the user and the name, and at first the response and a user that waits
+        cases: list[tuple[int | None, Any, int]] = [(3, ADA, 1), (2, too_much, 1), (1, too_much, 0), (None, ADA, 1)]
+        for limit, wanted, count in cases:
+            asked: list[Any] = []
+            functions = {"userById": worlds.noted(asked, self.functions["userById"])}
+            self.assertEqual(self.server.answer(USER, functions, max_work=limit), wanted)
+            self.assertEqual(len(asked), count)
+        requests: list[Any] = [{"query": USER}, {"query": "{nosuch}"}, {"query": USER}]
+        wrong = {"errors": [{"message": "5.3.1 Field Selections: nosuch", "locations": [{"line": 1, "column": 2}]}]}
+        self.assertEqual(self.server.answer(requests, self.functions, max_work=6), [ADA, wrong, ADA])
+        self.assertEqual(self.server.answer(requests, self.functions, max_work=5), [too_much, wrong, too_much])
+
+    def test_rounds_are_limited(self) -> None:
+        query, bob, too_many = "{user(id:1){best{name}}}", {"data": {"user": {"best": {"name": "Bob"}}}}, {"errors": [{"message": "too many rounds"}]}
+        cases: list[tuple[int | None, Any, int]] = [(2, bob, 2), (1, too_many, 1), (None, bob, 2)]
+        for limit, wanted, count in cases:
+            asked: list[Any] = []
+            functions = {"userById": worlds.noted(asked, self.functions["userById"])}
+            self.assertEqual(self.server.answer(query, functions, max_rounds=limit), wanted)
+            self.assertEqual(asked, [["1"], ["2"]][:count])
+        with self.server.client(self.functions, max_rounds=1) as client:
+            self.assertEqual([client.answer(query), client.answer(query)], [too_many, bob], "what the first round brought stays known")
+            client.restart()
+            self.assertEqual(client.answer(query), too_many)
+            client.limit_rounds(None)
+            client.limit_work(1)
+            self.assertEqual(client.answer(query), {"errors": [{"message": "too much work"}]})
+
+    def test_a_short_query_with_a_long_answer(self) -> None:
+        asked: list[Any] = []
+        functions = {name: worlds.noted(asked, function) for name, function in worlds.FRIENDS.functions().items()}
+        too_much = '{"errors":[{"message":"too much work"}]}'
+        with worlds.FRIENDS.server() as server:
+            # as many levels as a query may have: with `user` and `id` these are 128 fields on a path
+            self.assertEqual(server.answer_text(worlds.FRIENDS.query(126), functions, max_work=1_000_000), too_much)
+            self.assertEqual(asked, [["1"], ["1"], ["2"]], "nothing is asked once all friends are known")
+            for levels in (0, 1, 5):
+                query, work = worlds.FRIENDS.query(levels), 4 * 2**levels - 1
+                self.assertEqual(server.answer_text(query, functions, max_work=work), worlds.FRIENDS.answer(levels))
+                self.assertEqual(server.answer_text(query, functions, max_work=work - 1), too_much)
 
     def test_rounds_are_told(self) -> None:
         calls: list[Any] = [self.server.answer, lambda *given, **options: asyncio.run(self.server.answer_async(*given, **options))]

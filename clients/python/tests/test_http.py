@@ -13,7 +13,7 @@ from wsgiref.validate import validator
 
 import worlds
 from rudzkvano import HTTPError, PublicError, asgi, wsgi
-from rudzkvano.http import MAX_ANSWER, HttpFault
+from rudzkvano.http import MAX_ANSWER, MAX_WORK, HttpFault
 
 GRAPHQL, JSON = "application/graphql-response+json", "application/json"
 ADA = {"data": {"user": {"name": "Ada"}}}
@@ -357,6 +357,25 @@ class Http(unittest.TestCase):
             for way in self.ways:
                 found = way(post(QUERY, accept))
                 self.assertEqual((found.status, found.body == body), (status, True))
+
+    def test_work_is_limited(self) -> None:
+        friends, too_much = worlds.FRIENDS, '{"errors":[{"message":"too much work"}]}'
+        self.applications.server = friends.server()
+        self.addCleanup(self.applications.server.close)
+        # with 17 levels of friends it is 524,287 work, and with 18 it is 1,048,575
+        cases: list[tuple[dict[str, Any], int, str, int, str]] = [
+            ({}, 17, GRAPHQL, 200, friends.answer(17)),
+            ({}, 18, GRAPHQL, 400, too_much),
+            ({}, 18, JSON, 200, too_much),
+            ({"max_work": 2 * MAX_WORK}, 18, GRAPHQL, 200, friends.answer(18)),
+            ({"max_work": None}, 18, GRAPHQL, 200, friends.answer(18)),
+            ({"max_rounds": 1}, 1, GRAPHQL, 400, '{"errors":[{"message":"too many rounds"}]}'),
+        ]
+        for options, levels, accept, status, text in cases:
+            self.applications.serve(friends.functions(), **options)
+            for way in self.ways:
+                found = way(post({"query": friends.query(levels)}, accept))
+                self.assertEqual((found.status, found.body == text.encode()), (status, True))
 
     def test_other_protocols(self) -> None:
         with self.assertRaises(ValueError):

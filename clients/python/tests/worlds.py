@@ -119,3 +119,36 @@ class Database:
 
 def functions(server: Server, form: Callable[[Loader], BatchFunction] = aligned) -> dict[str, BatchFunction]:
     return {loader.name: form(loader) for loader in server.loaders}
+
+
+class Friends:
+    """The users 1 and 2, who are friends of each other and of themselves. Each level of friends has twice as many users as the one above: with the
+    response, the lists and the ids there are 4 * 2**levels - 1 positions."""
+
+    schema = "type Query { user(id: ID!): User } type User { id: ID! friends: [User!]! }"
+    bindings = """bindings 1
+    loader userById users by id
+    loader friendsByUser friends by user
+    field Query.user one userById arg id
+    field User.friends many friendsByUser column id"""
+
+    def server(self) -> Server:
+        return Server(self.schema, self.bindings)
+
+    def functions(self) -> dict[str, BatchFunction]:
+        return {
+            "userById": lambda ids: [{"id": id} for id in ids],
+            "friendsByUser": lambda users: [{"user": user, "id": id} for user in users for id in (1, 2)],
+        }
+
+    def query(self, levels: int) -> str:
+        return "{user(id:1)" + "{friends" * levels + "{id}" + "}" * levels + "}"
+
+    def answer(self, levels: int) -> str:
+        one, two = '{"id":"1"}', '{"id":"2"}'
+        for _ in range(levels):
+            one = two = f'{{"friends":[{one},{two}]}}'
+        return f'{{"data":{{"user":{one}}}}}'
+
+
+FRIENDS = Friends()

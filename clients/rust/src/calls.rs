@@ -191,6 +191,8 @@ extern "C" {
     fn rz_queries(server: &mut Handle, queries: &mut Handle) -> i32;
     fn rz_client(server: &mut Handle, client: &mut Handle, limits: *const u32, limits_len: usize) -> i32;
     fn rz_limit_answers(client: &mut Handle, bytes: usize) -> i32;
+    fn rz_limit_work(client: &mut Handle, positions: usize) -> i32;
+    fn rz_limit_rounds(client: &mut Handle, rounds: u32) -> i32;
     fn rz_restart(client: &mut Handle) -> i32;
     fn rz_begin(client: &mut Handle, queries: &mut Handle, line: *const u8, line_len: usize) -> i32;
     fn rz_begin_request(
@@ -374,6 +376,14 @@ impl Handle {
 
     pub fn limit_answers(&mut self, bytes: usize) -> i32 {
         unsafe { rz_limit_answers(self, bytes) }
+    }
+
+    pub fn limit_work(&mut self, positions: usize) -> i32 {
+        unsafe { rz_limit_work(self, positions) }
+    }
+
+    pub fn limit_rounds(&mut self, rounds: u32) -> i32 {
+        unsafe { rz_limit_rounds(self, rounds) }
     }
 
     pub fn restart(&mut self) -> i32 {

@@ -150,6 +150,11 @@ pub struct Options {
     pub max_batch_of: HashMap<String, u32>,
     /// How many bytes an answer may have; 0 is no limit. A longer one is answered with `answer too long`.
     pub max_answer: usize,
+    /// How much work a request may be, or all of an array in sum: how many positions its answer has; 0 is no limit. As soon as it is more, by
+    /// what is known, no further batch is asked for, and the answer is `too much work`.
+    pub max_work: usize,
+    /// How many rounds a request may take, or all of an array together; 0 is no limit. One that needs more is answered with `too many rounds`.
+    pub max_rounds: u32,
 }
 
 type BatchFunction<'a> = Box<dyn FnMut(&[Key]) -> Result<Rows, BatchFault> + 'a>;
@@ -333,6 +338,12 @@ impl Server {
         went_well(locked(&self.pool.server).client(&mut handle, &limits))?;
         if options.max_answer > 0 {
             went_well(handle.limit_answers(options.max_answer))?;
+        }
+        if options.max_work > 0 {
+            went_well(handle.limit_work(options.max_work))?;
+        }
+        if options.max_rounds > 0 {
+            went_well(handle.limit_rounds(options.max_rounds))?;
         }
         Ok(Client { handle, pool: Arc::clone(&self.pool), loaders: Arc::clone(&self.loaders) })
     }

@@ -203,6 +203,27 @@ fn limits_are_kept() {
 }
 
 #[test]
+fn work_and_rounds_are_limited() {
+    let world = World::read("");
+    let answer = |options: Options| {
+        let mut batches = 0;
+        let mut loaders = world.loaders(true, || ());
+        loaders.on_round(|round| batches += round.batches.len());
+        let answer = world.server.answer_text(&Request::query("{user(id:1){best{name}}}"), &mut loaders, &options);
+        drop(loaders);
+        (answer, batches)
+    };
+    let bob = r#"{"data":{"user":{"best":{"name":"Bob"}}}}"#;
+    // at last the positions are the response, the user, the best and the name, and before the best is there, it waits
+    let (text, batches) = answer(Options { max_work: 4, max_rounds: 2, ..Options::default() });
+    assert_eq!((text.as_deref(), batches), (Ok(bob), 2));
+    let (text, batches) = answer(Options { max_work: 2, ..Options::default() });
+    assert_eq!((text.as_deref(), batches), (Ok(r#"{"errors":[{"message":"too much work"}]}"#), 1));
+    let (text, batches) = answer(Options { max_rounds: 1, ..Options::default() });
+    assert_eq!((text.as_deref(), batches), (Ok(r#"{"errors":[{"message":"too many rounds"}]}"#), 1));
+}
+
+#[test]
 fn a_cancelled_answer_asks_no_further_batch() {
     let world = World::read("");
     let mut client = client(&world);

@@ -8,11 +8,14 @@ use Rattle.load_memory.specs.declared.shelf.Receipt.{Receipt}
 use Rattle.load_queue.specs.Answers.{AnswerOf}
 use Rattle.load_queue.specs.Loaders.{LoaderOf}
 use Rattle.load_queue.specs.Orders.{CutOf, asks}
+use Rattle.execution.specs.Program.{Program}
 use Rattle.execution.specs.Rounds.{may_at, AreReplies}
 use Rattle.execution.proofs.StoreLaws.{reply-ran}
 use Rattle.batch_workers.specs.Round.{EachShown, AllAnswered}
 use Rattle.batch_workers.proofs.Orders.{in_order}
-use Rattle.load_rounds.specs.ByHand.{AreReceived}
+use Rattle.load_rounds.specs.Sessions.{StateOf}
+use Rattle.load_rounds.specs.Calls.{RoundRan}
+use Rattle.load_rounds.specs.ByHand.{front_in, AreReceived, IsRound, RunsAsked}
 
 module _ {S : Type 0} (may : S → List KeyOf → AnswerOf → Type 0) (loaders : List (LoaderOf S)) (shelf : Shelf) where
   replies-shown : (os : List CutOf) (rs : List Receipt) → EachShown may loaders shelf os rs → AreReplies (may_at may loaders) (map asks os) (map shown rs)
@@ -30,3 +33,7 @@ module _ {S : Type 0} (may : S → List KeyOf → AnswerOf → Type 0) (loaders 
         fit = replies-shown orders rs.0 rs.2;
         moved = IsPermutation-map shown rs.0 receipts (IsPermutation-sym receipts rs.0 rs.1);
       }
+
+-- a round that was asked, once its receipts are taken, was run
+pub asked-round : {S : Type 0} (may : S → List KeyOf → AnswerOf → Type 0) (p : Program) (old mid new : StateOf S) (orders : List CutOf) → IsRound p old mid orders → RunsAsked may p mid new → RoundRan may old new (front_in old p)
+asked-round may p old mid new orders is ran = ran (record { before = old; lacks = is.lacks; entered = is.entered; counted = is.counted; numbered = is.numbered })

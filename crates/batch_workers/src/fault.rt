@@ -1,4 +1,5 @@
 //! Faults: why there is no answer with workers.
+use load_rounds::Overrun;
 use std::alloc::AllocError;
 use thiserror::Error;
 
@@ -8,6 +9,9 @@ pub enum WorkFault {
     /// The number of workers is not 1 to 16.
     #[error("bad number of workers")]
     BadCount,
+    /// The answers are over a limit, so they are refused. The rounds that were made stay, and nothing more was asked.
+    #[error("over a limit")]
+    Over(Overrun),
     /// Out of memory, here or in a source; or the number of the next round would overflow.
     #[error("out of memory")]
     NoMemory,

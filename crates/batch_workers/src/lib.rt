@@ -1,12 +1,13 @@
 //! Rounds and answers whose batches workers run at the same time.
 //!
 //! The layer above may rely on this: an answer with 1 to 16 workers ([`answer_with`]), of whatever can be executed, has the
-//! headline of `load_rounds`, word for word as [`Session::answer`](load_rounds::Session::answer) has it. Another number of
-//! workers is refused, and nothing was asked or changed then. Over sources that answer key by key it is the answer in turn:
+//! headline of `load_rounds`, and is within the limits or refused, word for word as
+//! [`Session::answer_within`](load_rounds::Session::answer_within) has it. Another number of workers is refused, and nothing was asked
+//! or changed then. Over sources that answer key by key it is the answer in turn:
 //! the same text, rounds, memory and logs (law [`workers_change_nothing`]).
 //!
 //! Several are answered in rounds that they share ([`answer_all_with`]), word for word as
-//! [`Session::answer_all`](load_rounds::Session::answer_all) has it.
+//! [`Session::answer_all_within`](load_rounds::Session::answer_all_within) has it.
 //!
 //! A round by itself ([`run_round`]) gives one receipt for each order, in some order, and what it shows on the shelf is a reply to that
 //! order, with an answer that its loader's source may give. Each order was taken by one worker and spent by its run, and all workers have

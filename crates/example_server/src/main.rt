@@ -231,6 +231,22 @@ fn limit_answers(session: &mut ClientSession<Books>) -> anyhow::Result<String> {
     Ok(answer.text)
 }
 
+// What is more work than the limit is refused. The response, the book and its title are three positions.
+fn limit_work(session: &mut ClientSession<Books>) -> anyhow::Result<String> {
+    session.limit_work(Some(2));
+    let answer = session.answer(&asking("{book(id:1){title}}"))?;
+    session.limit_work(None);
+    Ok(answer.text)
+}
+
+// So is what needs more rounds than the limit: nothing is asked here.
+fn limit_rounds(session: &mut ClientSession<Books>) -> anyhow::Result<String> {
+    session.limit_rounds(Some(0));
+    let answer = session.answer(&asking("{book(id:8){title}}"))?;
+    session.limit_rounds(None);
+    Ok(answer.text)
+}
+
 // Primes a key, which isn't asked then.
 fn prime(alloc: Global, session: &mut ClientSession<Books>) -> anyhow::Result<String> {
     let key = Key::of_text(alloc, "9")?;
@@ -321,6 +337,8 @@ fn show_requests(
     println!(rt; "answer_all: {}", answer_all(alloc, session)?)?;
     println!(rt; "answer_text: {}", answer_text(session)?)?;
     println!(rt; "limit_answers: {}", limit_answers(session)?)?;
+    println!(rt; "limit_work: {}", limit_work(session)?)?;
+    println!(rt; "limit_rounds: {}", limit_rounds(session)?)?;
     Ok(())
 }
 

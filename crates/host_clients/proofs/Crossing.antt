@@ -43,7 +43,7 @@ under_way_send = let i = under_way_inside_send in record { owned = λ d vs x. (i
 by_hand_inside_send : IsSend (by_hand_inside.the_row handed_in.the_row)
 by_hand_inside_send =
     declared_send (by_hand_inside.the_type handed_in.the_row)
-    (search sendable depth 20, (search queries_send, (search sendable depth 20, (keys_cross.the_send, (search (hand_crosses.the_send, keys_cross.the_send, sendable, handed_in_crosses.the_send) depth 20, tt)))))
+    (search sendable depth 20, (search queries_send, (search sendable depth 20, (search (over.crosses, sendable) depth 20, (keys_cross.the_send, (search (hand_crosses.the_send, keys_cross.the_send, sendable, handed_in_crosses.the_send) depth 20, tt))))))
 
 by_hand_send : IsSend (by_hand.the_row handed_in.the_row)
 by_hand_send = let i = by_hand_inside_send in record { owned = λ d vs x. (i.owned x.0 vs, tt); leaving = λ k d w. tt }

@@ -16,7 +16,6 @@ use Rattle.load_queue.specs.declared.source.FetchFault.{FetchFault}
 use Rattle.load_queue.specs.declared.source.FetchFault.TheVariants.{Failed, NoMemory}
 use Rattle.load_rounds.specs.Histories.{StoppedLoading, any_tell}
 use Rattle.load_rounds.specs.Reading.{KeysOf}
-use Rattle.load_rounds.specs.Sessions.{SessionOf}
 use Rattle.load_rounds.specs.SharedRounds.{report_of}
 use Rattle.load_rounds.specs.declared.answer.Answer.{Answer}
 use Rattle.plan_requests.specs.Servers.{ServerOf}
@@ -40,13 +39,13 @@ use Rattle.host_clients.specs.declared.client.HostClient.{HostClient}
 use Rattle.host_clients.specs.declared.client.HostClient.TheVariants.{Idle, Asked, Answered, Loading, Loaded}
 
 -- what holds of what is on its way holds after a call that goes on with it, of the orders that are out then
-module _ {P E : Type 0} {gone goes : SessionOf HandedIn → Type 0} {planned plans : ClientOf HandedIn → Type 0} where
-  pub holds-after : (server later : ServerOf) (old new : FarOf P E) (before orders : List OrderOf) → later ≡ server → ((s : SessionOf HandedIn) → gone s → goes s)
+module _ {P E : Type 0} {gone goes planned plans : ClientOf HandedIn → Type 0} where
+  pub holds-after : (server later : ServerOf) (old new : FarOf P E) (before orders : List OrderOf) → later ≡ server → ((c : ClientOf HandedIn) → gone c → goes c)
       → ((c : ClientOf HandedIn) → planned c → plans c) → orders ≡ map order_in (pending_in new) → HoldsWork server old gone planned before → HoldsWork later new goes plans orders
   holds-after server later old new before orders same underway is are h = record {
     begun = h.begun;
     of_server = h.of_server ∙ sym same;
-    underway = underway h.begun.session h.underway;
+    underway = underway h.begun h.underway;
     planned = is h.begun h.planned;
     orders_are = are;
   }
@@ -58,12 +57,20 @@ holds-under-way server old new asked before orders goes same are h =
 
 pub holds-loading : (old new : LoadByHandOf HandedIn) (before orders : List OrderOf) → LoadGoesOn any_tell old new → IsSameClient old.client new.client → orders ≡ load_orders new
     → HoldsLoading old before → HoldsLoading new orders
-holds-loading old new before orders goes same are h = holds-after old.client.server new.client.server old.far new.far before orders same.server goes (λ c is. is) are h
+holds-loading old new before orders goes same are h =
+    holds-after old.client.server new.client.server old.far new.far before orders same.server (λ c. goes c.session) (λ c is. is) are h
 
 -- what holds of what is begun
 pub holds-begun : (hand : ByHandOf HandedIn) (c : ClientOf HandedIn) (server : ServerOf) (planned : PlannedOf) (asked : HostAsked) (orders : List OrderOf) → hand ≡ by_hand_of c planned handed
     → orders ≡ [] → PlansHost server c.most asked planned → HoldsUnderWay server hand asked orders
-holds-begun hand c server planned asked orders is none plans = rw (is, none) (record { begun = client_of server c.most c.session; of_server = refl; underway = refl; planned = plans; orders_are = refl })
+holds-begun hand c server planned asked orders is none plans =
+    rw (is, none) (record {
+      begun = client_of server c.most c.limits c.session;
+      of_server = refl;
+      underway = record { limits = refl; gone = refl };
+      planned = plans;
+      orders_are = refl;
+    })
 
 pub holds-load-begun : (hand : LoadByHandOf HandedIn) (c : ClientOf HandedIn) (keys : KeysOf) (orders : List OrderOf) → hand ≡ load_by_hand_of c keys handed → orders ≡ [] → HoldsLoading hand orders
 holds-load-begun hand c keys orders is none = rw (is, none) (record { begun = c; of_server = refl; underway = refl; planned = tt; orders_are = refl })
@@ -74,15 +81,21 @@ begun-with hand c server planned asked is plans = rw is (record { server_is = re
 
 -- an answer of what is under way answers what was asked
 pub answers-host : (old new : ByHandOf HandedIn) (answer : Answer) → Responds any_tell old new (Done answer) → (c : ClientOf HandedIn) (asked : HostAsked)
-    → IsUnderway any_tell c.session old → PlansHost c.server c.most asked old.planned → AnswersHost any_tell c asked (report_of answer) new.client.session
+    → IsUnderway any_tell c old → PlansHost c.server c.most asked old.planned → AnswersHost any_tell c asked (report_of answer) new.client.session
 answers-host old new answer responds c asked underway plans = record { asked = plans.asked; asks = plans.asks; answers = responds c plans.asked underway plans.plans }
 
+-- its limits stay
+limits-kept : (begun c : ClientOf HandedIn) (old new : ByHandOf HandedIn) → IsUnderway any_tell begun old → IsSameClient old.client new.client → c ≡ new.client → begun.limits ≡ c.limits
+limits-kept begun c old new underway same is = sym (ap (λ (x : ClientOf HandedIn). x.limits) is ∙ same.limits ∙ underway.limits)
+
 pub answer-of : (server : ServerOf) (old new : ByHandOf HandedIn) (asked : HostAsked) (orders : List OrderOf) (answer : Answer) → HoldsUnderWay server old asked orders
-    → Responds any_tell old new (Done answer) → IsAnswerOf server asked (string_bytes answer.text) answer.rounds
-answer-of server old new asked orders answer h responds = record {
+    → Responds any_tell old new (Done answer) → IsSameClient old.client new.client → (c : ClientOf HandedIn) → c ≡ new.client
+    → IsAnswerOf server c.limits asked (string_bytes answer.text) answer.rounds
+answer-of server old new asked orders answer h responds same c is = record {
   begun = h.begun;
   later = new.client.session;
   of_server = h.of_server;
+  limits_are = limits-kept h.begun c old new h.underway same is;
   answers = answers-host old new answer responds h.begun asked h.underway h.planned;
 }
 
@@ -95,10 +108,10 @@ outcomes-of old new orders outcomes h loads server is asked asks flat are =
 -- ---- what a call makes of it, which leaves this client
 
 pub given-up : (u : UnderWayOf) (c : ClientOf HandedIn) → c ≡ u.hand.client → GivesUp any_tell u.hand c → IsGivenUp (Asked u) (Idle c)
-given-up u c is gives = (rw is (record { server = refl; most = refl }), gives)
+given-up u c is gives = (rw is (record { server = refl; most = refl; limits = refl }), gives)
 
 pub given-up-load : (l : LoadByHandOf HandedIn) (c : ClientOf HandedIn) → c ≡ l.client → ClientStopsLoad any_tell l c → IsGivenUp (Loading l) (Idle c)
-given-up-load l c is stops = (rw is (record { server = refl; most = refl }), stops)
+given-up-load l c is stops = (rw is (record { server = refl; most = refl; limits = refl }), stops)
 
 module _ (u : UnderWayOf) (new : ByHandOf HandedIn) (same : IsSameClient u.hand.client new.client) (c : ClientOf HandedIn) (is : c ≡ new.client) where
   pub answers-it : (answer : Answer) → StoresReplies u.hand new.client → Responds any_tell u.hand new (Done answer)
@@ -109,7 +122,7 @@ module _ (u : UnderWayOf) (new : ByHandOf HandedIn) (same : IsSameClient u.hand.
   pub gives-up : GoesOn any_tell u.hand new → new.planned ≡ u.hand.planned → GivesUp any_tell new c → IsGivenUp (Asked u) (Idle c)
   gives-up goes planned gives = (
     subst (IsSameClient u.hand.client) (sym is) same,
-    λ begun asked underway plans. gives begun asked (goes begun.session underway) (subst (PlansAsked begun asked) (sym planned) plans),
+    λ begun asked underway plans. gives begun asked (goes begun underway) (subst (PlansAsked begun asked) (sym planned) plans),
   )
 
 module _ (l new : LoadByHandOf HandedIn) (keys : new.keys ≡ l.keys) (same : IsSameClient l.client new.client) (c : ClientOf HandedIn) (is : c ≡ new.client) where

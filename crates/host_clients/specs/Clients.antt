@@ -94,7 +94,7 @@ IsBegunLoad asked old new = ⊥
 
 -- ---- what is on its way
 
--- What is asked stays. From whichever session it was begun on: nothing but its rounds was made there.
+-- What is asked stays. From whichever client it was begun on: nothing but its rounds was made in its session, and within its limits.
 pub record IsSameRequest (u v : UnderWayOf) : Type 0 where
   pub server_is : v.server ≡ u.server
   pub asked_is : v.asked ≡ u.asked
@@ -139,7 +139,7 @@ StoresRound old client = ⊥
 pub record AnswersIt (u : UnderWayOf) (a : AnsweredOf) : Type 0 where
   pub server_is : a.server ≡ u.server
   pub asked_is : a.asked ≡ u.asked
-  pub answers : (c : ClientOf HandedIn) → IsUnderway any_tell c.session u.hand
+  pub answers : (c : ClientOf HandedIn) → IsUnderway any_tell c u.hand
       → PlansHost c.server c.most u.asked u.hand.planned
       → AnswersHost any_tell c u.asked (report_in a) a.client.session
 
@@ -162,7 +162,7 @@ MakesRound (Asked u) (Asked v) = IsSameRequest u v × IsNewRound v.hand.far
 MakesRound (Loading l) (Loading m) = (l.far ≡ handed) × IsSameLoad l m × IsNewRound m.far
 MakesRound old new = ⊥
 
--- the server and the limit stay, and the replies are stored
+-- the server and the limits stay, and the replies are stored
 pub record Stores (old new : HostClient) : Type 0 where
   pub same : IsSameClient (client_in old) (client_in new)
   pub stored : StoresRound old (client_in new)

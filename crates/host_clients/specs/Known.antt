@@ -27,7 +27,7 @@ abbrev pub OnClient : (ClientOf HandedIn → ClientOf HandedIn → Type 0)
 OnClient becomes old (Idle d) = becomes (client_in old) d
 OnClient becomes old new = ⊥
 
--- a call is made in the client's session. The server answers it as before, and within the same limit.
+-- a call is made in the client's session. The server answers it as before, and within the same limits.
 abbrev pub Calls : Call → ClientOf HandedIn → ClientOf HandedIn → Type 0
 Calls call c d = IsSameClient c d × IsClientCall any_tell call c d
 
@@ -57,4 +57,12 @@ Clears loader key there c d = (there ≡ is_some (known_of c loader key))
 
 -- an answer has at most `most` bytes from now on
 abbrev pub LimitsAnswers : Option ℕ → ClientOf HandedIn → ClientOf HandedIn → Type 0
-LimitsAnswers most c d = d ≡ client_of c.server most c.session
+LimitsAnswers most c d = d ≡ client_of c.server most c.limits c.session
+
+-- what is asked together may be at most `most` work from now on
+abbrev pub LimitsWork : Option ℕ → ClientOf HandedIn → ClientOf HandedIn → Type 0
+LimitsWork most c d = d ≡ client_of c.server c.most (record c.limits { work = most }) c.session
+
+-- at most `most` rounds may be made for what is asked together from now on
+abbrev pub LimitsRounds : Option ℕ → ClientOf HandedIn → ClientOf HandedIn → Type 0
+LimitsRounds most c d = d ≡ client_of c.server c.most (record c.limits { rounds = most }) c.session

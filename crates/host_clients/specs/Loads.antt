@@ -26,7 +26,7 @@ load_orders hand = map order_in (pending_in hand.far)
 -- says what holds between calls
 abbrev pub HoldsLoading : LoadByHandOf HandedIn → List OrderOf → Type 0
 HoldsLoading hand orders = HoldsWork hand.client.server hand.far
-    (λ s. IsLoadUnderway any_tell s hand) (λ c. Unit {0}) orders
+    (λ c. IsLoadUnderway any_tell c.session hand) (λ c. Unit {0}) orders
 
 -- a client with the outcomes of the keys that it loaded last
 pub record LoadedOf : Type 0 where

@@ -4,6 +4,7 @@ use Rattle.text_place.specs.declared.place.Place.{Place}
 use Rattle.gq_schema.specs.declared.fault.SchemaFault.{SchemaFault}
 use Rattle.gq_schema.specs.declared.fault.SchemaFault.TheVariants as schema
 use Rattle.load_queue.specs.Loaders.{LoaderOf}
+use Rattle.load_rounds.specs.Limits.{no_limits}
 use Rattle.gq_bindings.specs.Tree as bindings
 use Rattle.plan_requests.specs.Servers.{ServerOf, IsServerFault}
 use Rattle.server.specs.Opening.{new_loader}
@@ -65,10 +66,11 @@ AreNewLoaders source limits (line ∷ lines) (l ∷ ls) =
 abbrev pub handed_in : HandedIn
 handed_in = record {}
 
--- a client of this server, which knows nothing: it has a new loader for each of the server's lines, and no round was made
+-- a client of this server, which knows nothing, and whose answers have no limits: it has a new loader for each of the server's lines, and no
+-- round was made
 abbrev pub IsNewClient : ServerOf → List ℕ → HostClient → Type 0
 IsNewClient server limits (Idle c) = (c.server ≡ server)
-    × (c.most ≡ None) × (c.session.pairs ≡ []) × (c.session.rounds ≡ 0)
+    × (c.most ≡ None) × (c.limits ≡ no_limits) × (c.session.pairs ≡ []) × (c.session.rounds ≡ 0)
     × AreNewLoaders handed_in limits server.bindings.loaders c.session.loaders
 IsNewClient server limits other = ⊥
 

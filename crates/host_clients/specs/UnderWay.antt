@@ -4,6 +4,7 @@ use Rattle.load_queue.specs.Orders.{OrderOf}
 use Rattle.load_rounds.specs.Histories.{any_tell}
 use Rattle.load_rounds.specs.Sessions.{SessionOf}
 use Rattle.load_rounds.specs.SharedRounds.{ReportOf}
+use Rattle.load_rounds.specs.declared.limits.Limits.{Limits}
 use Rattle.plan_requests.specs.Servers.{ServerOf}
 use Rattle.rounds_by_hand.specs.Hands.{FarOf, pending_in}
 use Rattle.rounds_by_hand.specs.Pending.{order_in}
@@ -21,18 +22,17 @@ pub record UnderWayOf : Type 0 where
 -- What is on its way was begun on some client of this server, as it was then, of which the last holds. Since then nothing but its rounds was
 -- made in the client's session. These are the orders of the round that is out.
 pub record HoldsWork {P E : Type 0} (server : ServerOf) (far : FarOf P E)
-    (has_gone : SessionOf HandedIn → Type 0) (is_for : ClientOf HandedIn → Type 0)
-    (orders : List OrderOf) : Type 0 where
+    (has_gone is_for : ClientOf HandedIn → Type 0) (orders : List OrderOf) : Type 0 where
   pub begun : ClientOf HandedIn
   pub of_server : begun.server ≡ server
-  pub underway : has_gone begun.session
+  pub underway : has_gone begun
   pub planned : is_for begun
   pub orders_are : orders ≡ map order_in (pending_in far)
 
 -- says what holds of a request between calls: it is planned for the client that it was begun on
 abbrev pub HoldsUnderWay : ServerOf → ByHandOf HandedIn → HostAsked → List OrderOf → Type 0
 HoldsUnderWay server hand asked orders =
-    HoldsWork server hand.far (λ s. IsUnderway any_tell s hand)
+    HoldsWork server hand.far (λ c. IsUnderway any_tell c hand)
     (λ c. PlansHost c.server c.most asked hand.planned) orders
 
 -- the orders of the round that is out
@@ -50,11 +50,12 @@ pub record AnsweredOf : Type 0 where
 abbrev pub report_in : AnsweredOf → ReportOf
 report_in a = record { text = a.text; rounds = a.rounds }
 
--- The text answers what was asked, by the definitions of serving: in the session of some client of this server, from one state to a later
--- one, in which the loaders were asked exactly the batches of a lawful log.
-pub record IsAnswerOf (server : ServerOf) (asked : HostAsked) (text : List ℕ)
-    (rounds : ℕ) : Type 0 where
+-- The text answers what was asked, by the definitions of serving: in the session of some client of this server, with these limits, from one
+-- state to a later one, in which the loaders were asked exactly the batches of a lawful log.
+pub record IsAnswerOf (server : ServerOf) (limits : Limits) (asked : HostAsked)
+    (text : List ℕ) (rounds : ℕ) : Type 0 where
   pub begun : ClientOf HandedIn
   pub later : SessionOf HandedIn
   pub of_server : begun.server ≡ server
+  pub limits_are : begun.limits ≡ limits
   pub answers : AnswersHost any_tell begun asked (record { text = text; rounds = rounds }) later

@@ -11,7 +11,7 @@ use std::snapshot::Snapshot;
 /// A client with the answer to what it was asked last.
 ///
 /// A contract sees the client, the server that it was planned by, what was asked, the text and how many rounds it took. The text is the
-/// answer of that (`IsAnswerOf`).
+/// answer of that, within the client's limits (`IsAnswerOf`).
 pub struct AnsweredClient {
     pub(crate) client: ClientSession<HandedIn>,
     pub(crate) text: String,
@@ -35,7 +35,7 @@ impl Model for AnsweredClient {
 
     ghost view = { λ a. record { client = a.client; server = a.queries.value; asked = a.note.asked; text = string_bytes a.text; rounds = a.rounds } };
 
-    ghost invariant = { λ a. IsAnswerOf a.queries.value (a.note.asked) (string_bytes a.text) a.rounds };
+    ghost invariant = { λ a. IsAnswerOf a.queries.value a.client.limits (a.note.asked) (string_bytes a.text) a.rounds };
 }
 
 impl Drop for AnsweredClient {
@@ -54,7 +54,7 @@ impl AnsweredClient {
     /// The text of the answer.
     pub fn text(&self) -> &str
         ensures text { result.now ≡ self.now.text }
-        ensures answer { IsAnswerOf self.now.server
+        ensures answer { IsAnswerOf self.now.server self.now.client.limits
             self.now.asked self.now.text self.now.rounds }
     {
         self.text.as_str()

@@ -146,7 +146,7 @@ impl HostClient {
         }
     }
 
-    /// Begins the answer to what is asked, as the server of `queries` answers it, within the client's limit. What it does wrong is answered.
+    /// Begins the answer to what is asked, as the server of `queries` answers it, within the client's limits. What it does wrong is answered.
     /// An answer to what was asked before is let go.
     ///
     /// # Errors

@@ -5,7 +5,8 @@ ghost use Rattle.load_memory.specs.Outcomes.{item_of};
 ghost use Rattle.load_rounds.specs.Histories.{ClearingAll};
 ghost use Rattle.server.specs.Clients.{begun};
 ghost use Rattle.host_clients.specs.Clients.{LacksLoader, client_in, is_busy, width_in};
-ghost use Rattle.host_clients.specs.Known.{Calls, Clears, Forgets, KeepsOrForgets, LimitsAnswers, OnClient, Primes, PrimesSaid, items_in, key_in};
+ghost use Rattle.host_clients.specs.Known.{Calls, Clears, Forgets, KeepsOrForgets, OnClient, Primes, PrimesSaid, items_in, key_in};
+ghost use Rattle.host_clients.specs.Known.{LimitsAnswers, LimitsRounds, LimitsWork};
 ghost use Rattle.host_clients.specs.Laid.{AreKeyTexts, KeyFault, laid_reply, texts_at};
 ghost use Rattle.host_clients.specs.Logs.{AreBatches, LogHolds};
 ghost use Rattle.host_clients.specs.Refused.{BeginFault, BusyFault, ClearFault, KnownFault, LoaderFault, PrimeFault};
@@ -221,6 +222,42 @@ impl HostClient {
             (BusyFault self.old) }
     {
         self.idle_mut()?.limit_answers(most);
+        Ok(())
+    }
+
+    /// From now on what is asked together may be at most `most` work, that of an array in sum; `None` is no limit. What is more is refused
+    /// with `too much work`. Keys that are loaded have no limit.
+    ///
+    /// # Errors
+    ///
+    /// [`Busy`](Fault::Busy).
+    pub fn limit_work(&mut self, most: Option<usize>) -> Result<(), Fault>
+        ensures limited { OnOk result (OnClient (LimitsWork most) self.old self.new) }
+        ensures kept { OnErr result (self.new ≡ self.old) }
+        ensures busy { is_busy self.old ≡ true
+            → self.new ≡ self.old }
+        ensures fault { IfErr result
+            (BusyFault self.old) }
+    {
+        self.idle_mut()?.limit_work(most);
+        Ok(())
+    }
+
+    /// From now on at most `most` rounds may be made for what is asked together; `None` is no limit. What needs more is refused with
+    /// `too many rounds`. Keys that are loaded have no limit.
+    ///
+    /// # Errors
+    ///
+    /// [`Busy`](Fault::Busy).
+    pub fn limit_rounds(&mut self, most: Option<u32>) -> Result<(), Fault>
+        ensures limited { OnOk result (OnClient (LimitsRounds most) self.old self.new) }
+        ensures kept { OnErr result (self.new ≡ self.old) }
+        ensures busy { is_busy self.old ≡ true
+            → self.new ≡ self.old }
+        ensures fault { IfErr result
+            (BusyFault self.old) }
+    {
+        self.idle_mut()?.limit_rounds(most);
         Ok(())
     }
 

@@ -2,10 +2,10 @@
 //!
 //! The layer above may rely on this: a [`HostClient`] answers one request at a time, or loads the keys of one loader, by rounds whose
 //! orders its host replies to. An answer that it holds is that of what was asked, by the definitions of serving, in a session of a client
-//! of the server that planned it: the loaders were asked exactly the batches of a lawful log (`IsAnswerOf` of `specs/UnderWay.antt`, an invariant of
-//! [`AnsweredClient`]). Outcomes that it holds are those of the keys, as a session loads them (`AreOutcomesOf` of `specs/Loads.antt`, an
-//! invariant of [`LoadedClient`]). A reply is what the host laid out (`TakesReply`), or is refused with its first fault, and the order
-//! waits as before. A refusal loses nothing.
+//! of the server that planned it, which has the same limits on work and rounds: the loaders were asked exactly the batches of a lawful log
+//! (`IsAnswerOf` of `specs/UnderWay.antt`, an invariant of [`AnsweredClient`]). Outcomes that it holds are those of the keys, as a session
+//! loads them (`AreOutcomesOf` of `specs/Loads.antt`, an invariant of [`LoadedClient`]). A reply is what the host laid out (`TakesReply`),
+//! or is refused with its first fault, and the order waits as before. A refusal loses nothing.
 #![tactic(auto)]
 
 mod answered;

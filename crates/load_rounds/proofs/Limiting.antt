@@ -16,6 +16,8 @@ use Rattle.execution.proofs.Monotone.{front-open, work-grows}
 use Rattle.execution.proofs.SharedLaws.{below-front}
 use Rattle.load_rounds.specs.declared.limits.Limits.{Limits}
 use Rattle.load_rounds.specs.declared.limits.Excess.{Excess}
+use Rattle.load_rounds.specs.declared.limits.Excess.TheVariants.{Work, Rounds}
+use Rattle.load_rounds.specs.declared.limits.Overrun.{Overrun}
 use Rattle.load_rounds.specs.declared.rounds.Stage.TheVariants.{Ready, Finished}
 use Rattle.load_rounds.specs.Sessions.{StateOf}
 use Rattle.load_rounds.specs.Calls.{RoundRan}
@@ -24,13 +26,18 @@ use Rattle.load_rounds.specs.SharedRounds.{RequestOf, items_from, requests, toge
 use Rattle.load_rounds.specs.Executions.{PartOf, plans_in, reports_in}
 use Rattle.load_rounds.specs.ByHand.{front_in}
 use Rattle.load_rounds.specs.Runs.{RunOf, program_of, IsReady, IsFinished, IsRun}
-use Rattle.load_rounds.specs.Limits.{work_of_all, IsWithin, AreOver, MayGoOn, AreAskedInTime, AreWithin, AreRefused, IsLastInTime}
+use Rattle.load_rounds.specs.Limits.{no_limits, work_of_all, IsWithin, AreOver, MayGoOn, AreAskedInTime, AreWithin, AreRefused, IsLastInTime}
 use Rattle.load_rounds.proofs.GoingOn.{or-left}
 use Rattle.load_rounds.proofs.Stepping.{made-recorded}
 
 pub within-none : (limit : Option ℕ) (rounds : ℕ) → rounds ≡ 0 → IsWithin limit rounds
 within-none None rounds none = tt
 within-none (Some most) rounds none = omega (arith, none)
+
+-- where there are no limits no answers are over one
+pub never-over : {S : Type 0} (rs : List RequestOf) (s : StateOf S) (rounds : ℕ) (excess : Excess) → AreOver no_limits rs s rounds excess → ⊥
+never-over rs s rounds Work over = over
+never-over rs s rounds Rounds over = over.0
 
 -- the work only grows
 pub work-of-all-grows : (rs : List RequestOf) (R Q : Reader) → AnswersMore R Q → work_of_all rs R ≤ work_of_all rs Q
@@ -115,17 +122,19 @@ module _ {P : Type 0} (program : P → Program) (text_of : P → AnsweredOf → 
 
 -- what was done since a run was begun, once it has ended
 module _ {P E : Type 0} (program : P → Program) (text_of : P → AnsweredOf → List ℕ) {S : Type 0} (may : S → List KeyOf → AnswerOf → Type 0) (old now : StateOf S) (limits : Limits) (plans : List P) (run : RunOf P E) (same : plans_in run.parts ≡ plans) where
-  pub refused : (excess : Excess) → run.stage ≡ Ready → IsRun program text_of may old now run → AreOver limits (requests program text_of (plans_in run.parts)) now run.rounds excess → AreAskedInTime may old now limits (requests program text_of plans) run.rounds → AreRefused may old now limits (requests program text_of plans) excess
-  refused excess ready is over in_time =
+  pub refused : (overrun : Overrun) → overrun.rounds ≡ run.rounds → run.stage ≡ Ready → IsRun program text_of may old now run → AreOver limits (requests program text_of (plans_in run.parts)) now run.rounds overrun.excess → AreAskedInTime may old now limits (requests program text_of plans) run.rounds
+      → AreRefused may old now limits (requests program text_of plans) overrun
+  refused overrun counted ready is over in_time =
       let was : IsReady program text_of may old now run.parts run.rounds = rw ready at is in
       let h = was.between in
       let made = subst (λ ps. MakesRounds may old now (joint program text_of ps) h.log) same h.made in
-      let over_plans = subst (λ ps. AreOver limits (requests program text_of ps) now run.rounds excess) same over in
+      let over_plans = subst (λ ps. AreOver limits (requests program text_of ps) now run.rounds overrun.excess) same over in
       record {
         log = h.log;
         made = made;
         recorded = made-recorded may old now (joint program text_of plans) h.log made;
-        over = subst (λ n. AreOver limits (requests program text_of plans) now n excess) (sym h.counted) over_plans;
+        counted = counted ∙ sym h.counted;
+        over = subst (λ n. AreOver limits (requests program text_of plans) now n overrun.excess) (sym h.counted) over_plans;
         in_time = subst (λ n. AreAskedInTime may old now limits (requests program text_of plans) n) (sym h.counted) in_time;
       }
 

@@ -13,7 +13,8 @@ use Rattle.load_queue.specs.Answers.{AnswerOf}
 use Rattle.load_queue.specs.Loaders.{LoaderOf}
 use Rattle.load_queue.specs.Wanted.{WantedOf}
 use Rattle.execution.specs.Loads.{Load, Memory, Reader, read, IsOneOf}
-use Rattle.execution.specs.Program.{Program, given, tree, all_needs, all_chain, chain}
+use Rattle.execution.specs.Program.{Null, Program, Open, At, given, tree, trees, all_needs, all_chain, chain}
+use Rattle.execution.specs.Work.{count_positions, count_all_positions, work}
 use Rattle.execution.specs.Completion.{is_open}
 use Rattle.execution.specs.Executes.{IsExecuted}
 use Rattle.execution.specs.Front.{missing, firsts, front, front_of_keys, wanting, modes_wanted}
@@ -64,6 +65,19 @@ reads-chain n loader (k ∷ ks) R = omega (arith, no-chain (R (load_of loader k)
 
 pub reading-chain : (loader : ℕ) (ks : List KeyOf) (R : Reader) → chain (reading loader ks) R ≤ 1
 reading-chain loader ks R = reads-chain 0 loader ks R
+
+-- ---- its work
+
+reads-work : (n loader : ℕ) (ks : List KeyOf) (R : Reader) → count_all_positions (trees (reads_from n loader ks) R) ≡ length ks
+reads-work n loader [] R = refl
+reads-work n loader (k ∷ ks) R = omega (arith, one-position (R (load_of loader k)), reads-work (suc n) loader ks R)
+  where
+    one-position : (o : Option OutcomeOf) → count_positions (given o Open (λ x. At Null)) ≡ 1
+    one-position None = refl
+    one-position (Some x) = refl
+
+pub reading-work : (loader : ℕ) (ks : List KeyOf) (R : Reader) → work (reading loader ks) R ≡ length ks + 1
+reading-work loader ks R = omega (arith, reads-work 0 loader ks R)
 
 -- ---- what an execution of it answers that has wanted what is missing
 

@@ -80,6 +80,10 @@ module _ {S : Type 0} where
     RunsAsked old new = (asked : IsAsked p old)
         → RoundRan may asked.before new (front_in asked.before p)
 
+    -- so it is where the replies to it are as the sources may give them
+    abbrev pub RunsIfReceived : StateOf S → StateOf S → List ReplyOf → Type 0
+    RunsIfReceived old new shown = AreReceivedIn old shown → RunsAsked old new
+
     -- the order of the replies makes no difference: the state after them is that after the same ones in order of the orders
     abbrev pub TakesInAnyOrder : StateOf S → StateOf S → List ReplyOf → Type 0
     TakesInAnyOrder old new shown = (replies : List ReplyOf)

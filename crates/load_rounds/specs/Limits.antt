@@ -19,8 +19,13 @@ use Rattle.load_rounds.specs.Runs.{RunOf, IsRun}
 use Rattle.load_rounds.specs.declared.answer.Answer.{Answer}
 use Rattle.load_rounds.specs.declared.limits.Limits.{Limits}
 use Rattle.load_rounds.specs.declared.limits.Excess.{Excess}
+use Rattle.load_rounds.specs.declared.limits.Overrun.{Overrun}
 use Rattle.load_rounds.specs.declared.limits.Excess.TheVariants.{Work, Rounds}
 use Rattle.load_rounds.specs.declared.rounds.Stage.TheVariants.{Ready, Finished}
+
+-- no limit on the work, and none on the rounds
+abbrev pub no_limits : Limits
+no_limits = record { work = None; rounds = None }
 
 -- *Work* of several requests: that of each, added up
 abbrev pub work_of_all : List RequestOf → Reader → ℕ
@@ -96,26 +101,27 @@ module _ {S : Type 0} where
   -- The answers are refused: failed batches were forgotten, these rounds were made and nothing else, and over what is known then they are
   -- over a limit, and not before. Nothing was asked off the record.
   pub record AreRefused (may : S → List KeyOf → AnswerOf → Type 0) (old new : StateOf S)
-      (limits : Limits) (rs : List RequestOf) (excess : Excess) : Type 0 where
+      (limits : Limits) (rs : List RequestOf) (overrun : Overrun) : Type 0 where
     pub log : List (List ReplyOf)
     pub made : MakesRounds may old new (together rs) log
     pub recorded : AreOnRecord old.loaders new.loaders
-    pub over : AreOver limits rs new (length log) excess
+    pub counted : overrun.rounds ≡ length log
+    pub over : AreOver limits rs new (length log) overrun.excess
     pub in_time : AreAskedInTime may old new limits rs (length log)
 
   module _ (may : S → List KeyOf → AnswerOf → Type 0) (old new : StateOf S) (limits : Limits) where
     -- an answer with the headline, within the limits; or a refusal
-    abbrev pub IsAnswerWithin : RequestOf → Result Answer Excess → Type 0
+    abbrev pub IsAnswerWithin : RequestOf → Result Answer Overrun → Type 0
     IsAnswerWithin r (Ok a) = HasHeadline may old new r.program r.text_of a
         × AreWithin limits (r ∷ []) new a.rounds
-    IsAnswerWithin r (Err excess) = AreRefused may old new limits (r ∷ []) excess
+    IsAnswerWithin r (Err overrun) = AreRefused may old new limits (r ∷ []) overrun
 
     -- an answer to each, with the headline of several; or one refusal
-    abbrev pub AreAnswersWithin : List RequestOf → Result (Vec Answer) Excess → Type 0
+    abbrev pub AreAnswersWithin : List RequestOf → Result (Vec Answer) Overrun → Type 0
     AreAnswersWithin rs (Ok answers) =
         (headline : SharedHeadline may old new rs (map report_of answers.items))
         × AreWithin limits rs new (length headline.log)
-    AreAnswersWithin rs (Err excess) = AreRefused may old new limits rs excess
+    AreAnswersWithin rs (Err overrun) = AreRefused may old new limits rs overrun
 
 -- a run within limits has ended: nothing is missing any more, or the answers are over a limit
 abbrev pub EndsWithin : {S P E : Type 0} → (P → Program) → (P → AnsweredOf → List ℕ)

@@ -9,7 +9,7 @@ ghost use Rattle.load_rounds.specs.Calls.{load_of, reader_of};
 ghost use Rattle.load_rounds.specs.Reading.{keys_of, no_text, reading};
 
 use crate::session::Session;
-use execution::Execute;
+use execution::{CountWork, Execute};
 use futures::task::Poll;
 use load_memory::{Key, Keys, Memory, Outcome, Probe};
 use load_queue::Wants;
@@ -94,6 +94,22 @@ impl Execute<()> for KeysToLoad {
         wants: &mut Wants,
     ) -> Result<Poll<String>, AllocError> {
         want_missing(alloc, memory, self.loader, self.keys.as_slice(), wants)
+    }
+}
+
+impl CountWork<()> for KeysToLoad {
+    // A position for each key, whether it is known or not, and one for their list.
+    fn work_left(
+        &self,
+        _alloc: Global,
+        _memory: &Memory,
+        most: usize,
+    ) -> Result<Option<usize>, AllocError> {
+        let keys = self.keys.as_slice().len();
+        if keys >= most {
+            return Ok(None);
+        }
+        Ok(Some(most - keys - 1))
     }
 }
 

@@ -44,6 +44,6 @@ pub use execution::Execute;
 pub use fault::SessionFault;
 pub use keys::KeysToLoad;
 pub use lent::Lent;
-pub use limits::{Excess, Limits};
+pub use limits::{Excess, Limits, Overrun};
 pub use rounds::{Rounds, Stage};
 pub use session::Session;

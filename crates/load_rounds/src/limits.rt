@@ -22,6 +22,20 @@ pub struct Limits {
     pub rounds: Option<u32>,
 }
 
+impl Limits {
+    ghost use Rattle.load_rounds.specs.Limits.{no_limits};
+
+    /// Returns no limit on the work, and none on the rounds.
+    pub fn none() -> Limits
+        ensures { result ≡ no_limits }
+    {
+        Limits {
+            work: None,
+            rounds: None,
+        }
+    }
+}
+
 /// Says which limit answers are over.
 #[derive(Clone, Copy, Debug, PartialEq, Eq)]
 pub enum Excess {
@@ -29,6 +43,27 @@ pub enum Excess {
     Work,
     /// Something is missing, and no round more may be made.
     Rounds,
+}
+
+/// Says of answers that were refused which limit they are over, and how far they had come.
+#[derive(Clone, Copy, Debug, PartialEq, Eq)]
+pub struct Overrun {
+    /// The limit that they are over.
+    pub excess: Excess,
+    /// How many rounds were made for them.
+    pub rounds: u32,
+}
+
+impl<P, E> Rounds<P, E> {
+    /// Returns what is told of the answers where they are over this limit, after the rounds so far.
+    pub fn overrun(&self, excess: Excess) -> Overrun
+        ensures { result ≡ record { excess = excess; rounds = self.now.rounds } }
+    {
+        Overrun {
+            excess,
+            rounds: self.rounds(),
+        }
+    }
 }
 
 impl<E: Drop, P: CountWork<E>> Rounds<P, E> {
@@ -168,7 +203,7 @@ impl<S: LocalSource> Session<S> {
         &mut self,
         plan: &P,
         limits: Limits,
-    ) -> Result<Result<Answer, Excess>, AllocError>
+    ) -> Result<Result<Answer, Overrun>, AllocError>
         requires { P.loaders plan.now
             ≤ length self.old.loaders }
         ensures answer { IfOk result (IsAnswerWithin S.may_tell (state_of self.old)
@@ -178,7 +213,7 @@ impl<S: LocalSource> Session<S> {
     {
         let mut rounds = self.begin(plan);
         if let Some(excess) = rounds.run_within(self, limits)? {
-            return Ok(Err(excess));
+            return Ok(Err(rounds.overrun(excess)));
         }
         match rounds.into_answer() {
             Some(answer) => Ok(Ok(answer)),
@@ -196,7 +231,7 @@ impl<S: LocalSource> Session<S> {
         &mut self,
         plans: Vec<P>,
         limits: Limits,
-    ) -> Result<Result<Vec<Answer>, Excess>, AllocError>
+    ) -> Result<Result<Vec<Answer>, Overrun>, AllocError>
         requires { All (λ plan. P.loaders plan
             ≤ length self.old.loaders) plans.items }
         ensures answers { IfOk result (AreAnswersWithin S.may_tell (state_of self.old)
@@ -206,7 +241,7 @@ impl<S: LocalSource> Session<S> {
     {
         let mut rounds = self.begin_all(plans)?;
         if let Some(excess) = rounds.run_within(self, limits)? {
-            return Ok(Err(excess));
+            return Ok(Err(rounds.overrun(excess)));
         }
         Ok(Ok(rounds.into_answers(self.alloc())?))
     }

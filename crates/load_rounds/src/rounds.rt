@@ -155,7 +155,7 @@ impl<E, P: Execute<E>> Rounds<P, E> {
     ghost use Rattle.load_rounds.specs.Executions.{plans_in};
     ghost use Rattle.load_rounds.specs.Sessions.{state_of};
     ghost use Rattle.load_rounds.specs.Histories.{any_tell};
-    ghost use Rattle.load_rounds.specs.ByHand.{AreReceiptsIn, AreReceivedIn, AwaitsReplies, RunsReceipts};
+    ghost use Rattle.load_rounds.specs.ByHand.{AreReceiptsIn, AreReceivedIn, AwaitsReplies, RunsIfReceived, RunsReceipts};
     ghost use Rattle.load_rounds.specs.Runs.{FailsToAsk, FailsToTake, GoesOnFrom, GoesOnIfReceived, Holds, IsNext, IsTurn, KeepsPlans, MayRun, TakesReplies, program_of};
 
     /// Goes on with each plan that isn't finished, in order. Returns the orders of the next round, by number of loader and then by
@@ -275,6 +275,8 @@ impl<E, P: Execute<E>> Rounds<P, E> {
         requires holds { Holds P.program P.text_of P.loaders P.fits self.old session.old }
         ensures taken { OnOk result (TakesReplies (state_of session.old) (state_of session.new)
             self.old self.new (map reply_of replies.items)) }
+        ensures ran { OnOk result (RunsIfReceived S.may_tell (program_of P.program P.text_of
+            self.old) (state_of session.old) (state_of session.new) (map reply_of replies.items)) }
         ensures failed { OnErr result (FailsToTake
             (state_of session.old) (state_of session.new) self.old self.new) }
         ensures holds { Holds P.program P.text_of P.loaders P.fits self.new session.new }

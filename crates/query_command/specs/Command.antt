@@ -33,6 +33,13 @@ max_answer_rule = record (new_rule (codes "max-answer")) {
   parser = Some (parser.Signed (pos 1) (pos 4294967295));
 }
 
+abbrev pub max_work_rule : Rule
+max_work_rule = record (new_rule (codes "max-work")) {
+  long = Some (codes "max-work");
+  value_names = 1;
+  parser = Some (parser.Signed (pos 1) (pos 4294967295));
+}
+
 abbrev pub explain_rule : Rule
 explain_rule =
     record (new_rule (codes "explain")) { long = Some (codes "explain"); action = Some SetTrue }
@@ -51,12 +58,16 @@ abbrev pub unnamed : App
 unnamed = let a : App = new_app (codes "query_cli") in
     record a { top = record a.top { no_binary_name = true; has_version = true } }
 
--- the options
-abbrev pub options : App
-options =
-    with_rule (with_rule (with_rule (with_rule (with_rule (with_rule (with_rule unnamed schema_rule)
-    bindings_rule) workers_rule) max_batch_rule) max_answer_rule) explain_rule) trace_rule
+-- the options that have a file of the world or a number
+abbrev pub numbers : App
+numbers =
+    with_rule (with_rule (with_rule (with_rule (with_rule (with_rule unnamed schema_rule)
+    bindings_rule) workers_rule) max_batch_rule) max_answer_rule) max_work_rule
 
--- two files, three numbers, a flag and a file of a trace if wanted, a file of requests, and any number of tables
+-- all options
+abbrev pub options : App
+options = with_rule (with_rule numbers explain_rule) trace_rule
+
+-- two files, four numbers, a flag and a file of a trace if wanted, a file of requests, and any number of tables
 abbrev pub command_line : App
 command_line = with_rule (with_rule options requests_rule) table_rule

@@ -61,6 +61,7 @@ pub record IsWords (rows : List Row) (words : CommandWords) : Type 0 where
   pub workers : IsNumber (one_of (codes "workers") rows) words.workers
   pub max_batch : IsNumber (one_of (codes "max-batch") rows) words.files.max_batch
   pub max_answer : IsNumber (one_of (codes "max-answer") rows) words.max_answer
+  pub max_work : IsNumber (one_of (codes "max-work") rows) words.max_work
   pub explain : IsFlag (one_of (codes "explain") rows) words.explain
   pub trace : option_map string_bytes words.trace ≡ first_of (codes "trace") rows
   pub requests : string_bytes words.requests ≡ text_at rows (codes "REQUESTS")

@@ -2,7 +2,7 @@
 
 ghost use Rattle.std.specs.Prelude.{◌≡◌, IfOk, false};
 ghost use Rattle.clap.specs.Words.{app_of, rule_of};
-ghost use Rattle.query_command.specs.Command.{command_line, schema_rule, bindings_rule, workers_rule, max_batch_rule, max_answer_rule, explain_rule, trace_rule, requests_rule, table_rule};
+ghost use Rattle.query_command.specs.Command.{command_line, schema_rule, bindings_rule, workers_rule, max_batch_rule, max_answer_rule, max_work_rule, explain_rule, trace_rule, requests_rule, table_rule};
 
 use clap::{Arg, ArgAction, Command};
 use std::alloc::{AllocError, Global};
@@ -43,6 +43,20 @@ fn max_answer<'a>(alloc: Global) -> Arg<'a>
         .value_name("BYTES")
         .help(
             "At most how many bytes one answer has, from 1 to 4294967295; a longer one is refused; no bound if left out",
+        )
+        .value_parser(clap::value_parser!(u32).range(1..=4_294_967_295))
+}
+
+// The option for an amount of work, at least 1 and at most 4,294,967,295.
+fn max_work<'a>(alloc: Global) -> Arg<'a>
+    ensures rule { rule_of result ≡ max_work_rule }
+    ensures local { result.global ≡ false }
+{
+    Arg::new(alloc, "max-work")
+        .long("max-work")
+        .value_name("N")
+        .help(
+            "At most how many objects, lists and leaves the answers to one line have, from 1 to 4294967295; more are refused; no bound if left out",
         )
         .value_parser(clap::value_parser!(u32).range(1..=4_294_967_295))
 }
@@ -138,6 +152,7 @@ pub fn command<'a>(alloc: Global) -> Result<Command<'a>, AllocError>
         .arg(workers(alloc))?
         .arg(max_batch(alloc))?
         .arg(max_answer(alloc))?
+        .arg(max_work(alloc))?
         .arg(explain(alloc))?
         .arg(trace(alloc))?
         .arg(requests(alloc))?

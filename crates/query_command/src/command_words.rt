@@ -13,7 +13,7 @@ use std::alloc::{AllocError, Global};
 use world_files::{TableFile, WorldFiles};
 
 /// The parts of a command line: `--schema F --bindings F [--workers N] [--max-batch N]
-/// [--max-answer BYTES] [--explain] [--trace F] REQUESTS [NAME=F]..`.
+/// [--max-answer BYTES] [--max-work N] [--explain] [--trace F] REQUESTS [NAME=F]..`.
 #[derive(Debug, Drop)]
 pub struct CommandWords {
     /// The files of the world, with the tables in the order of their words, and the batch limit.
@@ -22,6 +22,8 @@ pub struct CommandWords {
     pub workers: Option<u32>,
     /// Greatest number of bytes of one answer, from 1 to 4,294,967,295; `None`: no limit.
     pub max_answer: Option<u32>,
+    /// Greatest work of what one line asks, from 1 to 4,294,967,295; `None`: no limit.
+    pub max_work: Option<u32>,
     /// Tells whether a run that ends by a fault says where it is.
     pub explain: bool,
     /// The file of the trace, which is created; `None`: nothing is traced.
@@ -145,6 +147,7 @@ fn words_of(alloc: Global, matches: &ArgMatches<'_>) -> Result<CommandWords, Run
         },
         workers: number_of(matches, "workers"),
         max_answer: number_of(matches, "max-answer"),
+        max_work: number_of(matches, "max-work"),
         explain: is_given(matches, "explain"),
         trace: given_text(alloc, matches, "trace")?,
         requests: text_of(alloc, matches, "REQUESTS")?,

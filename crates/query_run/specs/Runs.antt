@@ -40,7 +40,8 @@ pub record IsSampleUnmade (old new : Option (List ℕ)) (end : RunEnd) : Type 0 
 
 -- the lines of the reader were served over the sample world, without any limit, or there was no world and nothing was read
 abbrev pub IsSampleRun : DevicesOf → RunEnd → Type 0
-IsSampleRun d end = ((world : WorldOf) × IsSample world × IsServed (within None world) d end)
+IsSampleRun d end =
+    ((world : WorldOf) × IsSample world × IsServed (within None None world) d end)
     ⊎ (Keeps d.unread d.rest × IsSampleUnmade d.old d.new end)
 
 -- Lines were served; and where the words name a file for a trace, their trace is what was written to it.
@@ -62,7 +63,8 @@ pub record AreFilesServed (holds written : Holdings) (words : CommandWords)
   pub devices : DevicesOf
   pub requests : IsAllOf (holds (string_bytes words.requests)) devices.unread
   pub answers : (devices.old ≡ old) × (devices.new ≡ new)
-  pub served : IsServedFor words written (within words.max_answer world) devices end
+  pub served : IsServedFor words written
+      (within words.max_answer words.max_work world) devices end
 
 -- no world or no request lines were to be had of the files, and nothing was written
 pub record AreFilesUnserved (holds : Holdings) (words : CommandWords) (old new : Option (List ℕ))

@@ -130,6 +130,7 @@ fn run_sample<I: Read, W: Write>(
             let service = Service {
                 world: &world,
                 max_answer: None,
+                max_work: None,
             };
             serve_in_turn(alloc, &service, reader, writer)
         }
@@ -137,11 +138,11 @@ fn run_sample<I: Read, W: Write>(
     }
 }
 
-/// Returns how many bytes an answer has at most, where the words say so.
-fn max_answer(words: &CommandWords) -> Option<usize>
-    ensures { result ≡ words.now.max_answer }
+/// Returns a limit that the words give, as a service takes it.
+fn limit_of(limit: Option<u32>) -> Option<usize>
+    ensures { result ≡ limit }
 {
-    match words.max_answer {
+    match limit {
         Some(most) => Some(most as usize),
         None => None,
     }
@@ -219,9 +220,12 @@ fn run_files<R: Threads + Wait + AllocGlobal + Sync, D: Folder, W: Write>(
         Ok(world) => world,
         Err(fault) => return LocatedRunEnd::from(fault),
     };
+    let max_answer = limit_of(run.words.max_answer);
+    let max_work = limit_of(run.words.max_work);
     let service = Service {
         world: &world,
-        max_answer: max_answer(run.words),
+        max_answer,
+        max_work,
     };
     match open_requests(folder, run.words.requests.as_str()) {
         Ok(file) => serve_requests(run, folder, &service, &mut CountedDevice::new(file), writer),

@@ -1,5 +1,5 @@
 -- Lemmas on how far a hand is, and what its calls make of that.
-use Rattle.std.proofs.Common.{◌≡◌, ◌<◌, ◌≤◌, ◌∙◌, ◌⊎◌, ◌+◌, ℕ, List, [], ◌∷◌, map, length, refl, ap, sym, subst, arith, inl, inr, false}
+use Rattle.std.proofs.Common.{◌≡◌, ◌<◌, ◌≤◌, ◌∙◌, ◌⊎◌, ◌+◌, ℕ, List, [], ◌∷◌, map, length, refl, ap, sym, subst, arith, inl, inr, false, None, Ok}
 use Rattle.std.proofs.lemmas.List.{length-map}
 use Rattle.std.proofs.lemmas.List.Elements.{All-head, All-tail, All-nil, All-cons}
 use Rattle.std.proofs.lemmas.List.Sorted.{IsPermutation-refl}
@@ -21,20 +21,24 @@ use Rattle.execution.specs.Sessions.{Forgot, Lost}
 use Rattle.load_rounds.specs.Headline.{StopsAnswering}
 use Rattle.load_rounds.specs.Sessions.{SessionOf, StateOf, state_of, rules_of, after_step, of_first}
 use Rattle.load_rounds.specs.ByHand.{AreReceived, front_in, orders_in, received, IsAsked, IsRound, IsUnasked}
-use Rattle.load_rounds.specs.SharedRounds.{report_of, requests, joint, AreAnswers, SharedHeadline}
+use Rattle.load_rounds.specs.SharedRounds.{report_of, requests, joint, SharedHeadline}
+use Rattle.load_rounds.specs.Limits.{AreAnswersWithin, AreAskedInTime, AreOver, AreWithin, IsWithin, MayGoOn}
+use Rattle.load_rounds.specs.declared.limits.Limits.{Limits}
+use Rattle.load_rounds.specs.declared.limits.Overrun.{Overrun}
 use Rattle.load_rounds.specs.Executions.{plans_in, reports_in}
-use Rattle.load_rounds.specs.Runs.{RunOf, IsRun, Holds as HoldsRun, GoesOnFrom, program_of}
+use Rattle.load_rounds.specs.Runs.{RunOf, IsNext, IsRun, Holds as HoldsRun, GoesOnFrom, program_of}
 use Rattle.load_rounds.specs.declared.rounds.Stage.TheVariants as stage
 use Rattle.load_rounds.proofs.Numbering.{orders-below, orders-loads}
 use Rattle.load_rounds.proofs.Runs.{lost-rules, round-asked, round-orders}
-use Rattle.load_rounds.proofs.Stages.{stopped-all, finished-all}
+use Rattle.load_rounds.proofs.Limiting.{refused, last-within, finished-within}
+use Rattle.load_rounds.proofs.Stages.{stopped-all}
 use Rattle.load_rounds.proofs.Stepping.{record-logged, record-many, record-same, record-then}
 use Rattle.load_rounds.specs.declared.answer.Answer.{Answer}
 use Rattle.rounds_by_hand.specs.declared.pending.Pending.{Pending}
 use Rattle.rounds_by_hand.specs.declared.pending.Pending.TheVariants.{Out, In}
 use Rattle.rounds_by_hand.specs.Pending.{order_in, still_out, is_in, IsReplied}
 use Rattle.rounds_by_hand.proofs.Orders.{out-orders, out-away, out-own}
-use Rattle.rounds_by_hand.specs.Hands.{FarOf, HandOf, handed, out, over, IsUnderway, KeepsHand, KeepsLoaders, IsOutWith, HoldsFar, HasGone, Readies}
+use Rattle.rounds_by_hand.specs.Hands.{FarOf, HandOf, handed, out, over, AsksAndStores, IsFarWithin, IsOver, IsUnderway, KeepsHand, KeepsLoaders, IsOutWith, HoldsFar, HasGone, Readies, Refuses}
 
 -- orders of which none has a reply
 pub none-replied : (may : ℕ → List KeyOf → AnswerOf → Type 0) (ps : List Pending) → All (λ one. is_in one ≡ false) ps → All (IsReplied may) ps
@@ -114,19 +118,43 @@ module _ {S : Type 0} where
   module _ {P E : Type 0} (program : P → Program) (text_of : P → AnsweredOf → List ℕ) (loaders : P → ℕ) (fits : P → E → MemoryOf → Type 0) where
     -- what a step keeps
     pub keeps-hand : (old new : HandOf S P E) → All (λ plan. loaders plan ≤ length old.session.loaders) old.plans → KeepsLoaders (state_of old.session) (state_of new.session) → new.plans ≡ old.plans
-        → HoldsFar program text_of loaders fits new.session new.plans new.far → KeepsHand program text_of loaders fits old new
-    keeps-hand old new enough kept same round = record {
+        → new.limits ≡ old.limits → HoldsFar program text_of loaders fits new.session new.plans new.far → IsFarWithin program text_of new.session new.plans new.limits new.far → KeepsHand program text_of loaders fits old new
+    keeps-hand old new enough kept same limits round within = record {
       holds = record {
         enough = subst (All (λ plan. loaders plan ≤ length new.session.loaders)) (sym same) (subst (λ n. All (λ plan. loaders plan ≤ n) old.plans) (sym (kept-many (state_of old.session) (state_of new.session) kept)) enough);
         round = round;
+        within = within;
       };
       plans = same;
+      limits = limits;
       session = kept;
     }
 
+  -- a run was made ready, and the answers are over a limit
+  module _ {P E : Type 0} (program : P → Program) (text_of : P → AnsweredOf → List ℕ) (loaders : P → ℕ) (fits : P → E → MemoryOf → Type 0) (may : S → List KeyOf → AnswerOf → Type 0) (old mid : HandOf S P E) (run : RunOf P E) (ready : Readies program text_of may loaders fits old mid run) (same : mid.plans ≡ old.plans)
+      (limited : mid.limits ≡ old.limits) where
+    same-plans : plans_in run.parts ≡ mid.plans
+    same-plans = ready.plans ∙ sym same
+
+    in-time : (begun : SessionOf S) → IsUnderway program text_of may begun old → AreAskedInTime may (state_of begun) (state_of mid.session) mid.limits (requests program text_of mid.plans) run.rounds
+    in-time begun h =
+        subst (λ ps. AreAskedInTime may (state_of begun) (state_of mid.session) mid.limits (requests program text_of ps) run.rounds) (sym same)
+        (subst (λ l. AreAskedInTime may (state_of begun) (state_of mid.session) l (requests program text_of old.plans) run.rounds) (sym limited) (ready.in_time begun h))
+
+    pub refuses : (overrun : Overrun) → overrun.rounds ≡ run.rounds → AreOver mid.limits (requests program text_of (plans_in run.parts)) (state_of mid.session) run.rounds overrun.excess → AsksAndStores may old mid → Refuses program text_of may (¬ (IsOver old.far)) (AsksAndStores may old mid) old mid overrun
+    refuses overrun counted exceeds stored = record {
+      could = ready.left;
+      knows = stored;
+      exceeds = subst (λ ps. AreOver mid.limits (requests program text_of ps) (state_of mid.session) overrun.rounds overrun.excess) same-plans (subst (λ n. AreOver mid.limits (requests program text_of (plans_in run.parts)) (state_of mid.session) n overrun.excess) (sym counted) exceeds);
+      went = λ begun h. refused program text_of may (state_of begun) (state_of mid.session) mid.limits mid.plans run same-plans overrun counted ready.stage (ready.went begun h) exceeds (in-time begun h);
+    }
+
+    pub refused-stops : (begun : SessionOf S) → IsUnderway program text_of may begun old → StopsAnswering may (state_of begun) (state_of mid.session) (joint program text_of mid.plans)
+    refused-stops begun h = stopped-all program text_of loaders fits may (state_of begun) (state_of mid.session) mid.plans run same-plans (ready.went begun h)
+
   -- a run was made ready and went on
   module _ {P E : Type 0} (program : P → Program) (text_of : P → AnsweredOf → List ℕ) (loaders : P → ℕ) (fits : P → E → MemoryOf → Type 0) (may : S → List KeyOf → AnswerOf → Type 0) (old mid : HandOf S P E) (run later : RunOf P E) (now : SessionOf S)
-      (ready : Readies program text_of may loaders fits old mid run) (same : mid.plans ≡ old.plans) (kept : plans_in later.parts ≡ plans_in run.parts) (went : GoesOnFrom program text_of may (state_of mid.session) (state_of now) run later) where
+      (ready : Readies program text_of may loaders fits old mid run) (same : mid.plans ≡ old.plans) (limited : mid.limits ≡ old.limits) (kept : plans_in later.parts ≡ plans_in run.parts) (went : GoesOnFrom program text_of may (state_of mid.session) (state_of now) run later) where
     own : plans_in later.parts ≡ mid.plans
     own = kept ∙ ready.plans ∙ sym same
 
@@ -138,11 +166,13 @@ module _ {S : Type 0} where
     advanced-stops begun h = stopped-all program text_of loaders fits may (state_of begun) (state_of now) mid.plans later own (ran begun h)
 
     -- nothing is missing any more
-    pub advanced-tells : later.stage ≡ stage.Finished → (answers : Vec Answer) → map report_of answers.items ≡ reports_in later.parts → (begun : SessionOf S) → IsUnderway program text_of may begun old
-        → AreAnswers may (state_of begun) (state_of now) (requests program text_of mid.plans) answers
-    advanced-tells finished answers are begun h =
-        let headline = finished-all program text_of loaders fits may (state_of begun) (state_of now) mid.plans later own finished (ran begun h) in
-        subst (λ ts. SharedHeadline may (state_of begun) (state_of now) (requests program text_of mid.plans) ts) (sym are) headline
+    pub advanced-tells : MayGoOn mid.limits (requests program text_of (plans_in run.parts)) (state_of mid.session) run.rounds → IsNext program text_of run later (state_of mid.session) (state_of now) None → (answers : Vec Answer) → map report_of answers.items ≡ reports_in later.parts
+        → (begun : SessionOf S) → IsUnderway program text_of may begun old → AreAnswersWithin may (state_of begun) (state_of now) mid.limits (requests program text_of mid.plans) (Ok answers)
+    advanced-tells might last answers are begun h =
+        let rounds = subst (λ (l : Limits). IsWithin l.rounds run.rounds) (sym limited) ready.within in
+        let within = last-within program text_of mid.limits (state_of mid.session) (state_of now) run later kept last.0.same last.1 might rounds in
+        let done = finished-within program text_of may (state_of begun) (state_of now) mid.limits mid.plans later own last.2 (ran begun h) within in
+        subst (λ ts. (headline : SharedHeadline may (state_of begun) (state_of now) (requests program text_of mid.plans) ts) × AreWithin mid.limits (requests program text_of mid.plans) (state_of now) (length headline.log)) (sym are) done
 
     -- a round is out
     module _ (orders : List CutOf) (ps : List Pending) (each : ps ≡ map still_out orders) where

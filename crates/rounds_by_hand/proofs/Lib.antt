@@ -3,3 +3,4 @@ pub mod Orders
 pub mod Taking
 pub mod Storing
 pub mod Becoming
+pub mod Within

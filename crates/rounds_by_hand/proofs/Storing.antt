@@ -7,13 +7,17 @@ use Rattle.load_memory.specs.Pairs.{look}
 use Rattle.load_memory.specs.Replies.{ReplyOf, reply_of}
 use Rattle.load_memory.specs.declared.reply.Reply.{Reply}
 use Rattle.load_queue.specs.Answers.{AnswerOf}
+use Rattle.execution.specs.Program.{Program}
+use Rattle.execution.specs.Completion.{AnsweredOf}
 use Rattle.execution.specs.Rounds.{after_round, may_at}
 use Rattle.load_rounds.specs.Sessions.{SessionOf, state_of, rules_of}
 use Rattle.rounds_by_hand.specs.declared.pending.Pending.{Pending}
 use Rattle.rounds_by_hand.specs.declared.pending.Pending.TheVariants.{Out, In}
 use Rattle.rounds_by_hand.specs.Pending.{is_in, replies_in, IsReplyFor, AreRepliesFor}
 use Rattle.rounds_by_hand.specs.Stored.{KnowsTheSame, Stores, StoresRound}
-use Rattle.rounds_by_hand.specs.Hands.{FarOf, handed, out, over, pending_in, StoresFrom, StoresAskedFrom}
+use Rattle.rounds_by_hand.specs.Hands.{FarOf, HandOf, handed, out, over, can_advance, pending_in, AsksAndOverruns, IsOver, Overruns, StoresFrom, StoresAskedFrom}
+use Rattle.rounds_by_hand.specs.declared.fault.HandFault.{HandFault}
+use Rattle.rounds_by_hand.specs.declared.fault.HandFault.TheVariants as fault
 
 module _ (may : ℕ → List KeyOf → AnswerOf → Type 0) where
   -- these are replies for the first of the orders: with replies for the others they are for all
@@ -55,3 +59,19 @@ module _ {S P E : Type 0} (may : S → List KeyOf → AnswerOf → Type 0) where
   stores-given handed old new e h = h
   stores-given (out run ps) old new e h = round-given may old new ps e h
   stores-given over old new e h = h
+
+-- it was under way, and each order had a reply
+could-go : {P E : Type 0} (far : FarOf P E) → ¬ (IsOver far) → list_all is_in (pending_in far) ≡ true → can_advance far ≡ true
+could-go handed left each = refl
+could-go (out run ps) left each = each
+could-go over left each = absurd (left refl)
+
+-- answers that are refused, where no source was asked
+pub overruns-given : {S P E : Type 0} (program : P → Program) (text_of : P → AnsweredOf → List ℕ) (may : S → List KeyOf → AnswerOf → Type 0) (old new : HandOf S P E) → list_all is_in (pending_in old.far) ≡ true → (why : HandFault) → AsksAndOverruns program text_of may old new why → Overruns program text_of may old new why
+overruns-given program text_of may old new each (fault.Over overrun) h = record {
+  could = could-go old.far h.could each;
+  knows = stores-given may old.far old.session new.session each h.knows;
+  exceeds = h.exceeds;
+  went = h.went;
+}
+overruns-given program text_of may old new each fault.NoMemory h = h

@@ -1,5 +1,5 @@
 -- Definitions of what contracts see of rounds by hand, and what was done since they were begun.
-use Rattle.std.specs.Prelude.{◌≡◌, ◌≤◌, ◌⊎◌, ℕ, Bool, true, false, List, [], Result, IfSome, map, length, All}
+use Rattle.std.specs.Prelude.{◌≡◌, ◌≤◌, ◌⊎◌, ℕ, Bool, true, false, List, [], Result, Ok, IfSome, map, length, All}
 use Rattle.std.specs.List.{list_all}
 use Rattle.std.specs.Global.{Vec}
 use Rattle.load_memory.specs.Keys.{KeyOf}
@@ -14,11 +14,16 @@ use Rattle.load_queue.specs.Loaders.{AreOnRecord}
 use Rattle.load_rounds.specs.Sessions.{SessionOf, StateOf, state_of, rules_of}
 use Rattle.load_rounds.specs.Headline.{StopsAnswering}
 use Rattle.load_rounds.specs.declared.answer.Answer.{Answer}
-use Rattle.load_rounds.specs.ByHand.{orders_in, IsAsked}
-use Rattle.load_rounds.specs.SharedRounds.{requests, joint, AreAnswers}
+use Rattle.load_rounds.specs.ByHand.{orders_in, IsAsked, RunsAsked}
+use Rattle.load_rounds.specs.SharedRounds.{requests, joint}
 use Rattle.load_rounds.specs.Executions.{plans_in}
 use Rattle.load_rounds.specs.Runs.{RunOf, IsRun, Holds as HoldsRun, GoesOnFrom, program_of}
+use Rattle.load_rounds.specs.Limits.{AreAnswersWithin, AreAskedInTime, AreOver, AreRefused, AreWithin, IsWithin}
+use Rattle.load_rounds.specs.declared.limits.Limits.{Limits}
+use Rattle.load_rounds.specs.declared.limits.Overrun.{Overrun}
 use Rattle.load_rounds.specs.declared.rounds.Stage.TheVariants as stage
+use Rattle.rounds_by_hand.specs.declared.fault.HandFault.{HandFault}
+use Rattle.rounds_by_hand.specs.declared.fault.HandFault.TheVariants as fault
 use Rattle.rounds_by_hand.specs.declared.hand.Far.{Far}
 use Rattle.rounds_by_hand.specs.declared.hand.Far.TheVariants as rust
 use Rattle.rounds_by_hand.specs.declared.pending.Pending.{Pending}
@@ -34,11 +39,16 @@ pub data FarOf (P E : Type 0) : Type 0 where
   out : RunOf P E → List Pending → FarOf P E
   over : FarOf P E
 
--- the session, what is answered in it, and how far that is
+-- the session, what is answered in it, within which limits, and how far that is
 pub record HandOf (S P E : Type 0) : Type 0 where
   pub session : SessionOf S
   pub plans : List P
+  pub limits : Limits
   pub far : FarOf P E
+
+abbrev pub hand_of : {S P E : Type 0} → SessionOf S → List P → Limits → FarOf P E → HandOf S P E
+hand_of session plans limits far =
+    record { session = session; plans = plans; limits = limits; far = far }
 
 -- No public clause names it. What contracts see of how far they are.
 abbrev pub far_of : {P E : Type 0} → Far P E → FarOf P E
@@ -109,11 +119,12 @@ pub record KeepsLoaders {S : Type 0} (old new : StateOf S) : Type 0 where
 
 module _ {S P : Type 0} (program : P → Program) (text_of : P → AnsweredOf → List ℕ)
     (may : S → List KeyOf → AnswerOf → Type 0) where
-  -- from whichever session they were begun: the answers have the headline
+  -- from whichever session they were begun: the answers have the headline, and are within the limits
   abbrev pub TellsFrom : (SessionOf S → Type 0)
-      → SessionOf S → List P → Progress (Vec Answer) → Type 0
-  TellsFrom from now plans did = IfSome (done_in did) (λ answers. (begun : SessionOf S) → from begun
-      → AreAnswers may (state_of begun) (state_of now) (requests program text_of plans) answers)
+      → SessionOf S → List P → Limits → Progress (Vec Answer) → Type 0
+  TellsFrom from now plans limits did =
+      IfSome (done_in did) (λ answers. (begun : SessionOf S) → from begun → AreAnswersWithin may
+      (state_of begun) (state_of now) limits (requests program text_of plans) (Ok answers))
 
 module _ {S P E : Type 0} where
   -- says what a call of a hand did, and one that asks the sources
@@ -154,6 +165,17 @@ module _ {S P E : Type 0} where
       pub own : All (CanAsk s.loaders) pending
       pub replies : All (IsReplied any_answer) pending
 
+    -- Where a round is out, it was asked within the limits: what is known without its replies is within them, and the rounds are, with
+    -- this one.
+    abbrev pub IsFarWithin : SessionOf S → List P → Limits → FarOf P E → Type 0
+    IsFarWithin session plans limits handed = Unit {0}
+    IsFarWithin session plans limits (out run pending) =
+        AreWithin limits (requests program text_of plans) (state_of session) run.rounds
+    IsFarWithin session plans limits over = Unit {0}
+
+    abbrev pub AsksWithin : HandOf S P E → Type 0
+    AsksWithin h = IsFarWithin h.session h.plans h.limits h.far
+
     module _ (loaders : P → ℕ) (fits : P → E → MemoryOf → Type 0) where
       abbrev pub HoldsFar : SessionOf S → List P → FarOf P E → Type 0
       HoldsFar session plans handed = Unit {0}
@@ -162,21 +184,26 @@ module _ {S P E : Type 0} where
           × HoldsRun program text_of loaders fits run session
       HoldsFar session plans over = Unit {0}
 
-      -- Gives what holds between calls: the session has the loaders of each plan, and the round that is out is of a run that fits it.
-      pub record Holds (session : SessionOf S) (plans : List P) (far : FarOf P E) : Type 0 where
+      -- Gives what holds between calls: the session has the loaders of each plan, and the round that is out is of a run that fits it, and was
+      -- asked within the limits.
+      pub record Holds (session : SessionOf S) (plans : List P) (limits : Limits)
+          (far : FarOf P E) : Type 0 where
         pub enough : All (λ plan. loaders plan ≤ length session.loaders) plans
         pub round : HoldsFar session plans far
+        pub within : IsFarWithin session plans limits far
 
-      -- What a step keeps: what holds between calls, the plans, and the loaders.
+      -- What a step keeps: what holds between calls, the plans, the limits, and the loaders.
       pub record KeepsHand (old new : HandOf S P E) : Type 0 where
-        pub holds : Holds new.session new.plans new.far
+        pub holds : Holds new.session new.plans new.limits new.far
         pub plans : new.plans ≡ old.plans
+        pub limits : new.limits ≡ old.limits
         pub session : KeepsLoaders (state_of old.session) (state_of new.session)
 
       -- A reply to an order keeps more: the session is as it was.
       pub record KeepsSession (old new : HandOf S P E) : Type 0 where
-        pub holds : Holds new.session new.plans new.far
+        pub holds : Holds new.session new.plans new.limits new.far
         pub plans : new.plans ≡ old.plans
+        pub limits : new.limits ≡ old.limits
         pub session : new.session ≡ old.session
 
     module _ (may : S → List KeyOf → AnswerOf → Type 0) where
@@ -204,7 +231,29 @@ module _ {S P E : Type 0} where
 
       abbrev pub AnswersFrom : HandOf S P E → HandOf S P E → Progress (Vec Answer) → Type 0
       AnswersFrom old new did = TellsFrom program text_of may
-          (λ begun. IsUnderway begun old) new.session new.plans did
+          (λ begun. IsUnderway begun old) new.session new.plans new.limits did
+
+      -- They are over a limit, by what is known at the return. From whichever session they were begun, they are refused. `can` says how far
+      -- they were, and `stored` what is known.
+      pub record Refuses (can stored : Type 0) (old new : HandOf S P E)
+          (overrun : Overrun) : Type 0 where
+        pub could : can
+        pub knows : stored
+        pub exceeds : AreOver new.limits (requests program text_of new.plans)
+            (state_of new.session) overrun.rounds overrun.excess
+        pub went : (begun : SessionOf S) → IsUnderway begun old → AreRefused may (state_of begun)
+            (state_of new.session) new.limits (requests program text_of new.plans) overrun
+
+      -- says so of a call of a hand that gives no answers, and of one that asks the sources
+      abbrev pub Overruns : HandOf S P E → HandOf S P E → HandFault → Type 0
+      Overruns old new (fault.Over overrun) =
+          Refuses (can_advance old.far ≡ true) (StoresReplies old new) old new overrun
+      Overruns old new fault.NoMemory = Unit {0}
+
+      abbrev pub AsksAndOverruns : HandOf S P E → HandOf S P E → HandFault → Type 0
+      AsksAndOverruns old new (fault.Over overrun) =
+          Refuses (¬ (IsOver old.far)) (AsksAndStores may old new) old new overrun
+      AsksAndOverruns old new fault.NoMemory = Unit {0}
 
       -- says the same where an order gets a reply, if it is one that the order's source may give
       abbrev pub GoesOnIfMay : Result (Vec Item) FetchFault
@@ -229,6 +278,10 @@ module _ {S P E : Type 0} where
         pub holds : HoldsRun program text_of loaders fits run new.session
         pub went : (begun : SessionOf S) → IsUnderway begun old
             → IsRun program text_of may (state_of begun) (state_of new.session) run
+        pub in_time : (begun : SessionOf S) → IsUnderway begun old
+            → AreAskedInTime may (state_of begun) (state_of new.session) old.limits
+            (requests program text_of old.plans) run.rounds
+        pub within : IsWithin old.limits.rounds run.rounds
 
       -- The round of the run that is out is stored, from whichever session the run was begun on, where the reply to each order is one that its
       -- source may give.
@@ -236,3 +289,8 @@ module _ {S P E : Type 0} where
           → SessionOf S → List Pending → RunOf P E → Type 0
       GoesOnIfReplied old run new pending later = All (IsReplied (may_at may old.loaders)) pending
           → GoesOnFrom program text_of may (state_of old) (state_of new) run later
+
+      -- and it was run as if in one piece
+      abbrev pub RunsIfReplied : SessionOf S → RunOf P E → SessionOf S → List Pending → Type 0
+      RunsIfReplied old run new pending = All (IsReplied (may_at may old.loaders)) pending
+          → RunsAsked may (program_of program text_of run) (state_of old) (state_of new)

@@ -1,16 +1,16 @@
 //! Answers to several plans, in rounds by hand, with the session in which they are answered.
-ghost use Rattle.std.specs.Prelude.{◌≡◌, [], slice_get, IfOk, IfSome, IfNone, OnOk, OnErr};
+ghost use Rattle.std.specs.Prelude.{◌≡◌, [], slice_get, IfOk, IfErr, IfSome, IfNone, OnOk, OnErr};
 ghost use Rattle.load_rounds.specs.Sessions.{state_of};
 
-use crate::fault::TakeFault;
+use crate::fault::{HandFault, TakeFault};
 use crate::pending::{Pending, all_out, are_in, take_reply};
 use crate::progress::Progress;
 use crate::seen::Seen;
 use crate::steps::store;
-use execution::Execute;
+use execution::CountWork;
 use load_memory::Item;
 use load_queue::{FetchFault, LocalSource};
-use load_rounds::{Answer, Rounds, Session};
+use load_rounds::{Answer, Limits, Rounds, Session};
 use std::alloc::AllocError;
 use std::marker::Model;
 use std::mem;
@@ -29,18 +29,22 @@ pub(crate) enum Far<P, E> {
 /// Answers to several plans, which it owns, in rounds that they share and that the caller runs, with the session in which they are answered.
 /// While they are under way, nothing else can change the session.
 ///
+/// They have limits, together ([`Limits`]). Before each round the work over what is known is counted, up to the limit; where they are over
+/// a limit, all are refused ([`HandFault::Over`]), and nothing more is asked.
+///
 /// It is used in turns. [`advance`](Hand::advance) returns the answers, or a new round is out: then the caller replies to each of the orders
 /// ([`orders`](Hand::orders)) by its number, in any order ([`reply`](Hand::reply)), and advances again.
 ///
-/// A contract sees the session, the plans, and how far they are. `Holds` of `specs/Hands.antt` is what each call needs and keeps: the
-/// session has the loaders of each plan, as where they were begun. (No invariant of the type says it, since the type asks nothing of its
-/// parameters.) What was done in the session since they were begun is `IsUnderway` of `specs/Hands.antt`: each call keeps it, and in the
-/// end it is the headline.
+/// A contract sees the session, the plans, their limits, and how far they are. `Holds` of `specs/Hands.antt` is what each call needs and
+/// keeps: the session has the loaders of each plan, as where they were begun, and a round that is out was asked within the limits. (No
+/// invariant of the type says it, since the type asks nothing of its parameters.) What was done in the session since they were begun is
+/// `IsUnderway` of `specs/Hands.antt`: each call keeps it, and in the end it is the headline.
 #[derive(Drop)]
 pub struct Hand<S, P, E> {
     session: Session<S>,
     // The plans that were handed in, also once they are over and the plans are gone.
     plans: Seen<Vec<P>>,
+    limits: Limits,
     far: Far<P, E>,
 }
 
@@ -49,22 +53,23 @@ impl<S, P, E> Model for Hand<S, P, E> {
 
     ghost Value = { HandOf S P E };
 
-    ghost view = { λ h. record { session = h.session; plans = h.plans.value.items; far = far_of h.far } };
+    ghost view = { λ h. record { session = h.session; plans = h.plans.value.items; limits = h.limits; far = far_of h.far } };
 
     ghost invariant = { λ h. AreHanded h.far h.plans.value.items };
 }
 
 impl<S, P, E> Hand<S, P, E> {
-    ghost use Rattle.rounds_by_hand.specs.Hands.{handed, pending_in};
+    ghost use Rattle.rounds_by_hand.specs.Hands.{hand_of, handed, pending_in};
 
-    /// Answers to these plans in the session, of which nothing is done. It takes no memory. The session is to have the loaders of each
-    /// plan, before the first call.
-    pub fn new(session: Session<S>, plans: Vec<P>) -> Hand<S, P, E>
-        ensures { result ≡ record { session = session; plans = plans.items; far = handed } }
+    /// Answers to these plans in the session, within limits, of which nothing is done. It takes no memory. The session is to have the
+    /// loaders of each plan, before the first call.
+    pub fn new(session: Session<S>, plans: Vec<P>, limits: Limits) -> Hand<S, P, E>
+        ensures { result ≡ hand_of session plans.items limits handed }
     {
         Hand {
             session,
             plans: Seen::of(&plans),
+            limits,
             far: Far::Handed(plans),
         }
     }
@@ -87,20 +92,25 @@ impl<S, P, E> Hand<S, P, E> {
     }
 }
 
-impl<S: LocalSource, P: Execute<E> + Drop, E: Drop> Hand<S, P, E> {
-    ghost use Rattle.rounds_by_hand.specs.Hands.{Advances, AsksAndAdvances, AsksAndStores, AnswersFrom, GoesOn, GoesOnIfMay, GivesUp, Holds, IsOver, KeepsHand, KeepsLoaders, KeepsSession, Readies, StoresReplies, given_up, pending_in};
+impl<S: LocalSource, P: CountWork<E> + Drop, E: Drop> Hand<S, P, E> {
+    ghost use Rattle.rounds_by_hand.specs.Hands.{Advances, AsksAndAdvances, AsksAndOverruns, AsksAndStores, AsksWithin, AnswersFrom, GoesOn, GoesOnIfMay, GivesUp, Holds, IsOver, KeepsHand, KeepsLoaders, KeepsSession, Overruns, Readies, StoresReplies, given_up, pending_in};
     ghost use Rattle.rounds_by_hand.specs.Progress.{OnStep};
     ghost use Rattle.rounds_by_hand.specs.Pending.{RefusesReply, TakesReply};
 
     /// Stores the round that is out, if each of its orders has a reply, and goes on over what is known: returns the answers, one for each
     /// plan in order, or makes the next round. The first call begins, and forgets failed batches.
     ///
+    /// The answers and a round that is made are within the limits. The work is counted before each round, so a call takes time for as much
+    /// work as the limit allows.
+    ///
     /// # Errors
     ///
-    /// Only when out of memory: the finished rounds stay, and a round that was out is lost. It is over then.
-    pub fn advance(&mut self) -> Result<Progress<Vec<Answer>>, AllocError>
+    /// [`Over`](HandFault::Over) exactly if the answers are over a limit by what is known once the replies are stored: they are refused, and no
+    /// round is made. [`NoMemory`](HandFault::NoMemory) when out of memory: the finished rounds stay, and a round that was out is lost. It is
+    /// over then.
+    pub fn advance(&mut self) -> Result<Progress<Vec<Answer>>, HandFault>
         requires { Holds P.program P.text_of P.loaders P.fits
-            self.old.session self.old.plans self.old.far }
+            self.old.session self.old.plans self.old.limits self.old.far }
         ensures kept { KeepsHand P.program P.text_of P.loaders
             P.fits self.old self.new }
         ensures advanced { IfOk result
@@ -108,8 +118,12 @@ impl<S: LocalSource, P: Execute<E> + Drop, E: Drop> Hand<S, P, E> {
         ensures over { OnErr result (IsOver self.new.far) }
         ensures underway { GoesOn P.program
             P.text_of S.may_tell self.old self.new }
+        ensures within { AsksWithin P.program
+            P.text_of self.new }
         ensures answers { IfOk result
             (AnswersFrom P.program P.text_of S.may_tell self.old self.new) }
+        ensures refused { IfErr result
+            (Overruns P.program P.text_of S.may_tell self.old self.new) }
         // What was given as the reply to an order is what is stored.
         ensures stored { IfOk result (λ did. OnStep did
             (StoresReplies self.old self.new)) }
@@ -124,13 +138,14 @@ impl<S: LocalSource, P: Execute<E> + Drop, E: Drop> Hand<S, P, E> {
     // stored. None where they are over. They are over meanwhile.
     fn ready(&mut self) -> Result<Option<Rounds<P, E>>, AllocError>
         requires { Holds P.program P.text_of P.loaders P.fits
-            self.old.session self.old.plans self.old.far }
+            self.old.session self.old.plans self.old.limits self.old.far }
         ensures ready { IfOk result (λ ready. IfSome ready
             (Readies P.program P.text_of S.may_tell P.loaders P.fits self.old self.new)) }
         ensures none { IfOk result (λ ready. IfNone ready
             (IsOver self.old.far × (self.new ≡ self.old))) }
         ensures over { IsOver self.new.far }
         ensures plans { self.new.plans ≡ self.old.plans }
+        ensures limits { self.new.limits ≡ self.old.limits }
         ensures loaders { KeepsLoaders (state_of self.old.session) (state_of self.new.session) }
         ensures stored { OnOk result
             (AsksAndStores S.may_tell self.old self.new) }
@@ -148,9 +163,9 @@ impl<S: LocalSource, P: Execute<E> + Drop, E: Drop> Hand<S, P, E> {
     /// # Errors
     ///
     /// Those of [`advance`](Hand::advance).
-    pub fn ask_and_advance(&mut self) -> Result<Progress<Vec<Answer>>, AllocError>
+    pub fn ask_and_advance(&mut self) -> Result<Progress<Vec<Answer>>, HandFault>
         requires { Holds P.program P.text_of P.loaders P.fits
-            self.old.session self.old.plans self.old.far }
+            self.old.session self.old.plans self.old.limits self.old.far }
         ensures kept { KeepsHand P.program P.text_of P.loaders
             P.fits self.old self.new }
         ensures advanced { IfOk result
@@ -158,8 +173,12 @@ impl<S: LocalSource, P: Execute<E> + Drop, E: Drop> Hand<S, P, E> {
         ensures over { OnErr result (IsOver self.new.far) }
         ensures underway { GoesOn P.program
             P.text_of S.may_tell self.old self.new }
+        ensures within { AsksWithin P.program
+            P.text_of self.new }
         ensures answers { IfOk result
             (AnswersFrom P.program P.text_of S.may_tell self.old self.new) }
+        ensures refused { IfErr result
+            (AsksAndOverruns P.program P.text_of S.may_tell self.old self.new) }
         ensures stored { OnOk result
             (AsksAndStores S.may_tell self.old self.new) }
     {
@@ -167,6 +186,9 @@ impl<S: LocalSource, P: Execute<E> + Drop, E: Drop> Hand<S, P, E> {
             return Ok(Progress::Over);
         };
         let mut run = run;
+        if let Some(excess) = run.excess(&self.session, self.limits)? {
+            return Err(HandFault::Over(run.overrun(excess)));
+        }
         match run.advance(&mut self.session)? {
             None => {
                 let answers = run.into_answers(self.session.alloc())?;
@@ -193,7 +215,7 @@ impl<S: LocalSource, P: Execute<E> + Drop, E: Drop> Hand<S, P, E> {
         reply: Result<Vec<Item>, FetchFault>,
     ) -> Result<(), TakeFault>
         requires { Holds P.program P.text_of P.loaders P.fits
-            self.old.session self.old.plans self.old.far }
+            self.old.session self.old.plans self.old.limits self.old.far }
         ensures kept { KeepsSession P.program P.text_of P.loaders
             P.fits self.old self.new }
         ensures refused { RefusesReply (pending_in self.old.far) number
@@ -222,7 +244,7 @@ impl<S: LocalSource, P: Execute<E> + Drop, E: Drop> Hand<S, P, E> {
     /// Gives up the round that is out, if one is: it is lost, and its batches stay in the logs as not stored. It is over then.
     pub fn give_up(&mut self)
         requires { Holds P.program P.text_of P.loaders P.fits
-            self.old.session self.old.plans self.old.far }
+            self.old.session self.old.plans self.old.limits self.old.far }
         ensures kept { KeepsSession P.program P.text_of P.loaders
             P.fits self.old self.new }
         ensures out { pending_in self.new.far ≡ [] }

@@ -8,6 +8,9 @@
 //! the reply to an order is what is stored, whoever gave it (`StoresReplies` of `specs/Hands.antt`). The requests of
 //! these calls are what the hand was made with, the loaders that the plans need, and each call keeps that.
 //!
+//! The answers have limits ([`Limits`](load_rounds::Limits)): a round is made only within them, and where the answers are over one by what is
+//! known, they are refused, and only then (`Overruns` of `specs/Hands.antt`).
+//!
 //! Keys of one loader are loaded so too: their program is a plan like any other (`KeysToLoad` of `load_rounds`).
 #![tactic(auto)]
 
@@ -20,7 +23,7 @@ mod seen;
 mod steps;
 mod threads;
 
-pub use fault::TakeFault;
+pub use fault::{HandFault, TakeFault};
 pub use hand::Hand;
 pub use handed_in::HandedIn;
 pub use pending::{Pending, are_in};

@@ -2,7 +2,7 @@
 ghost use Rattle.std.specs.Prelude.{◌≡◌, IfOk, OnOk, OnErr};
 ghost use Rattle.load_rounds.specs.Sessions.{state_of};
 ghost use Rattle.load_rounds.specs.Runs.{Holds};
-ghost use Rattle.rounds_by_hand.specs.Hands.{IsOutWith, KeepsLoaders, GoesOnIfReplied};
+ghost use Rattle.rounds_by_hand.specs.Hands.{IsOutWith, KeepsLoaders, GoesOnIfReplied, RunsIfReplied};
 ghost use Rattle.rounds_by_hand.specs.Stored.{StoresRound};
 
 use crate::pending::{Pending, replies_to};
@@ -25,6 +25,8 @@ pub(crate) fn store<E: Drop, P: Execute<E> + Drop, S: LocalSource>(
     ensures holds { IfOk result (λ later.
         Holds P.program P.text_of P.loaders P.fits later session.new) }
     ensures ran { IfOk result (GoesOnIfReplied P.program P.text_of
+        S.may_tell session.old run session.new pending.items) }
+    ensures in_one { OnOk result (RunsIfReplied P.program P.text_of
         S.may_tell session.old run session.new pending.items) }
     ensures lost { OnErr result
         (state_of session.new ≡ state_of session.old) }

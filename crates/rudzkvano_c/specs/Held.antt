@@ -177,11 +177,11 @@ TellsCleared loader key told = Tells loader key (Clears loader (key_at key)) (Cl
 
 -- ---- what is copied
 
--- The text is that of the answer, which is the answer of what was asked: in a session of a client of the server that planned it, whose
--- loaders were asked exactly the batches of a lawful log.
+-- The text is that of the answer, which is the answer of what was asked: in a session of a client of the server that planned it, within the
+-- client's limits on work and rounds, whose loaders were asked exactly the batches of a lawful log.
 abbrev pub CopiesAnswer : List ℕ → HostClient → Result (Unit {0}) Fault → Type 0
 CopiesAnswer text (Answered a) done =
-    OnOk done ((text ≡ a.text) × IsAnswerOf a.server a.asked text a.rounds)
+    OnOk done ((text ≡ a.text) × IsAnswerOf a.server a.client.limits a.asked text a.rounds)
 CopiesAnswer text client done = done ≡ Err fault.Idle
 
 -- The outcomes are those of the keys that were asked for, one for each, in order: as a call of `load_many` gives them in a session of a

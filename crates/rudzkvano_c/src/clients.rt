@@ -1,7 +1,7 @@
 //! Clients.
 ghost use Rattle.std.specs.Prelude.{◌≡◌, None};
 ghost use Rattle.server.specs.Clients.{begun};
-ghost use Rattle.host_clients.specs.Known.{LimitsAnswers};
+ghost use Rattle.host_clients.specs.Known.{LimitsAnswers, LimitsRounds, LimitsWork};
 ghost use Rattle.host_clients.specs.Objects.{MakesClient};
 ghost use Rattle.host_clients.specs.Opening.{limit_of};
 ghost use Rattle.host_clients.specs.Refused.{BeginFault, BusyFault};
@@ -52,6 +52,41 @@ pub extern "C" fn rz_limit_answers(alloc: Global, client: &mut Handle, most: usi
 {
     let most = limit_of(most);
     code_of(client.on_client(alloc, &mut |client| client.limit_answers(most)))
+}
+
+/// Limits what is asked of a client together to `most` work; 0 is no limit.
+///
+/// # Promise
+///
+/// As `rz_limit_answers` says
+#[unsafe(no_mangle)]
+pub extern "C" fn rz_limit_work(alloc: Global, client: &mut Handle, most: usize) -> i32
+    ensures { Makes (Becomes (LimitsWork (limit_of most)) BusyFault)
+        client.old.held client.new.held result }
+{
+    let limit = limit_of(most);
+    code_of(client.on_client(alloc, &mut |client| client.limit_work(limit)))
+}
+
+// 0 is no limit.
+fn rounds_limit(rounds: u32) -> Option<u32>
+    ensures { result ≡ limit_of rounds }
+{
+    if rounds == 0 { None } else { Some(rounds) }
+}
+
+/// Limits what is asked of a client together to `rounds` rounds; 0 is no limit.
+///
+/// # Promise
+///
+/// As `rz_limit_answers` says
+#[unsafe(no_mangle)]
+pub extern "C" fn rz_limit_rounds(alloc: Global, client: &mut Handle, rounds: u32) -> i32
+    ensures { Makes (Becomes (LimitsRounds (limit_of rounds)) BusyFault)
+        client.old.held client.new.held result }
+{
+    let limit = rounds_limit(rounds);
+    code_of(client.on_client(alloc, &mut |client| client.limit_rounds(limit)))
 }
 
 /// Forgets all keys, logs and rounds.

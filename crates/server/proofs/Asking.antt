@@ -1,5 +1,5 @@
 -- Plans of what is asked, and what answers them or stops them.
-use Rattle.std.proofs.Common.{◌≡◌, ◌∙◌, ◌⊎◌, ◌++◌, ℕ, Bool, true, false, List, [], ◌∷◌, map, option_map, Option, Some, None, Result, Ok, Err, refl, sym, ap, subst, inl, inr, string_bytes}
+use Rattle.std.proofs.Common.{◌≡◌, ◌∙◌, ◌⊎◌, ◌++◌, ℕ, Bool, true, false, List, [], ◌∷◌, map, length, option_map, Option, Some, None, Result, Ok, Err, refl, sym, ap, subst, inl, inr, string_bytes, arith}
 use Rattle.std.specs.Prelude.{String, IfOk, slice_get}
 use Rattle.std.specs.declared.alloc.Global.{Global}
 use Rattle.load_memory.specs.Keys.{KeyOf}
@@ -8,22 +8,24 @@ use Rattle.gq_check.specs.Plans.{PlanOf}
 use Rattle.gq_resolve.specs.Within.{text_within}
 use Rattle.plan_program.specs.PlanPrograms.{plan_program}
 use Rattle.load_rounds.specs.Headline.{StopsAnswering}
+use Rattle.load_rounds.specs.Limits.{AreWithin}
 use Rattle.load_rounds.specs.Sessions.{SessionOf, state_of}
 use Rattle.load_rounds.specs.SharedRounds.{ReportOf, request_of, requests, together, joint, SharedHeadline, greatest, report_of}
 use Rattle.load_rounds.specs.declared.answer.Answer.{Answer}
 use Rattle.load_rounds.proofs.Requests.{headline-one, stops-one}
 use Rattle.request_line.specs.Requests.{RequestOf, IsRequest, AreRequests, IsNoRequest}
-use Rattle.plan_requests.specs.Planning.{PlanValues}
+use Rattle.plan_requests.specs.Planning.{IsPlanned, PlanValues}
 use Rattle.plan_requests.specs.Servers.{ServerOf}
 use Rattle.plan_requests.proofs.Requests.{planned-valid}
-use Rattle.server.specs.Answers.{unasked, AnswersRequest, refused, planned, StopsRequest, unplanned, stopped}
+use Rattle.server.specs.Answers.{unasked, AnswersRequest, refused, planned, overrun, StopsRequest, unplanned, stopped}
 use Rattle.server.specs.Arrays as arrays
 use Rattle.server.specs.Clients.{ClientOf}
 use Rattle.server.specs.Lines as lines
+use Rattle.server.specs.Overruns as overruns
 use Rattle.server.specs.Plans.{requests_within, AreLimited, limited_program, limited_text}
 use Rattle.server.specs.Planned.{AskedOf, one, several, text, PlannedOf, refuses_one, is_refused, IsTextPlanned, no_request, request, several_requests, IsPlannedAs, PlansAll, PlansAsked, PlansFor, IsOneResponse, IsResponseOf, IsResponse, AnswersAsked, StopsAsked}
 use Rattle.gq_resolve.specs.PreparedPlans.{LimitedPlanOf}
-use Rattle.server.proofs.Limits.{limited-asks}
+use Rattle.server.proofs.LimitedPlans.{limited-asks}
 use Rattle.server.proofs.Values.{array-answered, texts-report}
 
 -- of no plans there are none within a limit, and the other way round
@@ -57,34 +59,46 @@ module _ (s : ServerOf) (value : Option RequestOf) where
 module _ {S : Type 0} (may : S → List KeyOf → AnswerOf → Type 0) (c : ClientOf S) (new : SessionOf S) where
   -- ---- answers
 
-  alone : (p : PlanOf) (reports : List ReportOf) (report : ReportOf) → SharedHeadline may (state_of c.session) (state_of new) (requests_within c.most (p ∷ [])) reports → IsResponseOf false (None ∷ []) reports report
-      → SharedHeadline may (state_of c.session) (state_of new) (requests_within c.most (p ∷ [])) (report ∷ [])
-  alone p [] report h e = absurd h.answers
-  alone p (t ∷ []) report h e = subst (λ (x : ReportOf). SharedHeadline may (state_of c.session) (state_of new) (requests_within c.most (p ∷ [])) (x ∷ [])) (sym e) h
-  alone p (t ∷ u ∷ us) report h e = absurd h.answers.1
+  -- what is given to plans
+  abbrev Given : List PlanOf → List ReportOf → Type 0
+  Given plans reports = overruns.AreGiven may c.limits (state_of c.session) (state_of new) (requests_within c.most plans) reports
+
+  alone : (r : RequestOf) (p : PlanOf) (reports : List ReportOf) (report : ReportOf) → IsPlanned c.server r p → (h : SharedHeadline may (state_of c.session) (state_of new) (requests_within c.most (p ∷ [])) reports)
+      → AreWithin c.limits (requests_within c.most (p ∷ [])) (state_of new) (length h.log) → IsResponseOf false (None ∷ []) reports report → AnswersRequest may c r report new
+  alone r p [] report is h within e = absurd h.answers
+  alone r p (t ∷ []) report is h within e =
+      let longest = h.longest in
+      let counted : length h.log ≡ t.rounds = omega (arith, longest) in
+      subst (λ (x : ReportOf). AnswersRequest may c r x new) (sym e)
+      (planned is (record {
+        valid = planned-valid c.server r p is;
+        headline = headline-one may (state_of c.session) (state_of new) (request_of (plan_program p) (text_within c.most)) t h;
+        within = subst (λ n. AreWithin c.limits (requests_within c.most (p ∷ [])) (state_of new) n) counted within;
+      }))
+  alone r p (t ∷ u ∷ us) report is h within e = absurd h.answers.1
+
+  given-one : (r : RequestOf) (p : PlanOf) (reports : List ReportOf) (report : ReportOf) → IsPlanned c.server r p → Given (p ∷ []) reports → IsResponseOf false (None ∷ []) reports report → AnswersRequest may c r report new
+  given-one r p reports report is (overruns.answered headline within) e = alone r p reports report is headline within e
+  given-one r p reports report is (overruns.overrun gone same) e = overrun is (planned-valid c.server r p is) gone (subst (λ ts. IsResponseOf false (None ∷ []) ts report) same e)
 
   one-answered : (r : RequestOf) (refusals : List (Option (List ℕ))) (plans : List PlanOf) (bs : List LimitedPlanOf) (reports : List ReportOf) (report : ReportOf) → PlanValues c.server (Some r ∷ []) refusals plans
-      → AreLimited c.most plans bs → refuses_one false bs ≡ false → SharedHeadline may (state_of c.session) (state_of new) (requests_within c.most plans) reports → IsResponseOf false refusals reports report → AnswersRequest may c r report new
-  one-answered r [] plans bs reports report h are e shared is = absurd h
-  one-answered r (Some t ∷ []) [] bs reports report h are e shared is = absurd (cc (ap (refuses_one false) (sym (none-limited c.most bs are)) ∙ e))
-  one-answered r (Some t ∷ []) (p ∷ ps) bs reports report h are e shared is = absurd h.1
-  one-answered r (Some t ∷ x ∷ rs) plans bs reports report h are e shared is = absurd h.1
-  one-answered r (None ∷ rs) [] bs reports report h are e shared is = absurd h
-  one-answered r (None ∷ []) (p ∷ []) bs reports report h are e shared is =
-      let own = alone p reports report shared is in
-      planned h.0 (record { valid = planned-valid c.server r p h.0; headline = headline-one may (state_of c.session) (state_of new) (request_of (plan_program p) (text_within c.most)) report own })
-  one-answered r (None ∷ []) (p ∷ q ∷ ps) bs reports report h are e shared is = absurd h.1
-  one-answered r (None ∷ x ∷ rs) (p ∷ ps) bs reports report h are e shared is = absurd h.1
+      → AreLimited c.most plans bs → refuses_one false bs ≡ false → Given plans reports → IsResponseOf false refusals reports report → AnswersRequest may c r report new
+  one-answered r [] plans bs reports report h are e given is = absurd h
+  one-answered r (Some t ∷ []) [] bs reports report h are e given is = absurd (cc (ap (refuses_one false) (sym (none-limited c.most bs are)) ∙ e))
+  one-answered r (Some t ∷ []) (p ∷ ps) bs reports report h are e given is = absurd h.1
+  one-answered r (Some t ∷ x ∷ rs) plans bs reports report h are e given is = absurd h.1
+  one-answered r (None ∷ rs) [] bs reports report h are e given is = absurd h
+  one-answered r (None ∷ []) (p ∷ []) bs reports report h are e given is = given-one r p reports report h.0 given is
+  one-answered r (None ∷ []) (p ∷ q ∷ ps) bs reports report h are e given is = absurd h.1
+  one-answered r (None ∷ x ∷ rs) (p ∷ ps) bs reports report h are e given is = absurd h.1
 
-  pub several-answered : (values : List (Option RequestOf)) (refusals : List (Option (List ℕ))) (plans : List PlanOf) (answers : List Answer) (report : ReportOf) → PlanValues c.server values refusals plans
-      → SharedHeadline may (state_of c.session) (state_of new) (requests_within c.most plans) (map report_of answers) → IsResponseOf true refusals (map report_of answers) report → arrays.AnswersArray may c values report new
-  several-answered values refusals plans answers report h shared is =
-      array-answered may c new values refusals plans answers report h shared (is.0 ∙ ap (λ ts. arrays.array_text (arrays.in_places refusals ts)) (texts-report answers)) is.1
+  several-answered : (values : List (Option RequestOf)) (refusals : List (Option (List ℕ))) (plans : List PlanOf) (reports : List ReportOf) (report : ReportOf) → PlanValues c.server values refusals plans → Given plans reports
+      → IsResponseOf true refusals reports report → arrays.AnswersArray may c values report new
+  several-answered values refusals plans reports report h given is = array-answered may c new values refusals plans reports report h given is.0 is.1
 
-  text-answered : (t : List ℕ) (many : Bool) (refusals : List (Option (List ℕ))) (plans : List PlanOf) (bs : List LimitedPlanOf) (answers : List Answer) (report : ReportOf) → IsTextPlanned c.server t many refusals plans
-      → AreLimited c.most plans bs → refuses_one many bs ≡ false → SharedHeadline may (state_of c.session) (state_of new) (requests_within c.most plans) (map report_of answers) → IsResponseOf many refusals (map report_of answers) report
-      → lines.AnswersText may c t report new
-  text-answered t many refusals plans bs answers report (no_request is m h) are e shared response =
+  text-answered : (t : List ℕ) (many : Bool) (refusals : List (Option (List ℕ))) (plans : List PlanOf) (bs : List LimitedPlanOf) (reports : List ReportOf) (report : ReportOf) → IsTextPlanned c.server t many refusals plans
+      → AreLimited c.most plans bs → refuses_one many bs ≡ false → Given plans reports → IsResponseOf many refusals reports report → lines.AnswersText may c t report new
+  text-answered t many refusals plans bs reports report (no_request is m h) are e given response =
       absurd (no-plan refusals plans h (subst (λ b. refuses_one b bs ≡ false) m e))
     where
       none-here : (rs : List (Option (List ℕ))) (ps : List PlanOf) → PlanValues c.server (None ∷ []) rs ps → ps ≡ []
@@ -102,23 +116,21 @@ module _ {S : Type 0} (may : S → List KeyOf → AnswerOf → Type 0) (c : Clie
       no-plan (Some u ∷ x ∷ rs) ps k f = k.1
       no-plan (None ∷ rs) [] k f = k
       no-plan (None ∷ rs) (p ∷ ps) k f = k.0
-  text-answered t many refusals plans bs answers report (request is m h) are e shared response =
-      lines.request is (one-answered _ refusals plans bs (map report_of answers) report h are (subst (λ b. refuses_one b bs ≡ false) m e) shared (subst (λ b. IsResponseOf b refusals (map report_of answers) report) m response))
-  text-answered t many refusals plans bs answers report (several_requests is m h) are e shared response =
-      lines.several is (several-answered _ refusals plans answers report h shared (subst (λ b. IsResponseOf b refusals (map report_of answers) report) m response))
+  text-answered t many refusals plans bs reports report (request is m h) are e given response =
+      lines.request is (one-answered _ refusals plans bs reports report h are (subst (λ b. refuses_one b bs ≡ false) m e) given (subst (λ b. IsResponseOf b refusals reports report) m response))
+  text-answered t many refusals plans bs reports report (several_requests is m h) are e given response =
+      lines.several is (several-answered _ refusals plans reports report h given (subst (λ b. IsResponseOf b refusals reports report) m response))
 
-  pub asked-answered : (asked : AskedOf) (what : PlannedOf) (answers : List Answer) (report : ReportOf) → PlansAsked c asked what → is_refused what ≡ false
-      → SharedHeadline may (state_of c.session) (state_of new) (requests limited_program limited_text what.plans) (map report_of answers) → IsResponse what (map report_of answers) report → AnswersAsked may c asked report new
-  asked-answered (one r) what answers report h e shared response =
-      let asks = subst (λ rs. SharedHeadline may (state_of c.session) (state_of new) rs (map report_of answers)) (limited-asks c.most h.plans what.plans h.limited) shared in
-      let m = h.planned_as.0 in
-      one-answered r what.refusals h.plans what.plans (map report_of answers) report h.planned_as.1 h.limited (subst (λ b. refuses_one b what.plans ≡ false) m e) asks (subst (λ b. IsResponseOf b what.refusals (map report_of answers) report) m response)
-  asked-answered (several values) what answers report h e shared response =
-      let asks = subst (λ rs. SharedHeadline may (state_of c.session) (state_of new) rs (map report_of answers)) (limited-asks c.most h.plans what.plans h.limited) shared in
-      several-answered values what.refusals h.plans answers report h.planned_as.1 asks (subst (λ b. IsResponseOf b what.refusals (map report_of answers) report) h.planned_as.0 response)
-  asked-answered (text t) what answers report h e shared response =
-      let asks = subst (λ rs. SharedHeadline may (state_of c.session) (state_of new) rs (map report_of answers)) (limited-asks c.most h.plans what.plans h.limited) shared in
-      text-answered t what.many what.refusals h.plans what.plans answers report h.planned_as h.limited e asks response
+  pub asked-answered : (asked : AskedOf) (what : PlannedOf) (reports : List ReportOf) (report : ReportOf) → PlansAsked c asked what → is_refused what ≡ false
+      → overruns.AreGiven may c.limits (state_of c.session) (state_of new) (requests limited_program limited_text what.plans) reports → IsResponse what reports report → AnswersAsked may c asked report new
+  asked-answered asked what reports report h e given response =
+      go asked h.planned_as (subst (λ rs. overruns.AreGiven may c.limits (state_of c.session) (state_of new) rs reports) (limited-asks c.most h.plans what.plans h.limited) given)
+    where
+      go : (a : AskedOf) → IsPlannedAs c.server a what.many what.refusals h.plans → Given h.plans reports → AnswersAsked may c a report new
+      go (one r) as' own =
+          one-answered r what.refusals h.plans what.plans reports report as'.1 h.limited (subst (λ b. refuses_one b what.plans ≡ false) as'.0 e) own (subst (λ b. IsResponseOf b what.refusals reports report) as'.0 response)
+      go (several values) as' own = several-answered values what.refusals h.plans reports report as'.1 own (subst (λ b. IsResponseOf b what.refusals reports report) as'.0 response)
+      go (text t) as' own = text-answered t what.many what.refusals h.plans what.plans reports report as' h.limited e own response
 
   -- ---- stops
 

@@ -15,7 +15,7 @@ use Rattle.server.specs.Clients.{ClientOf, IsSameClient}
 use Rattle.server.specs.Counts.{CountsText, known_in, plans_read}
 use Rattle.server.specs.Planned.{IsPlannedAs, PlannedOf, PlansAsked, text}
 use Rattle.server.specs.Plans.{limited_plan}
-use Rattle.server.proofs.Limits.{limited-plans}
+use Rattle.server.proofs.LimitedPlans.{limited-plans}
 
 module _ {S : Type 0} (session : SessionOf S) where
   -- says what a memory says that has the session's pairs and modes

@@ -80,7 +80,7 @@ pub planned_send : IsSend planned.the_row
 planned_send = let i = planned_inside_send in record { owned = λ d vs x. (i.owned x.0 vs, tt); leaving = λ k d w. tt }
 
 pub inside_send : (S : RattleType) → IsSend S → IsSend (inside.the_row S)
-inside_send S s = declared_send (inside.the_type S) (search sendable depth 20, (queries_send, (search (session.the_send, sendable, s) depth 20, (search sendable depth 20, tt))))
+inside_send S s = declared_send (inside.the_type S) (search sendable depth 20, (queries_send, (search (session.the_send, sendable, s) depth 20, (search sendable depth 20, (search (over.crosses, sendable) depth 20, tt)))))
 
 pub client_send : (S : RattleType) → IsSend S → IsSend (client.the_row S)
 client_send S s = let i = inside_send S s in record { owned = λ d vs x. (i.owned x.0 vs, tt); leaving = λ k d w. tt }
@@ -88,8 +88,10 @@ client_send S s = let i = inside_send S s in record { owned = λ d vs x. (i.owne
 module _ (S : RattleType) (s : IsSend S) where
   by_hand_inside_send : IsSend (by_hand_inside.the_row S)
   by_hand_inside_send =
-      declared_send (by_hand_inside.the_type S)
-      (search sendable depth 20, (queries_send, (search sendable depth 20, (form_send, (search sendable depth 20, (search sendable depth 20, (hand.the_send S limited.the_row state.the_row s limited_send state_send, tt)))))))
+      declared_send (by_hand_inside.the_type S) (
+        search sendable depth 20,
+        (queries_send, (search sendable depth 20, (search (over.crosses, sendable) depth 20, (form_send, (search sendable depth 20, (search sendable depth 20, (hand.the_send S limited.the_row state.the_row s limited_send state_send, tt))))))),
+      )
 
   pub by_hand_send : IsSend (by_hand.the_row S)
   by_hand_send = let i = by_hand_inside_send in record { owned = λ d vs x. (i.owned x.0 vs, tt); leaving = λ k d w. tt }

@@ -1,5 +1,5 @@
 -- Lemmas on what a hand did, and what is made of it for the client that it is of.
-use Rattle.std.proofs.Common.{◌≡◌, ◌≤◌, ◌∙◌, ◌⊎◌, ℕ, Bool, true, false, List, [], map, length, All, Option, Some, None, Result, Ok, Err, refl, sym, ap, subst, inl, inr, arith}
+use Rattle.std.proofs.Common.{◌≡◌, ◌≤◌, ◌∙◌, ◌⊎◌, ℕ, Bool, true, false, List, [], length, All, Option, Some, None, Result, Ok, Err, refl, sym, ap, subst, inl, inr, arith}
 use Rattle.std.proofs.lemmas.List.Elements.{All-weaker}
 use Rattle.std.specs.Prelude.{◌↔◌, IfSome, IsSome, OnOk}
 use Rattle.std.specs.List.{list_all}
@@ -13,8 +13,11 @@ use Rattle.gq_resolve.specs.declared.root_state.RootState.{RootState}
 use Rattle.load_rounds.proofs.Stepping.{record-many}
 use Rattle.load_rounds.specs.Headline.{StopsAnswering}
 use Rattle.load_rounds.specs.Sessions.{SessionOf, state_of}
-use Rattle.load_rounds.specs.SharedRounds.{SharedHeadline, requests, joint, report_of}
+use Rattle.load_rounds.specs.Limits.{AreAnswersWithin, AreRefused}
+use Rattle.load_rounds.specs.SharedRounds.{requests, joint, report_of}
 use Rattle.load_rounds.specs.declared.answer.Answer.{Answer}
+use Rattle.load_rounds.specs.declared.limits.Limits.{Limits}
+use Rattle.load_rounds.specs.declared.limits.Overrun.{Overrun}
 use Rattle.rounds_by_hand.specs.Hands as hands
 use Rattle.rounds_by_hand.specs.Hands.{FarOf, HandOf, handed, out, over, HasGone, IsOver, IsNewRound, pending_in}
 use Rattle.rounds_by_hand.specs.Progress.{Becomes, done_in}
@@ -28,10 +31,12 @@ use Rattle.plan_requests.specs.Servers.{ServerOf}
 use Rattle.server.specs.Plans.{limited_program, limited_text, limited_loaders, limited_fits}
 use Rattle.server.specs.Clients.{ClientOf, HasLoaders, IsSameClient, client_of}
 use Rattle.server.specs.Hands.{ByHandOf, by_hand_of, planned_of, MakesResponse, Ends, AsksAndSteps, AsksAndStores, GivesFrom, Responds, GivesUp, GoesOn, GoesOnIfMay, HoldsByHand, StoresReplies}
+use Rattle.server.specs.Overruns.{overruns, reports_given}
 use Rattle.server.specs.Planned.{AskedOf, PlannedOf, PlansAsked, AnswersAsked, IsResponse, is_refused}
 use Rattle.gq_resolve.specs.PreparedPlans.{LimitedPlanOf}
 use Rattle.server.specs.declared.planned.ResponseForm.{ResponseForm}
 use Rattle.server.proofs.Asking.{asked-answered, asked-refused, asked-stops}
+use Rattle.server.proofs.Refusing.{asked-given}
 
 -- a new round isn't the end
 pub round-open : {P E : Type 0} (far : FarOf P E) → IsNewRound far → ¬ (IsOver far)
@@ -45,10 +50,10 @@ reply-keeps old new number Refused when same e =
     let none : length (pending_in old.far) ≤ number = subst (λ far. length (pending_in far) ≤ number) (sym e) (omega arith) in
     ap (λ (h : HandOf _ _ _). h.far) (same (when.1 none)) ∙ e
 
-module _ {S : Type 0} (server : ServerOf) (most : Option ℕ) (planned : PlannedOf) where
+module _ {S : Type 0} (server : ServerOf) (most : Option ℕ) (limits : Limits) (planned : PlannedOf) where
   -- the hand with the client that it is of
   abbrev pub held : HandOf S LimitedPlanOf RootState → ByHandOf S
-  held hand = by_hand_of (client_of server most hand.session) planned hand.far
+  held hand = by_hand_of (client_of server most limits hand.session) planned hand.far
 
   pub asks-steps : (old new : HandOf S LimitedPlanOf RootState) (did : Progress (Vec Answer)) (own : Progress Answer) → Becomes (MakesResponse planned.many planned.refusals) did own → hands.AsksAndAdvances old new did → AsksAndSteps (held old) (held new) own
   asks-steps old new = each-becomes (MakesResponse planned.many planned.refusals) (λ did own. hands.AsksAndAdvances old new did → AsksAndSteps (held old) (held new) own) (λ answers answer is h. (h.0, inr h.1)) (λ h. h) (λ h. h) (λ h. (h.0, ap held h.1))
@@ -60,6 +65,10 @@ module _ {S : Type 0} (server : ServerOf) (most : Option ℕ) (planned : Planned
   done-ends old new Waiting is h = absurd (cc is)
   done-ends old new Over is h = absurd (cc is)
 
+  -- what is over a limit is answered, and it is over
+  pub overrun-steps : (old new : HandOf S LimitedPlanOf RootState) (answer : Answer) → ¬ (IsOver old.far) → IsOver new.far → AsksAndSteps (held old) (held new) (Done answer)
+  overrun-steps old new answer on ended = (on, inr ended)
+
   -- a request that is refused stays as it is
   pub refused-asks : (hand : HandOf S LimitedPlanOf RootState) → is_refused planned ≡ true → hand.far ≡ handed → (answer : Answer) → AsksAndSteps (held hand) (held hand) (Done answer)
   refused-asks hand refused far answer = (λ e. absurd (cc (sym far ∙ e)), inl (refused, refl))
@@ -70,18 +79,35 @@ module _ {S : Type 0} (server : ServerOf) (most : Option ℕ) (planned : Planned
     as-planned begun hand ps qs e h = subst (λ (plans : List LimitedPlanOf). HasGone limited_program limited_text may begun hand.session plans hand.far) e h
 
     pub goes : (old new : HandOf S LimitedPlanOf RootState) → old.plans ≡ planned.plans → new.plans ≡ old.plans → hands.GoesOn limited_program limited_text may old new → GoesOn may (held old) (held new)
-    goes old new is same go = λ begun h. as-planned begun new new.plans planned.plans (same ∙ is) (go begun (as-planned begun old planned.plans old.plans (sym is) h))
+    goes old new is same go = λ begun h. record {
+      limits = h.limits;
+      gone = as-planned begun.session new new.plans planned.plans (same ∙ is) (go begun.session (as-planned begun.session old planned.plans old.plans (sym is) h.gone));
+    }
 
-    pub responds : (old new : HandOf S LimitedPlanOf RootState) → old.plans ≡ planned.plans → new.plans ≡ old.plans → is_refused planned ≡ false → (did : Progress (Vec Answer)) (own : Progress Answer) → Becomes (MakesResponse planned.many planned.refusals) did own
-        → hands.AnswersFrom limited_program limited_text may old new did → Responds may (held old) (held new) own
-    responds old new is same open' =
+    -- what is given to its plans answers what was asked
+    given-answers : (new : HandOf S LimitedPlanOf RootState) → new.plans ≡ planned.plans → is_refused planned ≡ false → (c : ClientOf S) (asked : AskedOf) → new.limits ≡ c.limits → PlansAsked c asked planned → (given : Result (Vec Answer) Overrun)
+        → AreAnswersWithin may (state_of c.session) (state_of new.session) new.limits (requests limited_program limited_text new.plans) given → (answer : Answer) → IsResponse planned (reports_given planned.refusals given) (report_of answer)
+        → AnswersAsked may c asked (report_of answer) new.session
+    given-answers new is open' c asked bound p given are answer response =
+        let own = subst (λ (plans : List LimitedPlanOf). AreAnswersWithin may (state_of c.session) (state_of new.session) c.limits (requests limited_program limited_text plans) given) is
+        (subst (λ (l : Limits). AreAnswersWithin may (state_of c.session) (state_of new.session) l (requests limited_program limited_text new.plans) given) bound are) in
+        asked-answered may c new.session asked planned (reports_given planned.refusals given) (report_of answer) p open' (asked-given may c new.session asked planned p given own) response
+
+    pub responds : (old new : HandOf S LimitedPlanOf RootState) → old.plans ≡ planned.plans → new.plans ≡ old.plans → new.limits ≡ limits → is_refused planned ≡ false → (did : Progress (Vec Answer)) (own : Progress Answer)
+        → Becomes (MakesResponse planned.many planned.refusals) did own → hands.AnswersFrom limited_program limited_text may old new did → Responds may (held old) (held new) own
+    responds old new is same bound open' =
         each-becomes (MakesResponse planned.many planned.refusals) (λ did own. hands.AnswersFrom limited_program limited_text may old new did → Responds may (held old) (held new) own) answered (λ _. tt) (λ _. tt) (λ _. tt)
       where
         answered : (answers : Vec Answer) (answer : Answer) → MakesResponse planned.many planned.refusals answers answer → hands.AnswersFrom limited_program limited_text may old new (Done answers) → Responds may (held old) (held new) (Done answer)
         answered answers answer response tells c asked h p =
-            let shared = tells c.session (as-planned c.session old planned.plans old.plans (sym is) h) in
-            let asked-for = subst (λ (plans : List LimitedPlanOf). SharedHeadline may (state_of c.session) (state_of new.session) (requests limited_program limited_text plans) (map report_of answers.items)) (same ∙ is) shared in
-            asked-answered may c new.session asked planned answers.items (report_of answer) p open' asked-for response
+            given-answers new (same ∙ is) open' c asked (bound ∙ h.limits) p (Ok answers) (tells c.session (as-planned c.session old planned.plans old.plans (sym is) h.gone)) answer response
+
+    -- what is over a limit is refused
+    pub overrun-responds : (old new : HandOf S LimitedPlanOf RootState) (o : Overrun) → old.plans ≡ planned.plans → new.plans ≡ old.plans → new.limits ≡ limits → is_refused planned ≡ false
+        → ((begun : SessionOf S) → hands.IsUnderway limited_program limited_text may begun old → AreRefused may (state_of begun) (state_of new.session) new.limits (requests limited_program limited_text new.plans) o)
+        → (answer : Answer) → IsResponse planned (overruns o planned.refusals) (report_of answer) → Responds may (held old) (held new) (Done answer)
+    overrun-responds old new o is same bound open' went answer response c asked h p =
+        given-answers new (same ∙ is) open' c asked (bound ∙ h.limits) p (Err o) (went c.session (as-planned c.session old planned.plans old.plans (sym is) h.gone)) answer response
 
     -- the session of a request that is refused is as it was
     untouched : (begun : SessionOf S) (hand : HandOf S LimitedPlanOf RootState) → hand.far ≡ handed → HasGone limited_program limited_text may begun hand.session planned.plans hand.far → hand.session ≡ begun
@@ -89,14 +115,14 @@ module _ {S : Type 0} (server : ServerOf) (most : Option ℕ) (planned : Planned
 
     pub refusal-responds : (hand : HandOf S LimitedPlanOf RootState) → is_refused planned ≡ true → hand.far ≡ handed → (answer : Answer) → IsResponse planned [] (report_of answer) → Responds may (held hand) (held hand) (Done answer)
     refusal-responds hand refused far answer response c asked h p =
-        subst (λ (s : SessionOf S). AnswersAsked may c asked (report_of answer) s) (sym (untouched c.session hand far h)) (asked-refused may c asked planned (report_of answer) p refused response)
+        subst (λ (s : SessionOf S). AnswersAsked may c asked (report_of answer) s) (sym (untouched c.session hand far h.gone)) (asked-refused may c asked planned (report_of answer) p refused response)
 
     pub gives-up : (hand : HandOf S LimitedPlanOf RootState) (session : SessionOf S) → hand.plans ≡ planned.plans → (is_refused planned ≡ true → hand.far ≡ handed) → session ≡ hand.session
-        → hands.GivesUp limited_program limited_text may hand session → GivesUp may (held hand) (client_of server most session)
+        → hands.GivesUp limited_program limited_text may hand session → GivesUp may (held hand) (client_of server most limits session)
     gives-up hand session is far same up c asked h p =
-        let end = up c.session (as-planned c.session hand planned.plans hand.plans (sym is) h) in
+        let end = up c.session (as-planned c.session hand planned.plans hand.plans (sym is) h.gone) in
         let ended = subst (λ (plans : List LimitedPlanOf). (session ≡ c.session) ⊎ StopsAnswering may (state_of c.session) (state_of session) (joint limited_program limited_text plans)) is end in
-        asked-stops may c session asked planned p (λ refused. same ∙ untouched c.session hand (far refused) h) ended
+        asked-stops may c session asked planned p (λ refused. same ∙ untouched c.session hand (far refused) h.gone) ended
 
     -- an order gets a reply
     pub goes-if-may : {X E : Type 0} (r : Result X E) (at' : Option Pending) (given : Result (Vec Item) FetchFault) (old new : HandOf S LimitedPlanOf RootState) → old.plans ≡ planned.plans → new.plans ≡ old.plans
@@ -106,30 +132,32 @@ module _ {S : Type 0} (server : ServerOf) (most : Option ℕ) (planned : Planned
     goes-if-may (Err e) at' given old new is same h = tt
 
 -- properties of a client that is handed in
-pub handed-in : {S : Type 0} (client : ClientOf S) (planned : PlannedOf) (hand : HandOf S LimitedPlanOf RootState) → HasLoaders client.server client.session → hand ≡ record { session = client.session; plans = planned.plans; far = handed }
-    → All (λ (b : LimitedPlanOf). limited_loaders b ≤ planned.loaders) planned.plans → planned.loaders ≤ length client.session.loaders → HoldsByHand (client_of client.server client.most hand.session) planned (is_refused planned) hand
+pub handed-in : {S : Type 0} (client : ClientOf S) (planned : PlannedOf) (hand : HandOf S LimitedPlanOf RootState) → HasLoaders client.server client.session
+    → hand ≡ record { session = client.session; plans = planned.plans; limits = client.limits; far = handed }
+    → All (λ (b : LimitedPlanOf). limited_loaders b ≤ planned.loaders) planned.plans → planned.loaders ≤ length client.session.loaders → HoldsByHand (client_of client.server client.most client.limits hand.session) planned (is_refused planned) hand
 handed-in {S} client planned hand has e each fits =
     let enough = All-weaker (λ (b : LimitedPlanOf). limited_loaders b ≤ planned.loaders) (λ (b : LimitedPlanOf). limited_loaders b ≤ length client.session.loaders) (λ b below. omega (arith, below, fits)) planned.plans each in
-    subst (λ (h : HandOf S LimitedPlanOf RootState). HoldsByHand (client_of client.server client.most h.session) planned (is_refused planned) h) (sym e)
-    (record { loaders = has; refuses_is = refl; holds = record { enough = enough; round = tt }; refused = λ _. refl })
+    subst (λ (h : HandOf S LimitedPlanOf RootState). HoldsByHand (client_of client.server client.most client.limits h.session) planned (is_refused planned) h) (sym e)
+    (record { loaders = has; limits = refl; refuses_is = refl; holds = record { enough = enough; round = tt; within = tt }; refused = λ _. refl })
 
 -- what holds between calls holds after one that keeps the hand
-pub holds-on : {S : Type 0} (server : ServerOf) (most : Option ℕ) (form : ResponseForm) (loaders : ℕ) (refuses : Bool) (old new : HandOf S LimitedPlanOf RootState)
-    → HoldsByHand (client_of server most old.session) (planned_of form loaders old.plans) refuses old → refuses ≡ false → hands.KeepsHand limited_program limited_text limited_loaders limited_fits old new
-    → HoldsByHand (client_of server most new.session) (planned_of form loaders new.plans) refuses new
-holds-on server most form loaders refuses old new was open' kept =
+pub holds-on : {S : Type 0} (server : ServerOf) (most : Option ℕ) (limits : Limits) (form : ResponseForm) (loaders : ℕ) (refuses : Bool) (old new : HandOf S LimitedPlanOf RootState)
+    → HoldsByHand (client_of server most limits old.session) (planned_of form loaders old.plans) refuses old → refuses ≡ false → hands.KeepsHand limited_program limited_text limited_loaders limited_fits old new
+    → HoldsByHand (client_of server most limits new.session) (planned_of form loaders new.plans) refuses new
+holds-on server most limits form loaders refuses old new was open' kept =
     let refuses_is : refuses ≡ is_refused (planned_of form loaders new.plans) = was.refuses_is ∙ ap (λ ps. is_refused (planned_of form loaders ps)) (sym kept.plans) in
     record {
       loaders = subst (λ n. length server.bindings.loaders ≤ n) (sym (record-many old.session.loaders new.session.loaders kept.session.recorded)) was.loaders;
+      limits = kept.limits ∙ was.limits;
       refuses_is = refuses_is;
       holds = kept.holds;
       refused = λ e. absurd (cc (sym open' ∙ refuses_is ∙ e));
     }
 
 -- what is so of the plans as they were is so of them as they are
-pub told : {S : Type 0} (server : ServerOf) (most : Option ℕ) (form : ResponseForm) (loaders : ℕ) (old new : HandOf S LimitedPlanOf RootState) (T : ByHandOf S → Type 0) → new.plans ≡ old.plans
-    → T (held server most (planned_of form loaders old.plans) new) → T (held server most (planned_of form loaders new.plans) new)
-told server most form loaders old new T same x = subst (λ ps. T (held server most (planned_of form loaders ps) new)) (sym same) x
+pub told : {S : Type 0} (server : ServerOf) (most : Option ℕ) (limits : Limits) (form : ResponseForm) (loaders : ℕ) (old new : HandOf S LimitedPlanOf RootState) (T : ByHandOf S → Type 0) → new.plans ≡ old.plans
+    → T (held server most limits (planned_of form loaders old.plans) new) → T (held server most limits (planned_of form loaders new.plans) new)
+told server most limits form loaders old new T same x = subst (λ ps. T (held server most limits (planned_of form loaders ps) new)) (sym same) x
 
 -- where each order had a reply, what was given is stored
 pub stores-replies : {S : Type 0} (may : S → List KeyOf → AnswerOf → Type 0) (old : ByHandOf S) (client : ClientOf S) → list_all is_in (pending_in old.far) ≡ true → AsksAndStores may old client → StoresReplies old client
@@ -145,16 +173,16 @@ module _ {S : Type 0} (may : S → List KeyOf → AnswerOf → Type 0) (b new : 
   -- says what comes of it after a round came of it before
   pub polled-again : (given : ClientOf S × Result Answer AllocError) → GivesFrom may new given → GivesFrom may b given
   polled-again given g = record {
-    answered = λ c asked h p. g.answered c asked (goes-on c.session h) (same-planned c asked p);
-    stopped = λ c asked h p. g.stopped c asked (goes-on c.session h) (same-planned c asked p);
-    same = record { server = g.same.server ∙ same.server; most = g.same.most ∙ same.most };
+    answered = λ c asked h p. g.answered c asked (goes-on c h) (same-planned c asked p);
+    stopped = λ c asked h p. g.stopped c asked (goes-on c h) (same-planned c asked p);
+    same = record { server = g.same.server ∙ same.server; most = g.same.most ∙ same.most; limits = g.same.limits ∙ same.limits };
   }
 
   -- memory ran out
   pub polled-failed : (client : ClientOf S) (e : AllocError) → client ≡ new.client → GivesUp may new client → GivesFrom may b (client, Err e)
   polled-failed client e is up = record {
     answered = λ c asked h p. tt;
-    stopped = λ c asked h p. up c asked (goes-on c.session h) (same-planned c asked p);
+    stopped = λ c asked h p. up c asked (goes-on c h) (same-planned c asked p);
     same = subst (λ (later : ClientOf S). IsSameClient b.client later) (sym is) same;
   }
 

@@ -13,7 +13,6 @@ use Rattle.plan_requests.specs.Planning.{HasOperation, IsPlanned, PlanValues, va
 use Rattle.plan_requests.specs.Servers.{ServerOf}
 use Rattle.plan_requests.proofs.KeptPlans.{plan-again}
 use Rattle.plan_requests.proofs.Values.{refused-more, planned-more}
-use Rattle.server.specs.Answers.{planned}
 use Rattle.server.specs.Kept.{HasNoVariables, IsPlanAt, NeedsLoaders, PreparedRequest, PreparesRequest, PreparesValue}
 use Rattle.server.specs.Planned.{AddsRequest, PlannedOf, PlansAll, PlansEach, nothing_planned}
 use Rattle.server.specs.Plans.{AreLimited, plan_and_limit}

@@ -1,12 +1,13 @@
 pub mod Asking
 pub mod Handing
 pub mod Crossing
-pub mod Limits
+pub mod LimitedPlans
 pub mod Keeping
 pub mod Loaders
 pub mod LoadsByHand
 pub mod Opened
 pub mod Outcomes
+pub mod Refusing
 pub mod Responding
 pub mod StartedLines
 pub mod Values

@@ -15,8 +15,11 @@ use Rattle.execution.specs.Sessions.{Forgot, Lost}
 use Rattle.load_rounds.specs.Calls.{RoundLost}
 use Rattle.load_rounds.specs.Headline.{MakesRounds, StopsAnswering, asked_steps}
 use Rattle.load_rounds.specs.Sessions.{SessionOf, StateOf, state_of, rules_of, session_modes, of_first}
-use Rattle.load_rounds.specs.SharedRounds.{AreAnswers, together}
+use Rattle.load_rounds.specs.Limits.{AreAnswersWithin}
+use Rattle.load_rounds.specs.SharedRounds.{together}
 use Rattle.load_rounds.specs.declared.answer.Answer.{Answer}
+use Rattle.load_rounds.specs.declared.limits.Limits.{Limits}
+use Rattle.load_rounds.specs.declared.limits.Overrun.{Overrun}
 use Rattle.std.specs.declared.alloc.AllocError.{AllocError}
 use Rattle.gq_resolve.specs.PreparedPlans.{LimitedPlanOf as LimitedPlan}
 use Rattle.server.specs.Plans.{limited_requests}
@@ -49,7 +52,9 @@ module _ {S : Type 0} where
     stops-many h = made-many new.loaders old.loaders (stops-made h)
 
 -- whoever ran the batches of plans
-pub answers-many : {S : Type 0} (may : S → List KeyOf → AnswerOf → Type 0) (old new : SessionOf S) (plans : List LimitedPlan) (r : Result (Vec Answer) AllocError) → IfOk r (AreAnswers may (state_of old) (state_of new) (limited_requests plans))
+pub answers-many : {S : Type 0} (may : S → List KeyOf → AnswerOf → Type 0) (old new : SessionOf S) (limits : Limits) (plans : List LimitedPlan) (r : Result (Result (Vec Answer) Overrun) AllocError)
+    → IfOk r (AreAnswersWithin may (state_of old) (state_of new) limits (limited_requests plans))
     → OnErr r (StopsAnswering may (state_of old) (state_of new) (together (limited_requests plans))) → length new.loaders ≡ length old.loaders
-answers-many may old new plans (Ok answers) done stopped = rounds-many may (state_of old) (state_of new) (together (limited_requests plans)) done.log done.made
-answers-many may old new plans (Err e) done stopped = stops-many may (state_of old) (state_of new) (together (limited_requests plans)) stopped
+answers-many may old new limits plans (Ok (Ok answers)) done stopped = rounds-many may (state_of old) (state_of new) (together (limited_requests plans)) done.0.log done.0.made
+answers-many may old new limits plans (Ok (Err overrun)) done stopped = rounds-many may (state_of old) (state_of new) (together (limited_requests plans)) done.log done.made
+answers-many may old new limits plans (Err e) done stopped = stops-many may (state_of old) (state_of new) (together (limited_requests plans)) stopped

@@ -22,8 +22,12 @@ use Rattle.load_rounds.specs.ByHand.{IsAsked, front_in}
 use Rattle.load_rounds.specs.Headline.{StopsAnswering, asked_steps}
 use Rattle.load_rounds.specs.Histories.{IsCallOf, StoppedLoading}
 use Rattle.load_rounds.specs.Reading.{KeysOf, CanLoad, HasRead, keys_fits, keys_loaders, keys_program, keys_text}
-use Rattle.load_rounds.specs.SharedRounds.{ReportOf, SharedHeadline, joint, report_of, request_of}
+use Rattle.load_rounds.specs.Limits.{AreOver, no_limits}
+use Rattle.load_rounds.specs.SharedRounds.{ReportOf, SharedHeadline, joint, report_of, request_of, requests}
 use Rattle.load_rounds.specs.declared.answer.Answer.{Answer}
+use Rattle.load_rounds.specs.declared.limits.Limits.{Limits}
+use Rattle.load_rounds.specs.declared.limits.Overrun.{Overrun}
+use Rattle.load_rounds.proofs.Limiting.{never-over}
 use Rattle.load_rounds.specs.Executions.{plans_in}
 use Rattle.load_rounds.specs.Runs.{RunOf}
 use Rattle.load_rounds.proofs.Reading.{read-complete, read-fills, read-once, reading-front, reading-stops}
@@ -37,7 +41,8 @@ use Rattle.rounds_by_hand.specs.declared.pending.Pending.{Pending}
 use Rattle.rounds_by_hand.specs.declared.pending.Pending.TheVariants.{Out, In}
 use Rattle.rounds_by_hand.specs.Pending.{order_in, AreRepliesFor, HasAnswer, IsReplied}
 use Rattle.rounds_by_hand.specs.Stored.{StoresRound}
-use Rattle.rounds_by_hand.specs.Hands.{FarOf, HandOf, handed, out, over, AnswersFrom, AsksAndAdvances, GivesUp, GoesOn, GoesOnIfMay, HasGone, HoldsFar, IsNewRound, IsOutWith, IsOver, KeepsHand, KeepsLoaders, KeepsSession, StoresAskedFrom}
+use Rattle.rounds_by_hand.specs.declared.fault.HandFault.TheVariants as fault
+use Rattle.rounds_by_hand.specs.Hands.{FarOf, HandOf, handed, out, over, AnswersFrom, AsksAndAdvances, AsksAndOverruns, GivesUp, GoesOn, GoesOnIfMay, HasGone, HoldsFar, IsNewRound, IsOutWith, IsOver, KeepsHand, KeepsLoaders, KeepsSession, StoresAskedFrom}
 use Rattle.rounds_by_hand.proofs.Becoming.{each-becomes}
 use Rattle.plan_requests.specs.Servers.{ServerOf}
 use Rattle.server.specs.Clients.{HasLoaders, client_of}
@@ -86,21 +91,23 @@ module _ {S : Type 0} (keys : KeysOf) where
       ap (λ rs. front_of_keys (modes_of rs) keys.loader keys.keys (look new.pairs)) kept.rules ∙ ap (front_of_keys (modes_of rules) keys.loader keys.keys) stores.stored ∙ filled
 
   -- it is begun
-  pub holds-new : (server : ServerOf) (session : SessionOf S) (plans : List KeysOf) → HasLoaders server session → plans ≡ keys ∷ [] → AreLimited (rules_of (state_of session)) → keys.loader < length session.loaders → HoldsLoad server keys (record { session = session; plans = plans; far = handed })
+  pub holds-new : (server : ServerOf) (session : SessionOf S) (plans : List KeysOf) → HasLoaders server session → plans ≡ keys ∷ [] → AreLimited (rules_of (state_of session)) → keys.loader < length session.loaders → HoldsLoad server keys (record { session = session; plans = plans; limits = no_limits; far = handed })
   holds-new server session plans has is limited lt = record {
     has = has;
     plans = is;
+    unlimited = refl;
     holds = record {
       enough = subst (All (λ plan. keys_loaders plan ≤ length session.loaders)) (sym is) (All-cons (λ plan. keys_loaders plan ≤ length session.loaders) keys [] (omega (arith, lt)) (All-nil (λ plan. keys_loaders plan ≤ length session.loaders)));
       round = tt;
+      within = tt;
     };
     limited = limited;
   }
 
-  module _ (server : ServerOf) (most : Option ℕ) (may : S → List KeyOf → AnswerOf → Type 0) where
+  module _ (server : ServerOf) (most : Option ℕ) (limits : Limits) (may : S → List KeyOf → AnswerOf → Type 0) where
     -- the hand with the client that it is of
     abbrev pub held : HandOf S KeysOf (Unit {0}) → LoadByHandOf S
-    held hand = load_by_hand_of (client_of server most hand.session) keys hand.far
+    held hand = load_by_hand_of (client_of server most limits hand.session) keys hand.far
 
     -- ---- answers
 
@@ -127,15 +134,22 @@ module _ {S : Type 0} (keys : KeysOf) where
       holds-after = record {
         has = subst (λ n. length server.bindings.loaders ≤ n) (sym (record-many old.session.loaders new.session.loaders kept.session.recorded)) h.has;
         plans = kept.plans ∙ h.plans;
+        unlimited = kept.limits ∙ h.unlimited;
         holds = kept.holds;
         limited = subst AreLimited (sym kept.session.rules) h.limited;
       }
+
+      -- it has no limits to be over
+      pub never-refused : (o : Overrun) → AsksAndOverruns keys_program keys_text may old new (fault.Over o) → ⊥
+      never-refused o refused =
+          let asked = requests keys_program keys_text new.plans in
+          never-over asked (state_of new.session) o.rounds o.excess (subst (λ (l : Limits). AreOver l asked (state_of new.session) o.rounds o.excess) (kept.limits ∙ h.unlimited) refused.exceeds)
 
       -- from whichever session it was begun: the program was run
       has-read : (all : Vec Answer) → AnswersFrom keys_program keys_text may old new (Done all) → (begun : SessionOf S) → HasGone keys_program keys_text may begun old.session old.plans old.far → HasRead may (state_of begun) (state_of new.session) keys.loader keys.keys
       has-read all tells begun is =
           headline-read (state_of begun) (state_of new.session) (map report_of all.items)
-          (subst (λ ps. SharedHeadline may (state_of begun) (state_of new.session) (map (λ plan. request_of (keys_program plan) (keys_text plan)) ps) (map report_of all.items)) (kept.plans ∙ h.plans) (tells begun is))
+          (subst (λ ps. SharedHeadline may (state_of begun) (state_of new.session) (map (λ plan. request_of (keys_program plan) (keys_text plan)) ps) (map report_of all.items)) (kept.plans ∙ h.plans) (tells begun is).0)
 
       -- then nothing is missing
       none-missing : (all : Vec Answer) → AnswersFrom keys_program keys_text may old new (Done all) → ¬ (IsOver old.far) → StoresAskedFrom may old.far old.session new.session → lacking (state_of new.session) ≡ []
@@ -204,6 +218,7 @@ module _ {S : Type 0} (keys : KeysOf) where
     holds-replied old new h kept = record {
       has = subst (HasLoaders server) (sym kept.session) h.has;
       plans = kept.plans ∙ h.plans;
+      unlimited = kept.limits ∙ h.unlimited;
       holds = kept.holds;
       limited = subst (λ (s : SessionOf S). AreLimited (rules_of (state_of s))) (sym kept.session) h.limited;
     }
@@ -218,7 +233,7 @@ module _ {S : Type 0} (keys : KeysOf) where
         go (inr lost) = ap rules_of lost.after ∙ lost-rules h.mid (of_first lost.loaders (front (session_modes begun) p h.mid.memory))
 
     pub load-given-up : (old : HandOf S KeysOf (Unit {0})) (now : SessionOf S) → HoldsLoad server keys old → now ≡ old.session → GivesUp keys_program keys_text may old now
-        → ClientStopsLoad may (held old) (client_of server most now)
+        → ClientStopsLoad may (held old) (client_of server most limits now)
     load-given-up old now h same gives = λ c gone. go c.session (gives c.session (subst (λ ps. HasGone keys_program keys_text may c.session old.session ps old.far) (sym h.plans) gone))
       where
         go : (begun : SessionOf S) → (now ≡ begun) ⊎ StopsAnswering may (state_of begun) (state_of now) (joint keys_program keys_text old.plans) → (now ≡ begun) ⊎ IsCallOf may (StoppedLoading keys.loader keys.keys) begun now

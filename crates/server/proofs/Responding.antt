@@ -1,5 +1,5 @@
 -- What a client is asked, planned, and what answers to the plans make of it.
-use Rattle.std.proofs.Common.{◌≡◌, ◌∙◌, ℕ, List, [], map, Result, Ok, Err, true, false, ap, subst, sym, inr}
+use Rattle.std.proofs.Common.{◌≡◌, ◌∙◌, ℕ, List, [], map, Result, Ok, Err, true, false, subst, sym, inr}
 use Rattle.std.specs.Global.{Vec}
 use Rattle.std.specs.Prelude.{IfOk}
 use Rattle.std.specs.declared.alloc.AllocError.{AllocError}
@@ -8,16 +8,21 @@ use Rattle.load_memory.specs.Keys.{KeyOf}
 use Rattle.load_queue.specs.Answers.{AnswerOf}
 use Rattle.load_rounds.specs.Headline.{StopsAnswering}
 use Rattle.load_rounds.specs.Sessions.{SessionOf, state_of}
-use Rattle.load_rounds.specs.SharedRounds.{AreAnswers, ReportOf, SharedHeadline, joint, report_of, requests, together}
+use Rattle.load_rounds.specs.Limits.{AreAnswersWithin}
+use Rattle.load_rounds.specs.SharedRounds.{ReportOf, joint, report_of, requests, together}
 use Rattle.load_rounds.specs.declared.answer.Answer.{Answer}
+use Rattle.load_rounds.specs.declared.limits.Limits.{Limits}
+use Rattle.load_rounds.specs.declared.limits.Overrun.{Overrun}
 use Rattle.gq_resolve.specs.PreparedPlans.{LimitedPlanOf}
 use Rattle.server.specs.Clients.{ClientOf}
 use Rattle.server.specs.Hands.{MakesResponse, planned_of, refusals_in}
+use Rattle.server.specs.Overruns.{reports_given}
 use Rattle.server.specs.Planned.{AnswersAsked, AnswersPlanned, AskedOf, IsResponse, PlannedOf, PlansAsked, StopsAsked, StopsPlanned, is_refused}
 use Rattle.server.specs.Plans.{limited_program, limited_requests, limited_text}
 use Rattle.server.specs.declared.planned.ResponseForm.{ResponseForm}
 use Rattle.server.proofs.Asking.{asked-answered, asked-refused, asked-stops, unplanned-stops}
-use Rattle.server.proofs.Limits.{answered-stops}
+use Rattle.server.proofs.LimitedPlans.{given-stops}
+use Rattle.server.proofs.Refusing.{asked-given}
 
 module _ {S : Type 0} (may : S → List KeyOf → AnswerOf → Type 0) (c : ClientOf S) (asked : AskedOf) (form : ResponseForm) (loaders : ℕ) (bs : List LimitedPlanOf) (what : PlannedOf) (seen : planned_of form loaders bs ≡ what) (p : PlansAsked c asked what) where
   -- the response that is made of answers is one to what was planned
@@ -38,18 +43,21 @@ module _ {S : Type 0} (may : S → List KeyOf → AnswerOf → Type 0) (c : Clie
         (inr (subst (λ (x : PlannedOf). StopsAnswering may (state_of c.session) (state_of new) (joint limited_program limited_text x.plans)) seen
         (subst (λ (s : SessionOf S). StopsAnswering may (state_of s) (state_of new) (together (limited_requests bs))) same h)))
 
-    -- or for the response
-    pub answers-stop : (answers : Vec Answer) → AreAnswers may (state_of old) (state_of new) (limited_requests bs) answers → StopsAsked may c asked new
-    answers-stop answers h = plans-stop (answered-stops may (state_of old) (state_of new) (limited_requests bs) (map report_of answers.items) h)
+    module _ (limits : Limits) (given : Result (Vec Answer) Overrun) (h : AreAnswersWithin may (state_of old) (state_of new) limits (limited_requests bs) given) where
+      -- or for the response
+      pub answers-stop : StopsAsked may c asked new
+      answers-stop = plans-stop (given-stops may (state_of old) (state_of new) limits (limited_requests bs) given h)
 
-    -- its plans were answered
-    pub answers-respond : (answers : Vec Answer) (r : Result Answer AllocError) → AreAnswers may (state_of old) (state_of new) (limited_requests bs) answers → IfOk r (MakesResponse form.is_array (refusals_in form) answers)
-        → IfOk r (λ answer. AnswersAsked may c asked (report_of answer) new)
-    answers-respond answers r h made =
-        let shared = subst (λ (x : PlannedOf). SharedHeadline may (state_of c.session) (state_of new) (requests limited_program limited_text x.plans) (map report_of answers.items)) seen
-        (subst (λ (s : SessionOf S). SharedHeadline may (state_of s) (state_of new) (limited_requests bs) (map report_of answers.items)) same h) in
-        IfOk-weaker r (MakesResponse form.is_array (refusals_in form) answers) (λ answer. AnswersAsked may c asked (report_of answer) new)
-        (λ answer is. asked-answered may c new asked what answers.items (report_of answer) p open' shared (responds (map report_of answers.items) (report_of answer) is)) made
+      -- its plans were answered, or refused
+      pub answers-respond : limits ≡ c.limits → (r : Result Answer AllocError) → IfOk r (λ answer. IsResponse (planned_of form loaders bs) (reports_given (refusals_in form) given) (report_of answer)) → IfOk r (λ answer. AnswersAsked may c asked (report_of answer) new)
+      answers-respond bound r made =
+          let begun = subst (λ (l : Limits). AreAnswersWithin may (state_of c.session) (state_of new) l (limited_requests bs) given) bound
+          (subst (λ (s : SessionOf S). AreAnswersWithin may (state_of s) (state_of new) limits (limited_requests bs) given) same h) in
+          let are = subst (λ (x : PlannedOf). AreAnswersWithin may (state_of c.session) (state_of new) c.limits (requests limited_program limited_text x.plans) given) seen begun in
+          IfOk-weaker r (λ answer. IsResponse (planned_of form loaders bs) (reports_given (refusals_in form) given) (report_of answer)) (λ answer. AnswersAsked may c asked (report_of answer) new)
+          (λ answer is.
+          asked-answered may c new asked what (reports_given what.refusals given) (report_of answer) p open' (asked-given may c new asked what p given are)
+          (subst (λ (x : PlannedOf). IsResponse x (reports_given x.refusals given) (report_of answer)) seen is)) made
 
 -- what came of each that may have been asked came of it whichever was
 if-each : {T E A : Type 0} (P : A → Type 0) (Q : T → A → Type 0) (r : Result T E) → ((a : A) → P a → IfOk r (λ x. Q x a)) → IfOk r (λ x. (a : A) → P a → Q x a)
@@ -63,12 +71,6 @@ module _ {S : Type 0} (may : S → List KeyOf → AnswerOf → Type 0) (c : Clie
       if-each (λ asked. PlansAsked c asked what) (λ answer asked. AnswersAsked may c asked (report_of answer) c.session) r
       (λ asked p. refusal-answers may c asked form loaders bs what seen p none r e refused made)
 
-  pub planned-respond : (old new : SessionOf S) → old ≡ c.session → is_refused what ≡ false → (answers : Vec Answer) (r : Result Answer AllocError) → AreAnswers may (state_of old) (state_of new) (limited_requests bs) answers
-      → IfOk r (MakesResponse form.is_array (refusals_in form) answers) → IfOk r (λ answer. AnswersPlanned may c what (report_of answer) new)
-  planned-respond old new same open' answers r h made =
-      if-each (λ asked. PlansAsked c asked what) (λ answer asked. AnswersAsked may c asked (report_of answer) new) r
-      (λ asked p. answers-respond may c asked form loaders bs what seen p old new same open' answers r h made)
-
   -- memory ran out before anything was asked
   pub planned-unasked : StopsPlanned may c what c.session
   planned-unasked = λ asked p. unplanned-stops may c asked
@@ -77,5 +79,11 @@ module _ {S : Type 0} (may : S → List KeyOf → AnswerOf → Type 0) (c : Clie
     pub planned-stop : StopsAnswering may (state_of old) (state_of new) (together (limited_requests bs)) → StopsPlanned may c what new
     planned-stop h = λ asked p. plans-stop may c asked form loaders bs what seen p old new same open' h
 
-    pub planned-answer-stop : (answers : Vec Answer) → AreAnswers may (state_of old) (state_of new) (limited_requests bs) answers → StopsPlanned may c what new
-    planned-answer-stop answers h = λ asked p. answers-stop may c asked form loaders bs what seen p old new same open' answers h
+    module _ (limits : Limits) (given : Result (Vec Answer) Overrun) (h : AreAnswersWithin may (state_of old) (state_of new) limits (limited_requests bs) given) where
+      pub planned-answer-stop : StopsPlanned may c what new
+      planned-answer-stop = λ asked p. answers-stop may c asked form loaders bs what seen p old new same open' limits given h
+
+      pub planned-respond : limits ≡ c.limits → (r : Result Answer AllocError) → IfOk r (λ answer. IsResponse (planned_of form loaders bs) (reports_given (refusals_in form) given) (report_of answer)) → IfOk r (λ answer. AnswersPlanned may c what (report_of answer) new)
+      planned-respond bound r made =
+          if-each (λ asked. PlansAsked c asked what) (λ answer asked. AnswersAsked may c asked (report_of answer) new) r
+          (λ asked p. answers-respond may c asked form loaders bs what seen p old new same open' limits given h bound r made)

@@ -8,7 +8,11 @@ use Rattle.server.specs.Lines.{AnswersText, ServesLine, StopsLine, StopsText}
 
 module _ {S : Type 0} (may : S → List KeyOf → AnswerOf → Type 0) (c mid later : ClientOf S) (line : List ℕ) (starts : mid ≡ begun c) (same : IsSameClient mid later) where
   same-client : IsSameClient c later
-  same-client = record { server = same.server ∙ ap (λ (x : ClientOf S). x.server) starts; most = same.most ∙ ap (λ (x : ClientOf S). x.most) starts }
+  same-client = record {
+    server = same.server ∙ ap (λ (x : ClientOf S). x.server) starts;
+    most = same.most ∙ ap (λ (x : ClientOf S). x.most) starts;
+    limits = same.limits ∙ ap (λ (x : ClientOf S). x.limits) starts;
+  }
 
   pub serves-line : (report : ReportOf) → AnswersText may mid line report later.session → ServesLine may c line report.text later
   serves-line report h = record {
@@ -24,4 +28,4 @@ module _ {S : Type 0} (may : S → List KeyOf → AnswerOf → Type 0) (c mid la
 -- memory ran out before the session started again
 pub unstarted-line : {S : Type 0} (may : S → List KeyOf → AnswerOf → Type 0) (c later : ClientOf S) (line : List ℕ) → later ≡ c → StopsLine may c line later
 unstarted-line {S} may c later line is =
-    subst (λ (x : ClientOf S). StopsLine may c line x) (sym is) (record { same = record { server = refl; most = refl }; stops = inl refl })
+    subst (λ (x : ClientOf S). StopsLine may c line x) (sym is) (record { same = record { server = refl; most = refl; limits = refl }; stops = inl refl })

@@ -2,31 +2,44 @@
 use Rattle.std.proofs.Common.{◌≡◌, ◌<◌, ℕ, zero, suc, List, [], ◌∷◌, ◌++◌, map, length, get_or, drop, Option, Some, None, All, refl, sym, ap, subst, ◌∙◌, arith, append_assoc, string_bytes}
 use Rattle.std.specs.List.{AllZip, flat_map, join_by}
 use Rattle.std.specs.Option.{option_map}
+use Rattle.std.proofs.lemmas.List.{length-map}
 use Rattle.gq_check.specs.Planned.{IsPlan}
 use Rattle.gq_check.specs.Plans.{PlanOf}
+use Rattle.gq_resolve.specs.Within.{text_within}
+use Rattle.plan_program.specs.PlanPrograms.{plan_program}
 use Rattle.load_memory.specs.Keys.{KeyOf}
 use Rattle.load_memory.specs.Replies.{ReplyOf}
 use Rattle.load_queue.specs.Answers.{AnswerOf}
 use Rattle.load_rounds.specs.Sessions.{SessionOf, StateOf, state_of}
-use Rattle.load_rounds.specs.SharedRounds.{ReportOf, AreShared, SharedHeadline, greatest, report_of}
+use Rattle.load_rounds.specs.SharedRounds.{RequestOf as ExecutedOf, ReportOf, AreShared, greatest, report_of, request_of}
 use Rattle.load_rounds.specs.declared.answer.Answer.{Answer}
+use Rattle.load_rounds.specs.declared.limits.Limits.{Limits}
 use Rattle.request_line.specs.Requests.{RequestOf}
 use Rattle.plan_requests.specs.Servers.{ServerOf}
 use Rattle.plan_requests.specs.Planning.{PlanValues}
 use Rattle.plan_requests.proofs.Values.{plans-valid}
 use Rattle.server.specs.Clients.{ClientOf}
+use Rattle.server.specs.Overruns.{AreGiven, answered as given_answers, overrun, overrun_report}
 use Rattle.server.specs.Plans.{requests_within}
 use Rattle.server.specs.Arrays.{PlaceOf, refused, answered, IsInPlace, text_in, plans_in, reports_in, in_places, array_text, AnswersArray}
 
 -- ---- the answer
 
--- there is an answer for each plan
+-- there is a report for each plan
 module _ {S : Type 0} (old new : StateOf S) (log : List (List ReplyOf)) (most : Option ℕ) where
-  pub shared-many : (plans : List PlanOf) (reports : List ReportOf) → AreShared old new log (requests_within most plans) reports → length plans ≡ length reports
+  shared-many : (plans : List PlanOf) (reports : List ReportOf) → AreShared old new log (requests_within most plans) reports → length plans ≡ length reports
   shared-many [] [] h = refl
   shared-many [] (t ∷ ts) h = absurd h
   shared-many (p ∷ ps) [] h = absurd h
   shared-many (p ∷ ps) (t ∷ ts) h = ap suc (shared-many ps ts h.1)
+
+module _ {S : Type 0} (may : S → List KeyOf → AnswerOf → Type 0) (limits : Limits) (old new : StateOf S) (most : Option ℕ) (plans : List PlanOf) (reports : List ReportOf) where
+  pub given-many : AreGiven may limits old new (requests_within most plans) reports → length plans ≡ length reports
+  given-many (given_answers headline within) = shared-many old new headline.log most plans reports headline.answers
+  given-many (overrun {o = o} gone same) =
+      let asked : PlanOf → ExecutedOf = λ plan. request_of (plan_program plan) (text_within most) in
+      let refusal : ExecutedOf → ReportOf = λ r. overrun_report o in
+      sym (length-map plans asked) ∙ sym (length-map (map asked plans) refusal) ∙ sym (ap length same)
 
 module _ (s : ServerOf) where
   -- each value in its place
@@ -64,22 +77,21 @@ pub texts-report : (answers : List Answer) → map (λ (t : ReportOf). t.text) (
 texts-report [] = refl
 texts-report (a ∷ as') = ap (λ ts. string_bytes a.text ∷ ts) (texts-report as')
 
--- the plans were answered in the session, and their texts stand in their places
+-- what is given to the plans in the session stands in their places
 module _ {S : Type 0} (may : S → List KeyOf → AnswerOf → Type 0) (c : ClientOf S) (new : SessionOf S) where
-  pub array-answered : (values : List (Option RequestOf)) (refusals : List (Option (List ℕ))) (plans : List PlanOf) (answers : List Answer) (report : ReportOf) → PlanValues c.server values refusals plans
-      → SharedHeadline may (state_of c.session) (state_of new) (requests_within c.most plans) (map report_of answers)
-      → report.text ≡ array_text (in_places refusals (map (λ (a : Answer). string_bytes a.text) answers)) → report.rounds ≡ greatest (map report_of answers) → AnswersArray may c values report new
-  array-answered values refusals plans answers report h shared e r =
-      let reports = map report_of answers in
-      let f = filled c.server values refusals plans reports h (shared-many (state_of c.session) (state_of new) shared.log c.most plans reports shared.answers) in
-      let headline : List PlanOf → List ReportOf → Type 0 = λ ps ts. SharedHeadline may (state_of c.session) (state_of new) (requests_within c.most ps) ts in
+  pub array-answered : (values : List (Option RequestOf)) (refusals : List (Option (List ℕ))) (plans : List PlanOf) (reports : List ReportOf) (report : ReportOf) → PlanValues c.server values refusals plans
+      → AreGiven may c.limits (state_of c.session) (state_of new) (requests_within c.most plans) reports
+      → report.text ≡ array_text (in_places refusals (map (λ (t : ReportOf). t.text) reports)) → report.rounds ≡ greatest reports → AnswersArray may c values report new
+  array-answered values refusals plans reports report h given e r =
+      let f = filled c.server values refusals plans reports h (given-many may c.limits (state_of c.session) (state_of new) c.most plans reports given) in
+      let gives : List PlanOf → List ReportOf → Type 0 = λ ps ts. AreGiven may c.limits (state_of c.session) (state_of new) (requests_within c.most ps) ts in
       record {
         places = f.places;
         each = f.each;
-        text = e ∙ ap (λ ts. array_text (in_places refusals ts)) (sym (texts-report answers)) ∙ ap array_text (sym f.texts_are);
+        text = e ∙ ap array_text (sym f.texts_are);
         rounds = r ∙ ap greatest (sym f.reports_are);
         valid = subst (All IsPlan) (sym f.plans_are) (plans-valid c.server values refusals plans h);
-        headline = subst (λ ps. headline ps (reports_in f.places)) (sym f.plans_are) (subst (headline plans) (sym f.reports_are) shared);
+        given = subst (λ ps. gives ps (reports_in f.places)) (sym f.plans_are) (subst (gives plans) (sym f.reports_are) given);
       }
 
 -- ---- the texts in their places, one more

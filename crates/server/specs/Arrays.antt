@@ -10,14 +10,15 @@ use Rattle.gq_check.specs.Planned.{IsPlan}
 use Rattle.load_rounds.specs.declared.answer.Answer.{Answer}
 use Rattle.load_rounds.specs.Headline.{StopsAnswering}
 use Rattle.load_rounds.specs.Sessions.{SessionOf, state_of}
-use Rattle.load_rounds.specs.SharedRounds.{ReportOf, together, greatest, SharedHeadline}
+use Rattle.load_rounds.specs.SharedRounds.{ReportOf, together, greatest}
 use Rattle.request_line.specs.Requests.{RequestOf}
 use Rattle.plan_requests.specs.Servers.{ServerOf}
 use Rattle.plan_requests.specs.Planning.{IsRefused, HasPlan, PlanValues}
 use Rattle.server.specs.Clients.{ClientOf}
+use Rattle.server.specs.Overruns.{AreGiven}
 use Rattle.server.specs.Plans.{requests_within}
 
--- says what stands in the place of a value: its refusal, or what its plan was answered
+-- says what stands in the place of a value: its refusal, or what was given to its plan
 pub data PlaceOf : Type 0 where
   refused : List ℕ → PlaceOf
   answered : PlanOf → ReportOf → PlaceOf
@@ -61,7 +62,8 @@ array_text texts = codes "[" ++ join_by (λ text. text) (codes ",") texts ++ cod
 
 module _ {S : Type 0} (may : S → List KeyOf → AnswerOf → Type 0) where
   -- The array of these values is answered: each value in its place. Its plans are of valid documents, and were all answered in the session
-  -- that was given, with the headline of several requests. It took as many rounds as the answer with the most.
+  -- that was given, with the headline of several requests and within the client's limits; or together they are over one, and each is refused.
+  -- It took as many rounds as the answer with the most.
   pub record AnswersArray (c : ClientOf S) (values : List (Option RequestOf)) (report : ReportOf)
       (new : SessionOf S) : Type 0 where
     pub places : List PlaceOf
@@ -69,7 +71,7 @@ module _ {S : Type 0} (may : S → List KeyOf → AnswerOf → Type 0) where
     pub text : report.text ≡ array_text (map text_in places)
     pub rounds : report.rounds ≡ greatest (reports_in places)
     pub valid : All IsPlan (plans_in places)
-    pub headline : SharedHeadline may (state_of c.session) (state_of new)
+    pub given : AreGiven may c.limits (state_of c.session) (state_of new)
         (requests_within c.most (plans_in places)) (reports_in places)
 
   -- Memory ran out: the session is as it was, or the finished rounds of the plans stay, and perhaps one more was lost.

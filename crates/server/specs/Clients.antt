@@ -10,11 +10,14 @@ use Rattle.plan_requests.specs.Servers.{ServerOf}
 use Rattle.load_rounds.specs.Calls.{cell_at, pair_at}
 use Rattle.load_rounds.specs.Histories.{Call, IsCallOf}
 use Rattle.load_rounds.specs.Sessions.{SessionOf, restarted, state_of}
+use Rattle.load_rounds.specs.declared.limits.Limits.{Limits}
 
--- the server that answers the client, how many bytes an answer has at most, and the session in which it is answered
+-- the server that answers the client, how many bytes an answer has at most, within which limits what is asked together is answered, and the
+-- session in which it is answered
 pub record ClientOf (S : Type 0) : Type 0 where
   pub server : ServerOf
   pub most : Option ℕ
+  pub limits : Limits
   pub session : SessionOf S
 
 module _ {S : Type 0} where
@@ -22,17 +25,19 @@ module _ {S : Type 0} where
   abbrev pub HasLoaders : ServerOf → SessionOf S → Type 0
   HasLoaders server session = length server.bindings.loaders ≤ length session.loaders
 
-  abbrev pub client_of : ServerOf → Option ℕ → SessionOf S → ClientOf S
-  client_of server most session = record { server = server; most = most; session = session }
+  abbrev pub client_of : ServerOf → Option ℕ → Limits → SessionOf S → ClientOf S
+  client_of server most limits session =
+      record { server = server; most = most; limits = limits; session = session }
 
   -- the client, whose session starts again
   abbrev pub begun : ClientOf S → ClientOf S
-  begun c = client_of c.server c.most (restarted c.session)
+  begun c = client_of c.server c.most c.limits (restarted c.session)
 
-  -- it is answered by the same server, and within the same limit
+  -- it is answered by the same server, and within the same limits
   pub record IsSameClient (old new : ClientOf S) : Type 0 where
     pub server : new.server ≡ old.server
     pub most : new.most ≡ old.most
+    pub limits : new.limits ≡ old.limits
 
   -- a loader's key as the client's memory has it
   abbrev pub client_cell : ClientOf S → ℕ → KeyOf → Cell

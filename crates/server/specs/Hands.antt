@@ -7,7 +7,6 @@ use Rattle.std.specs.declared.alloc.AllocError.{AllocError}
 use Rattle.load_queue.specs.Answers.{AnswerOf}
 use Rattle.load_queue.specs.declared.source.FetchFault.{FetchFault}
 use Rattle.gq_resolve.specs.declared.root_state.RootState.{RootState}
-use Rattle.load_rounds.specs.Sessions.{SessionOf}
 use Rattle.load_rounds.specs.SharedRounds.{report_of}
 use Rattle.load_rounds.specs.declared.answer.Answer.{Answer}
 use Rattle.rounds_by_hand.specs.Hands.{FarOf, HandOf, handed, AsksAndMoves, Holds, HasGone, IsOver, Moves, StoresAskedFrom, StoresFrom}
@@ -49,13 +48,14 @@ module _ {S : Type 0} where
   abbrev pub by_hand_of : ClientOf S → PlannedOf → FarOf LimitedPlanOf RootState → ByHandOf S
   by_hand_of client planned far = record { client = client; planned = planned; far = far }
 
-  -- Gives what holds between calls: the client has its loaders, and nothing is asked for a refused request.
+  -- Gives what holds between calls: the client has its loaders and the limits of the hand, and nothing is asked for a refused request.
   pub record HoldsByHand (client : ClientOf S) (planned : PlannedOf) (refuses : Bool)
       (hand : HandOf S LimitedPlanOf RootState) : Type 0 where
     pub loaders : HasLoaders client.server client.session
+    pub limits : hand.limits ≡ client.limits
     pub refuses_is : refuses ≡ is_refused planned
     pub holds : Holds limited_program limited_text limited_loaders limited_fits
-        hand.session hand.plans hand.far
+        hand.session hand.plans hand.limits hand.far
     pub refused : is_refused planned ≡ true → hand.far ≡ handed
 
   -- it is over, or what is asked is one request that is refused, for which nothing is done
@@ -84,15 +84,16 @@ module _ {S : Type 0} where
   CanPoll (Some b) = ¬ (IsOver b.far)
 
   module _ (may : S → List KeyOf → AnswerOf → Type 0) where
-    -- It was begun on this session, as it was then. Since then nothing but its rounds was made in it, and each order has a reply that its
-    -- source may give, or none yet.
-    abbrev pub IsUnderway : SessionOf S → ByHandOf S → Type 0
-    IsUnderway begun b =
-        HasGone limited_program limited_text may begun b.client.session b.planned.plans b.far
+    -- It was begun on this client, within its limits and on its session, as it was then. Since then nothing but its rounds was made there, and
+    -- each order has a reply that its source may give, or none yet.
+    pub record IsUnderway (begun : ClientOf S) (b : ByHandOf S) : Type 0 where
+      pub limits : b.client.limits ≡ begun.limits
+      pub gone : HasGone limited_program limited_text may begun.session
+          b.client.session b.planned.plans b.far
 
-    -- says what was so before a call is so after it, from whichever session it was begun on
+    -- says what was so before a call is so after it, from whichever client it was begun on
     abbrev pub GoesOn : ByHandOf S → ByHandOf S → Type 0
-    GoesOn old new = (begun : SessionOf S) → IsUnderway begun old → IsUnderway begun new
+    GoesOn old new = (begun : ClientOf S) → IsUnderway begun old → IsUnderway begun new
 
     -- says the same where an order gets a reply, if it is one that the order's source may give
     abbrev pub GoesOnIfMay : Result (Vec Item) FetchFault
@@ -108,12 +109,12 @@ module _ {S : Type 0} where
     -- says what answers it answers what was asked of the client that it was begun on, in the client's session as it is now
     abbrev pub Responds : ByHandOf S → ByHandOf S → Progress Answer → Type 0
     Responds old new did = IfSome (done_in did) (λ answer. (c : ClientOf S) (asked : AskedOf)
-        → IsUnderway c.session old → PlansAsked c asked old.planned
+        → IsUnderway c old → PlansAsked c asked old.planned
         → AnswersAsked may c asked (report_of answer) new.client.session)
 
     -- it is given up: the finished rounds of what was asked stay in the session, and perhaps one more was lost
     abbrev pub GivesUp : ByHandOf S → ClientOf S → Type 0
-    GivesUp b client = (c : ClientOf S) (asked : AskedOf) → IsUnderway c.session b
+    GivesUp b client = (c : ClientOf S) (asked : AskedOf) → IsUnderway c b
         → PlansAsked c asked b.planned → StopsAsked may c asked client.session
 
     -- ---- as a future
@@ -122,10 +123,10 @@ module _ {S : Type 0} where
     pub record GivesFrom (b : ByHandOf S)
         (out : ClientOf S × Result Answer AllocError) : Type 0 where
       pub answered : (c : ClientOf S) (asked : AskedOf)
-          → IsUnderway c.session b → PlansAsked c asked b.planned
+          → IsUnderway c b → PlansAsked c asked b.planned
           → IfOk out.1 (λ answer. AnswersAsked may c asked (report_of answer) out.0.session)
       pub stopped : (c : ClientOf S) (asked : AskedOf)
-          → IsUnderway c.session b → PlansAsked c asked b.planned
+          → IsUnderway c b → PlansAsked c asked b.planned
           → OnErr out.1 (StopsAsked may c asked out.0.session)
       pub same : IsSameClient b.client out.0
 

@@ -1,6 +1,7 @@
 pub mod Sources
 pub mod Clients
 pub mod Plans
+pub mod Overruns
 pub mod Answers
 pub mod Kept
 pub mod Arrays

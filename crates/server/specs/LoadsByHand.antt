@@ -10,6 +10,7 @@ use Rattle.load_queue.specs.declared.source.FetchFault.{FetchFault}
 use Rattle.execution.specs.Rounds.{AreLimited}
 use Rattle.load_rounds.specs.Calls.{AreKnown}
 use Rattle.load_rounds.specs.Histories.{Loading, StoppedLoading}
+use Rattle.load_rounds.specs.Limits.{no_limits}
 use Rattle.load_rounds.specs.Reading.{KeysOf, keys_fits, keys_loaders, keys_program, keys_text}
 use Rattle.load_rounds.specs.Sessions.{SessionOf, state_of, rules_of}
 use Rattle.load_rounds.specs.declared.answer.Answer.{Answer}
@@ -51,14 +52,16 @@ module _ {S : Type 0} where
   TellsOutcomes now keys answers outcomes =
       AreKnown (state_of now) keys.loader keys.keys (map outcome_of outcomes.items)
 
-  -- No public clause names it. What holds between calls: the client has its loaders, of which no limit is 0, and the hand reads the keys.
+  -- No public clause names it. What holds between calls: the client has its loaders, of which no limit is 0, and the hand reads the keys,
+  -- without limits.
   pub record HoldsLoad (server : ServerOf) (keys : KeysOf)
       (hand : HandOf S KeysOf (Unit {0})) : Type 0 where
     pub has : HasLoaders server hand.session
     pub limited : AreLimited (rules_of (state_of hand.session))
     pub plans : hand.plans ≡ keys ∷ []
+    pub unlimited : hand.limits ≡ no_limits
     pub holds : Holds keys_program keys_text keys_loaders keys_fits
-        hand.session hand.plans hand.far
+        hand.session hand.plans hand.limits hand.far
 
   module _ (may : S → List KeyOf → AnswerOf → Type 0) where
     -- The load was begun on this session, as it was then. Since then nothing but its round was made in it, and each order has a reply that

@@ -13,9 +13,9 @@ use crate::queries::Queries;
 use gq_resolve::{LimitedPlan, RootState};
 use load_memory::Item;
 use load_queue::{FetchFault, LocalSource};
-use load_rounds::Answer;
+use load_rounds::{Answer, Limits};
 use plan_requests::Server;
-use rounds_by_hand::{Hand, Pending, Progress, TakeFault, are_in};
+use rounds_by_hand::{Hand, HandFault, Pending, Progress, TakeFault, are_in};
 use std::alloc::{AllocError, Global};
 use std::marker::Model;
 
@@ -33,6 +33,7 @@ pub struct ByHand<S> {
     alloc: Global,
     queries: Queries,
     max_answer: Option<usize>,
+    limits: Limits,
     form: ResponseForm,
     // Whether it is one request, which is refused: nothing is asked then.
     is_refused: bool,
@@ -57,10 +58,12 @@ impl<S> Model for ByHand<S> {
 
     ghost coded = { Prim.hlevel (codes, type_ref.the_row.coded, literal.the_row.coded, argument.the_row.coded, field.the_row.coded, inline.the_row.coded, set.the_row.coded, input.the_row.coded, S.code) };
 
-    ghost view = { λ b. by_hand_of (client_of b.queries b.max_answer b.hand.session)
+    ghost view = { λ b. by_hand_of
+        (client_of b.queries b.max_answer b.limits b.hand.session)
         (planned_of b.form b.loaders b.hand.plans) b.hand.far };
 
-    ghost invariant = { λ b. HoldsByHand (client_of b.queries b.max_answer b.hand.session)
+    ghost invariant = { λ b. HoldsByHand
+        (client_of b.queries b.max_answer b.limits b.hand.session)
         (planned_of b.form b.loaders b.hand.plans) b.is_refused b.hand };
 }
 
@@ -70,6 +73,7 @@ impl<S: Drop> Drop for ByHand<S> {
             alloc: _,
             queries: _queries,
             max_answer: _,
+            limits: _,
             form: _form,
             is_refused: _,
             loaders: _,
@@ -91,7 +95,7 @@ impl<S> ClientSession<S> {
     /// planned is what `answer`, `answer_all` or `answer_text` answers to it (`AnswersAsked`), from the session
     /// that the client was handed in with to the one that it has now. `underway`: each call goes on from there, of
     /// `reply` if the reply is one that the order's source may give. `same` and `client`: the server and the
-    /// limit stay. `plan`, `plan_all` and `plan_text` plan what is asked, within the client's limit (`planned`, by
+    /// limits stay. `plan`, `plan_all` and `plan_text` plan what is asked, within the client's limit (`planned`, by
     /// `PlansAsked`). Given up at any time: `stopped` of `ByHand::into_client`
     pub fn by_hand(self, planned: PlannedRequest) -> ByHand<S>
         requires { planned.loaders
@@ -104,6 +108,7 @@ impl<S> ClientSession<S> {
             queries,
             session,
             max_answer,
+            limits,
         } = self;
         let is_refused = planned.is_refused();
         let PlannedRequest {
@@ -115,10 +120,11 @@ impl<S> ClientSession<S> {
             alloc,
             queries,
             max_answer,
+            limits,
             form,
             is_refused,
             loaders,
-            hand: Hand::new(session, plans),
+            hand: Hand::new(session, plans, limits),
         }
     }
 }
@@ -143,7 +149,8 @@ impl<S: LocalSource> ByHand<S> {
     ghost use Rattle.server.specs.Hands.{AsksAndSteps, AsksAndStores, Ends, GivesUp, GoesOn, GoesOnIfMay, Responds, Steps, StoresReplies};
 
     /// Stores the round that is out, if each of its orders has a reply, and goes on over what is known then: returns the answer, or makes
-    /// the next round. The first call begins. A request that is refused is answered by each call, and no round is made.
+    /// the next round. The first call begins. A request that is refused is answered by each call, and no round is made. Where what is asked is
+    /// over a limit of the client by what is known then, the answer is the refusal of that, and no round more is made.
     ///
     /// # Errors
     ///
@@ -206,7 +213,13 @@ impl<S: LocalSource> ByHand<S> {
         if self.is_refused {
             return Ok(Progress::Done(form.response(alloc, Vec::new(alloc))?));
         }
-        let did = self.hand.ask_and_advance()?;
+        let did = match self.hand.ask_and_advance() {
+            Ok(did) => did,
+            Err(HandFault::Over(overrun)) => {
+                return Ok(Progress::Done(form.overrun(alloc, overrun)?));
+            }
+            Err(HandFault::NoMemory) => return Err(AllocError),
+        };
         did.try_map(
             |answers: Vec<Answer>| -> Result<Answer, AllocError>
                 ensures { IfOk result (MakesResponse form.entry.now.is_array
@@ -271,6 +284,7 @@ impl<S: LocalSource> ByHand<S> {
             alloc,
             queries,
             max_answer,
+            limits,
             form: _form,
             is_refused: _,
             loaders: _,
@@ -281,6 +295,7 @@ impl<S: LocalSource> ByHand<S> {
             queries,
             session: hand.into_session(),
             max_answer,
+            limits,
         }
     }
 }

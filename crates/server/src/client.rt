@@ -1,6 +1,7 @@
 //! The session of a client.
 
 ghost use Rattle.std.specs.Prelude.{◌≡◌, ◌≤◌, ◌↔◌, true, None, All, length, IfOk, OnOk, OnErr};
+ghost use Rattle.load_rounds.specs.Limits.{no_limits};
 ghost use Rattle.load_rounds.specs.SharedRounds.{report_of};
 ghost use Rattle.request_line.specs.Seen.{request_of, requests_of};
 ghost use Rattle.server.specs.Answers.{AnswersRequest, StopsRequest};
@@ -15,7 +16,7 @@ use crate::planned::PlannedRequest;
 use crate::queries::Queries;
 use crate::workers::Workers;
 use load_queue::{LocalSource, Source};
-use load_rounds::{Answer, Session};
+use load_rounds::{Answer, Limits, Session};
 use plan_requests::{Request, Server};
 use std::alloc::{AllocError, Global};
 use std::marker::Model;
@@ -28,13 +29,14 @@ use std::thread::Threads;
 /// A request is answered over what the session knows, as with a DataLoader: what an earlier request of the client loaded isn't asked again.
 /// [`restart`](ClientSession::restart) makes it forget.
 ///
-/// A contract sees the server, the limit on answers, and the session.
+/// A contract sees the server, the limits on answers, and the session.
 #[derive(Drop)]
 pub struct ClientSession<S> {
     pub(crate) alloc: Global,
     pub(crate) queries: Queries,
     pub(crate) session: Session<S>,
     pub(crate) max_answer: Option<usize>,
+    pub(crate) limits: Limits,
 }
 
 impl<S> Model for ClientSession<S> {
@@ -47,23 +49,24 @@ impl<S> Model for ClientSession<S> {
 
     ghost coded = { Prim.hlevel (codes, type_ref.the_row.coded, literal.the_row.coded, S.code) };
 
-    ghost view = { λ c. client_of c.queries c.max_answer c.session };
+    ghost view = { λ c. client_of c.queries c.max_answer c.limits c.session };
 
     ghost invariant = { λ c. HasLoaders c.queries c.session };
 }
 
 impl<S> ClientSession<S> {
     /// A session of a server's client, which has a loader for each `loader` line of the server's bindings, in order. Answers have no
-    /// limit.
+    /// limit, nor have their work and their rounds.
     pub fn new(alloc: Global, server: Server, session: Session<S>) -> ClientSession<S>
         requires { HasLoaders server session }
-        ensures { result ≡ client_of server None session }
+        ensures { result ≡ client_of server None no_limits session }
     {
         ClientSession {
             alloc,
             queries: Queries::new(server),
             session,
             max_answer: None,
+            limits: Limits::none(),
         }
     }
 
@@ -74,7 +77,7 @@ impl<S> ClientSession<S> {
     /// an answer 42 bytes.
     pub fn limit_answers(&mut self, most: Option<usize>)
         ensures { self.new ≡ client_of
-            self.old.server most self.old.session }
+            self.old.server most self.old.limits self.old.session }
     {
         self.max_answer = most;
     }
@@ -84,6 +87,50 @@ impl<S> ClientSession<S> {
         ensures { result ≡ self.now.most }
     {
         self.max_answer
+    }
+
+    /// From now on what is asked together may be at most `most` work: a request, or the requests of an array in sum. The work of a request
+    /// is the number of positions of its answer: the response, its objects, lists and leaves, with nulls and faults, and each field that
+    /// waits for a load. What is more is refused with `{"errors":[{"message":"too much work"}]}`; of an array each value is that has no
+    /// refusal of its own.
+    ///
+    /// As more is known there is only more work. So it is refused as soon as what is known is over the limit, and nothing more is asked for
+    /// it; the rounds until then are made, and what they brought stays known. An answer is within the limit. A plan is a position at
+    /// least: with 0 each request is refused that has one, and nothing is asked. A request that is refused for a fault of its own has no
+    /// plan, so that refusals aren't measured.
+    ///
+    /// The work is counted before each round, and no further than one position over the limit. So a refusal takes time for as much work as
+    /// the limit, for each of its rounds, and not for what the answer would be. What is planned already is within the limit that the client
+    /// has when it begins.
+    pub fn limit_work(&mut self, most: Option<usize>)
+        ensures { self.new ≡ client_of self.old.server self.old.most
+            (record self.old.limits { work = most }) self.old.session }
+    {
+        self.limits.work = most;
+    }
+
+    /// From now on at most `most` rounds are made for what is asked together: for a request, or for the requests of an array, which share
+    /// them. Where something is missing after as many, it is refused with `{"errors":[{"message":"too many rounds"}]}`; of an array each
+    /// value is that has no refusal of its own.
+    ///
+    /// A round asks for all that is needed and missing. So this limits how many loads there are of which each needs the one before. With 0
+    /// nothing is asked, and an answer is given where all that it needs is known. The rounds that were made stay known. What is over both
+    /// limits is refused as too much work. Refusals aren't measured, as those of requests that have no plan.
+    ///
+    /// It takes time for executing the plans once more, where no round more may be made.
+    pub fn limit_rounds(&mut self, most: Option<u32>)
+        ensures { self.new ≡ client_of self.old.server self.old.most
+            (record self.old.limits { rounds = most }) self.old.session }
+    {
+        self.limits.rounds = most;
+    }
+
+    /// Returns within which limits what is asked together is answered ([`limit_work`](ClientSession::limit_work),
+    /// [`limit_rounds`](ClientSession::limit_rounds)).
+    pub fn limits(&self) -> Limits
+        ensures { result ≡ self.now.limits }
+    {
+        self.limits
     }
 
     /// The server.
@@ -232,8 +279,8 @@ impl<S: LocalSource> ClientSession<S> {
             return planned.form.response(self.alloc, Vec::new(self.alloc));
         }
         let PlannedRequest { form, plans, .. } = planned;
-        let answers = self.session.answer_all(plans)?;
-        form.response(self.alloc, answers)
+        let given = self.session.answer_all_within(plans, self.limits)?;
+        form.respond(self.alloc, given)
     }
 
     /// The response to what was planned, as [`answer`](ClientSession::answer), [`answer_all`](ClientSession::answer_all) or
@@ -259,25 +306,27 @@ impl<S: LocalSource> ClientSession<S> {
             return planned.form.response(self.alloc, Vec::new(self.alloc));
         }
         let copies = planned.copied_plans(self.alloc)?;
-        let answers = self.session.answer_all(copies)?;
-        planned.form.response(self.alloc, answers)
+        let given = self.session.answer_all_within(copies, self.limits)?;
+        planned.form.respond(self.alloc, given)
     }
 
     /// The response to a request: the refusal of its first fault, with its message and its place, for which nothing was asked; or the
-    /// answer of its plan, which has data or errors or both (section 7.1 of the GraphQL specification of October 2021).
+    /// answer of its plan, which has data or errors or both (section 7.1 of the GraphQL specification of October 2021); or the refusal of a
+    /// plan that is over a limit ([`limit_work`](ClientSession::limit_work), [`limit_rounds`](ClientSession::limit_rounds)).
     ///
     /// # Errors
     ///
     /// Only when out of memory: the finished rounds stay, and a round that was out is lost (`stopped`). The
-    /// server and the limit are the same (`same`). Documents that were kept may have been let go, which no
+    /// server and the limits are the same (`same`). Documents that were kept may have been let go, which no
     /// clause shows and which changes no answer.
     ///
     /// # Headline
     ///
     /// `answered`, by `AnswersRequest`: the request is refused for its first fault and the session is as it was; or
     /// its plan was answered in that session, from `self.old` to `self.new`, with `Headline` (`AnswersPlan` of
-    /// `server/specs/Answers.antt`). Where the client has a limit, the text is the *Limited text*. Out of memory,
-    /// `stopped`, by `StopsRequest`
+    /// `server/specs/Answers.antt`). Where the client has a limit, the text is the *Limited text*. Where it limits
+    /// work or rounds, the answer is within these, or it is over one of them and refused, with the rounds that
+    /// were made on record (`AreRefused`). Out of memory, `stopped`, by `StopsRequest`
     pub fn answer(&mut self, request: &Request<'_>) -> Result<Answer, AllocError>
         ensures answered { IfOk result (λ answer. AnswersRequest S.may_tell
             self.old (request_of request.now) (report_of answer) self.new.session) }
@@ -298,7 +347,8 @@ impl<S: LocalSource> ClientSession<S> {
     /// # Headline
     ///
     /// `answered`, by `AnswersArray`: each value has its refusal or its answer in its place, and all plans were
-    /// answered in that session with `SharedHeadline`; out of memory, `stopped`
+    /// answered in that session with `SharedHeadline`, or refused where together they are over a limit
+    /// (`AreGiven`); out of memory, `stopped`
     pub fn answer_all(&mut self, requests: &[Option<Request<'_>>]) -> Result<Answer, AllocError>
         ensures answered { IfOk result (λ answer. AnswersArray S.may_tell self.old
             (requests_of requests.now) (report_of answer) self.new.session) }
@@ -359,8 +409,8 @@ impl<S: Source> ClientSession<S> {
             return planned.form.response(self.alloc, Vec::new(self.alloc));
         }
         let PlannedRequest { form, plans, .. } = planned;
-        let answers = workers.answer_all(&mut self.session, plans)?;
-        form.response(self.alloc, answers)
+        let given = workers.answer_all(&mut self.session, plans, self.limits)?;
+        form.respond(self.alloc, given)
     }
 
     /// The response to what was planned, as [`answer_planned`](ClientSession::answer_planned) gives it; workers run the batches of each
@@ -390,7 +440,7 @@ impl<S: Source> ClientSession<S> {
             return planned.form.response(self.alloc, Vec::new(self.alloc));
         }
         let copies = planned.copied_plans(self.alloc)?;
-        let answers = workers.answer_all(&mut self.session, copies)?;
-        planned.form.response(self.alloc, answers)
+        let given = workers.answer_all(&mut self.session, copies, self.limits)?;
+        planned.form.respond(self.alloc, given)
     }
 }

@@ -6,7 +6,8 @@
 //! thread runs the batches of a round, or several do ([`Workers`]: [`ClientSession::answer_with`], [`serve_with`]). Or a
 //! request is planned first ([`PlannedRequest`]), and then its caller asks the sources ([`ByHand`]), or it is a future ([`ClientAnswering`]).
 //!
-//! The layer above may rely on this: an answer is always a response, the refusal of the request's first fault or the answer of its plan.
+//! The layer above may rely on this: an answer is always a response, the refusal of the request's first fault or the answer of its plan,
+//! or the refusal of a plan that is over a limit on its work or its rounds ([`ClientSession::limit_work`], [`ClientSession::limit_rounds`]).
 //! With it a contract says what became of the client's session (`specs/Answers.antt`, `specs/Lines.antt`): its loaders were asked
 //! exactly the batches of a lawful log, with the headline of `load_rounds`, and nothing else was asked. That the session has a loader for
 //! each `loader` line, and that a plan is one of its server, are invariants of the types.
@@ -21,6 +22,7 @@ mod future;
 mod keys;
 mod load_by_hand;
 mod opening;
+mod overruns;
 mod planned;
 mod queries;
 mod request_cache;
@@ -38,7 +40,7 @@ pub use gq_schema::SchemaFault;
 pub use load_by_hand::{LoadByHand, PlannedLoad};
 pub use load_memory::{Item, Key, NoMemory, Outcome, Row, Rows, Text, TextPair};
 pub use load_queue::{FetchFault, LocalSource, PerKey, QueueFault, Source};
-pub use load_rounds::{Answer, SessionFault};
+pub use load_rounds::{Answer, Limits, SessionFault};
 pub use opening::Sessions;
 pub use plan_requests::{Request, Server};
 pub use planned::PlannedRequest;

@@ -15,9 +15,9 @@ use crate::client::ClientSession;
 use crate::queries::Queries;
 use load_memory::{Item, Key, Outcome};
 use load_queue::{FetchFault, LocalSource};
-use load_rounds::{Answer, KeysToLoad};
+use load_rounds::{Answer, KeysToLoad, Limits};
 use plan_requests::Server;
-use rounds_by_hand::{Hand, Pending, Progress, TakeFault, are_in};
+use rounds_by_hand::{Hand, HandFault, Pending, Progress, TakeFault, are_in};
 use std::alloc::{AllocError, Global};
 use std::marker::Model;
 
@@ -65,6 +65,8 @@ pub struct LoadByHand<S> {
     alloc: Global,
     queries: Queries,
     max_answer: Option<usize>,
+    // Those of the client's answers: a load has none.
+    limits: Limits,
     keys: KeysToLoad,
     // the program of these keys
     hand: Hand<S, KeysToLoad, ()>,
@@ -82,7 +84,7 @@ impl<S> Model for LoadByHand<S> {
     ghost coded = { Prim.hlevel (codes, type_ref.the_row.coded, literal.the_row.coded, S.code) };
 
     ghost view = { λ b. load_by_hand_of
-        (client_of b.queries b.max_answer b.hand.session) b.keys b.hand.far };
+        (client_of b.queries b.max_answer b.limits b.hand.session) b.keys b.hand.far };
 
     ghost invariant = { λ b. HoldsLoad b.queries b.keys b.hand };
 }
@@ -93,6 +95,7 @@ impl<S: Drop> Drop for LoadByHand<S> {
             alloc: _,
             queries: _queries,
             max_answer: _,
+            limits: _,
             keys: _keys,
             hand: _hand,
         } = self;
@@ -104,7 +107,7 @@ impl<S> ClientSession<S> {
 
     /// Keys of a loader, to be loaded in this client's session by hand. Nothing is done before the first call of
     /// [`advance`](LoadByHand::advance), and it takes no memory. Loaders are numbered from 0, in the order of their lines; the
-    /// [session](ClientSession::session) tells how many there are.
+    /// [session](ClientSession::session) tells how many there are. The client's limits are for its answers, and a load has none.
     pub fn load_by_hand(self, planned: PlannedLoad) -> LoadByHand<S>
         requires { planned.loader < length self.session.loaders }
         ensures { result ≡ load_by_hand_of self planned handed }
@@ -114,6 +117,7 @@ impl<S> ClientSession<S> {
             queries,
             session,
             max_answer,
+            limits,
         } = self;
         // A contract also sees here that no loader's limit is 0.
         let _memory = session.memory();
@@ -122,8 +126,9 @@ impl<S> ClientSession<S> {
             alloc,
             queries,
             max_answer,
+            limits,
             keys,
-            hand: Hand::new(session, plans),
+            hand: Hand::new(session, plans, Limits::none()),
         }
     }
 }
@@ -191,7 +196,11 @@ impl<S: LocalSource> LoadByHand<S> {
         ensures same { IsSameClient
             self.old.client self.new.client }
     {
-        let did = self.hand.ask_and_advance()?;
+        let did = match self.hand.ask_and_advance() {
+            Ok(did) => did,
+            Err(HandFault::NoMemory) => return Err(AllocError),
+            Err(HandFault::Over(_)) => unreachable!(),
+        };
         let session = self.hand.session();
         let keys = &self.keys;
         did.try_map(
@@ -241,6 +250,7 @@ impl<S: LocalSource> LoadByHand<S> {
             alloc,
             queries,
             max_answer,
+            limits,
             keys: _keys,
             hand,
         } = self;
@@ -249,6 +259,7 @@ impl<S: LocalSource> LoadByHand<S> {
             queries,
             session: hand.into_session(),
             max_answer,
+            limits,
         }
     }
 }

@@ -2,6 +2,7 @@
 
 ghost use Rattle.std.specs.Prelude.{◌≡◌, [], None, IfOk, option_map};
 ghost use Rattle.gq_bindings.specs.Seen.{by_of};
+ghost use Rattle.load_rounds.specs.Limits.{no_limits};
 ghost use Rattle.server.specs.Opening.{AreOpened, mode_of};
 
 use crate::client::ClientSession;
@@ -20,7 +21,8 @@ use std::alloc::Global;
 pub trait Sessions {
     /// A new session for one client: a loader for each `loader` line, in order, under its name, and nothing is known of any key. `source`
     /// gives the source of a line. The keys of a line that ends in `fold` are compared without the case of `A` to `Z`. A batch has at
-    /// most `max_batch` keys; `None` is no limit. Answers have no limit at first ([`ClientSession::limit_answers`]).
+    /// most `max_batch` keys; `None` is no limit. Answers have no limit at first ([`ClientSession::limit_answers`]), nor have their work
+    /// ([`ClientSession::limit_work`]) and their rounds ([`ClientSession::limit_rounds`]).
     ///
     /// # Errors
     ///
@@ -57,6 +59,8 @@ impl Sessions for Server {
             (λ client. client.server ≡ self.now) }
         ensures unlimited { IfOk result
             (λ client. client.most ≡ None) }
+        ensures limits { IfOk result
+            (λ client. client.limits ≡ no_limits) }
         ensures empty { IfOk result (λ client.
             (client.session.pairs ≡ []) × (client.session.rounds ≡ 0)) }
         ensures loaders { IfOk result (λ client.

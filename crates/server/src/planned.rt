@@ -5,15 +5,18 @@ ghost use Rattle.gq_resolve.specs.Counting.{counted};
 ghost use Rattle.load_rounds.specs.SharedRounds.{report_of};
 ghost use Rattle.request_line.specs.Seen.{request_of, requests_of};
 ghost use Rattle.server.specs.Counts.{plans_read};
+ghost use Rattle.server.specs.Hands.{refusals_in};
 ghost use Rattle.server.specs.Kept.{NeedsLoaders};
+ghost use Rattle.server.specs.Overruns.{overruns, reports_given};
 ghost use Rattle.server.specs.Planned.{AddsRequest, PlansAll, is_refused, nothing_planned};
 ghost use Rattle.server.specs.Plans.{limited_plan};
 
 use crate::arrays::array_answer;
 use crate::counting::plans_read;
+use crate::overruns::overrun_answers;
 use crate::request_cache::RequestCache;
 use gq_resolve::{LimitedPlan, PreparedPlan};
-use load_rounds::{Answer, Session};
+use load_rounds::{Answer, Overrun, Session};
 use plan_requests::{Request, not_a_request};
 use std::alloc::{AllocError, Global};
 use std::marker::Model;
@@ -50,6 +53,30 @@ impl ResponseForm {
         match answers.pop() {
             Some(answer) => Ok(answer),
             None => self.refusal(alloc),
+        }
+    }
+
+    /// The response where the plans are over a limit: each has that refusal in its place.
+    pub(crate) fn overrun(&self, alloc: Global, overrun: Overrun) -> Result<Answer, AllocError>
+        ensures { IfOk result (λ answer. IsResponseOf self.now.is_array (refusals_in self.now)
+            (overruns overrun (refusals_in self.now)) (report_of answer)) }
+    {
+        let answers = overrun_answers(alloc, &self.refusals, overrun)?;
+        self.response(alloc, answers)
+    }
+
+    /// The response that is made of what is given to the plans: their answers, or that they are over a limit.
+    pub(crate) fn respond(
+        &self,
+        alloc: Global,
+        given: Result<Vec<Answer>, Overrun>,
+    ) -> Result<Answer, AllocError>
+        ensures { IfOk result (λ answer. IsResponseOf self.now.is_array (refusals_in self.now)
+            (reports_given (refusals_in self.now) given) (report_of answer)) }
+    {
+        match given {
+            Ok(answers) => self.response(alloc, answers),
+            Err(overrun) => self.overrun(alloc, overrun),
         }
     }
 

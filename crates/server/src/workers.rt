@@ -3,14 +3,15 @@
 ghost use Rattle.std.specs.Prelude.{◌≡◌, All, IfOk, IfErr, OnErr};
 ghost use Rattle.batch_workers.specs.Workers.{IsBadCount};
 ghost use Rattle.load_rounds.specs.Headline.{StopsAnswering};
+ghost use Rattle.load_rounds.specs.Limits.{AreAnswersWithin};
 ghost use Rattle.load_rounds.specs.Sessions.{state_of};
-ghost use Rattle.load_rounds.specs.SharedRounds.{AreAnswers, together};
+ghost use Rattle.load_rounds.specs.SharedRounds.{together};
 ghost use Rattle.server.specs.Plans.{HasLoadersFor, limited_requests};
 
 use batch_workers::{MOST_WORKERS, WorkFault, answer_all_with};
 use gq_resolve::LimitedPlan;
 use load_queue::Source;
-use load_rounds::{Answer, Session};
+use load_rounds::{Answer, Limits, Overrun, Session};
 use std::alloc::AllocError;
 use std::marker::Model;
 use std::sync::Wait;
@@ -56,20 +57,22 @@ impl<'r, R> Workers<'r, R> {
 }
 
 impl<'r, R: Threads + Wait + Sync> Workers<'r, R> {
-    /// The answers to plans in a session, which has their loaders, in rounds that they share.
+    /// The answers to plans in a session, which has their loaders, in rounds that they share; or where they are over a limit.
     pub(crate) fn answer_all<S: Source>(
         &self,
         session: &mut Session<S>,
         plans: Vec<LimitedPlan>,
-    ) -> Result<Vec<Answer>, AllocError>
+        limits: Limits,
+    ) -> Result<Result<Vec<Answer>, Overrun>, AllocError>
         requires { All (HasLoadersFor session.old) plans.items }
-        ensures answers { IfOk result (AreAnswers S.may_answer (state_of session.old)
-            (state_of session.new) (limited_requests plans.items)) }
+        ensures answers { IfOk result (AreAnswersWithin S.may_answer (state_of session.old)
+            (state_of session.new) limits (limited_requests plans.items)) }
         ensures stopped { OnErr result (StopsAnswering S.may_answer (state_of session.old)
             (state_of session.new) (together (limited_requests plans.items))) }
     {
-        match answer_all_with(self.rt, session, plans, self.count) {
-            Ok(answers) => Ok(answers),
+        match answer_all_with(self.rt, session, plans, limits, self.count) {
+            Ok(answers) => Ok(Ok(answers)),
+            Err(WorkFault::Over(overrun)) => Ok(Err(overrun)),
             Err(WorkFault::NoMemory) => Err(AllocError),
             Err(WorkFault::BadCount) => unreachable!(),
         }

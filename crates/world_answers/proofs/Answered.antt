@@ -1,6 +1,8 @@
--- Each plan is answered in a session of its world that is new: rounds can be made until nothing is missing.
+-- Plans are answered in a session of their world that is new: rounds can be made until nothing is missing, or until the work is over the
+-- limit.
 use Rattle.std.proofs.Common.{◌≡◌, ◌≢◌, ◌⊎◌, ◌≤◌, ◌<◌, ◌+◌, ℕ, zero, suc, List, [], ◌∷◌, All, map, length, inl, inr, sym, ◌∙◌, ap, subst, refl, Option, Some, None, arith}
 use Rattle.std.specs.Prelude.{slice_get}
+use Rattle.std.proofs.lemmas.Bool.{cases_lt}
 use Rattle.std.proofs.lemmas.List.{length-map}
 use Rattle.std.proofs.lemmas.List.Elements.{All-head, All-tail}
 use Rattle.load_memory.specs.Keys.{KeyOf}
@@ -21,25 +23,25 @@ use Rattle.execution.specs.Sessions.{Forgot, AskedLoads}
 use Rattle.execution.proofs.Monotone.{exec-whole, front-open}
 use Rattle.execution.proofs.RoundLaws.{rounds-chain}
 use Rattle.gq_check.specs.Plans.{PlanOf}
-use Rattle.gq_check.specs.Planned.{IsPlan}
 use Rattle.plan_program.specs.PlanPrograms.{plan_program}
 use Rattle.load_rounds.specs.Sessions.{StateOf, state_of, rules_of, session_modes, after_step}
 use Rattle.load_rounds.specs.Calls.{RoundRan}
 use Rattle.execution.specs.Executes.{IsTextOf}
 use Rattle.load_rounds.specs.KeyByKey.{item_over}
+use Rattle.load_rounds.specs.Limits.{work_in, IsWithin, IsOver as IsMore, AreAskedInTime}
+use Rattle.load_rounds.specs.SharedRounds.{RequestOf, together}
+use Rattle.load_rounds.specs.declared.limits.Limits.{Limits}
 use Rattle.gq_resolve.proofs.PlanLoads.{plan-loads}
-use Rattle.gq_resolve.specs.Within.{text_within}
-use Rattle.load_rounds.proofs.Following.{InRounds, in-none, in-more, in-all}
+use Rattle.load_rounds.proofs.Following.{InRounds, in-none, in-more}
 use Rattle.load_rounds.proofs.Holding.{rounds-held}
 use Rattle.load_rounds.proofs.Numbering.{orders-below, orders-loads}
 use Rattle.world.specs.Worlds.{WorldOf, IsLimit, HasSources}
-use Rattle.world_answers.specs.Answers.{may_tell, IsAnsweredAnew}
-use Rattle.world_answers.specs.Services.{ServiceOf}
+use Rattle.world_answers.specs.Answers.{may_tell}
 use Rattle.world_answers.specs.Sessions.{loaders_over, session_over, IsOver}
-use Rattle.world_answers.proofs.Direct.{over-alike, over-held, answer-direct}
+use Rattle.world_answers.proofs.Direct.{over-alike, over-held}
+use Rattle.world_answers.proofs.Known.{respects-over, rounds-by-key}
 use Rattle.world_answers.proofs.Loading.{length-over}
 use Rattle.world_answers.proofs.Restarting.{over-new}
-use Rattle.world_answers.proofs.Together.{respects-over, rounds-by-key}
 use Rattle.world_answers.proofs.Logs.{chain-more}
 
 there : {A : Type 0} (xs : List A) (a : ℕ) → a < length xs → (x : A) × (slice_get xs a ≡ Some x)
@@ -56,6 +58,14 @@ some-same x y e = cc e
 
 none-some : {A : Type 0} (y : A) → None ≡ Some y → ⊥
 none-some y e = cc e
+
+-- an amount is more than a limit, or it isn't
+more-or : (limit : Option ℕ) (amount : ℕ) → IsWithin limit amount ⊎ IsMore limit amount
+more-or None amount = inl tt
+more-or (Some most) amount = elim (cases_lt most amount) [
+  | inl more ↦ inr more
+  | inr within ↦ inl within
+]
 
 -- ---- the loaders of a world
 
@@ -126,7 +136,13 @@ module _ (w : WorldOf) (has : HasSources w) where
       let own : length ls ≡ length w.bindings.loaders = length-over w.limit w.bindings.loaders w.sources has.each in
       omega (arith, below, size, own)
 
-  module _ (p : Program) (own : HasLoaders (length (rules_of old)) p) where
+  module _ (limit : Option ℕ) (rs : List RequestOf) (own : HasLoaders (length (rules_of old)) (together rs)) where
+    abbrev p : Program
+    p = together rs
+
+    abbrev limits : Limits
+    limits = record { work = limit; rounds = None }
+
     few : (cur : StateOf SourceOf) (n : ℕ) → InRounds may_tell old cur p n → n ≤ chain p (direct item)
     few cur n is =
         let at : HoldsItems (session_modes old) item cur.memory =
@@ -137,27 +153,33 @@ module _ (w : WorldOf) (has : HasSources w) where
         let c = is.counted in
         omega (arith, a, b, c)
 
-    -- nothing is missing any more
+    -- nothing is missing any more, and the work is within the limit; or it isn't
+    abbrev pub HasEnded : StateOf SourceOf → Type 0
+    HasEnded last = (IsWithin limit (work_in last rs) × (front (session_modes last) p last.memory ≡ [])) ⊎ IsMore limit (work_in last rs)
+
     pub record Done : Type 0 where
       pub last : StateOf SourceOf
       pub rounds : ℕ
       pub is : InRounds may_tell old last p rounds
-      pub none : front (session_modes last) p last.memory ≡ []
+      pub in_time : AreAskedInTime may_tell old last limits rs rounds
+      pub ended : HasEnded last
 
-    done : (left : ℕ) (cur : StateOf SourceOf) (n : ℕ) → InRounds may_tell old cur p n → chain p (direct item) < n + left → Done
-    done zero cur n is lt = let most = few cur n is in absurd (omega (arith, lt, most))
-    done (suc left) cur n is lt = go (none-or (front (session_modes cur) p cur.memory)) (λ new i. done left new (n + 1) i (omega (arith, lt)))
+    done : (left : ℕ) (cur : StateOf SourceOf) (n : ℕ) → InRounds may_tell old cur p n → AreAskedInTime may_tell old cur limits rs n → chain p (direct item) < n + left → Done
+    done zero cur n is in_time lt = let most = few cur n is in absurd (omega (arith, lt, most))
+    done (suc left) cur n is in_time lt = go (more-or limit (work_in cur rs)) (none-or (front (session_modes cur) p cur.memory)) (λ new i t. done left new (n + 1) i t (omega (arith, lt)))
       where
-        go : (front (session_modes cur) p cur.memory ≡ []) ⊎ (front (session_modes cur) p cur.memory ≢ []) → ((new : StateOf SourceOf) → InRounds may_tell old new p (n + 1) → Done) → Done
-        go (inl e) rest = record { last = cur; rounds = n; is = is; none = e }
-        go (inr some) rest =
+        go : IsWithin limit (work_in cur rs) ⊎ IsMore limit (work_in cur rs) → (front (session_modes cur) p cur.memory ≡ []) ⊎ (front (session_modes cur) p cur.memory ≢ [])
+            → ((new : StateOf SourceOf) → InRounds may_tell old new p (n + 1) → AreAskedInTime may_tell old new limits rs (n + 1) → Done) → Done
+        go (inr more) lacks rest = record { last = cur; rounds = n; is = is; in_time = in_time; ended = inr more }
+        go (inl within) (inl e) rest = record { last = cur; rounds = n; is = is; in_time = in_time; ended = inl (within, e) }
+        go (inl within) (inr some) rest =
             let r = round-there cur (front (session_modes cur) p cur.memory) in
-            rest r.0 (in-more may_tell old cur r.0 p n (n + 1) is refl some r.1)
+            rest r.0 (in-more may_tell old cur r.0 p n (n + 1) is refl some r.1) (inr (record { before = cur; earlier = is.log; made = is.made; might = record { work = within; rounds = inl tt }; ran = r.1 }))
 
     pub rounds-end : Done
-    rounds-end = done (suc (chain p (direct item))) (after_step old Forgot) 0 (in-none may_tell old (after_step old Forgot) p refl) (omega arith)
+    rounds-end = done (suc (chain p (direct item))) (after_step old Forgot) 0 (in-none may_tell old (after_step old Forgot) p refl) (inl refl) (omega arith)
 
--- ---- a plan is answered
+-- ---- a plan
 
 -- the text of an execution over what is known
 abbrev pub text_over : (AnsweredOf → List ℕ) → Program → StateOf SourceOf → List ℕ
@@ -173,31 +195,3 @@ text-reported text_of p last none = record {
 -- a plan over the bindings of a world needs no other loaders
 pub plan-within : (w : WorldOf) (plan : PlanOf) → plan.bindings ≡ w.bindings → HasLoaders (length w.bindings.loaders) (plan_program plan)
 plan-within w plan bound = subst (λ (b : bindings.BindingsOf). HasLoaders (length b.loaders) (plan_program plan)) bound (plan-loads plan)
-
-module _ (s : ServiceOf) (plan : PlanOf) (has : HasSources s.world) (bound : plan.bindings ≡ s.world.bindings) where
-  abbrev w : WorldOf
-  w = s.world
-
-  abbrev text_of : AnsweredOf → List ℕ
-  text_of = text_within s.most
-
-  abbrev p : Program
-  p = plan_program plan
-
-  enough : length plan.bindings.loaders ≤ length (loaders_over w.limit w.bindings.loaders w.sources)
-  enough =
-      let a = length-over w.limit w.bindings.loaders w.sources has.each in
-      let b : length plan.bindings.loaders ≡ length w.bindings.loaders = ap (λ (x : bindings.BindingsOf). length x.loaders) bound in
-      omega (arith, a, b)
-
-  pub plan-answered : IsPlan plan → (text : List ℕ) × IsAnsweredAnew s plan text
-  plan-answered valid =
-      let d = rounds-end w has p (over-loaders w has p (plan-within w plan bound)) in (
-        text_over text_of p d.last,
-        answer-direct s d.last plan (text_over text_of p d.last) d.rounds (record {
-          valid = valid;
-          begun = session_over w;
-          over = over-new w has.each;
-          headline = in-all may_tell (state_of (session_over w)) d.last p d.rounds (length plan.bindings.loaders) text_of (text_over text_of p d.last) d.is (limited w has) (plan-loads plan) enough d.none (text-reported text_of p d.last d.none);
-        }),
-      )

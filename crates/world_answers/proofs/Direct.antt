@@ -1,4 +1,4 @@
--- An answer in the session of a world is direct execution.
+-- The loaders of a session of a world, and the items of their keys.
 use Rattle.std.proofs.Common.{◌≡◌, ◌∙◌, ℕ, zero, suc, List, [], ◌∷◌, map, length, Option, Some, None, refl, sym, ap, subst}
 use Rattle.std.proofs.Math.Path.{fun_ext}
 use Rattle.std.proofs.lemmas.List.Elements.{All-nil, All-cons, All-head, All-tail}
@@ -7,19 +7,12 @@ use Rattle.load_memory.specs.Outcomes.{ItemOf}
 use Rattle.load_memory.specs.Pairs.{PairOf, look}
 use Rattle.load_memory.specs.declared.key.KeyMode.{KeyMode}
 use Rattle.csv_source.specs.Tables.{SourceOf, item_of_key}
-use Rattle.csv_source.specs.KeyLaws.{item_of_key-folded}
 use Rattle.load_queue.specs.Loaders.{LoaderOf, as_made}
-use Rattle.execution.specs.Rounds.{without_failed, direct, HoldsItems}
+use Rattle.execution.specs.Rounds.{without_failed, HoldsItems}
 use Rattle.gq_bindings.specs.Tree as bindings
-use Rattle.gq_check.specs.Plans.{PlanOf}
-use Rattle.plan_program.specs.PlanPrograms.{plan_program}
-use Rattle.execution.specs.Executes.{IsTextOf}
 use Rattle.load_rounds.specs.KeyByKey.{CompareAlike, item_over}
-use Rattle.load_rounds.specs.Sessions.{SessionOf, StateOf, state_of, session_modes}
-use Rattle.gq_resolve.specs.Within.{text_within}
-use Rattle.load_rounds.proofs.KeyByKey.{text-direct}
-use Rattle.world_answers.specs.Answers.{item_at, may_tell, AnswersAnew, IsAnsweredAnew}
-use Rattle.world_answers.specs.Services.{ServiceOf}
+use Rattle.load_rounds.specs.Sessions.{SessionOf}
+use Rattle.world_answers.specs.Answers.{item_at}
 use Rattle.world.specs.Worlds.{WorldOf}
 use Rattle.world_answers.specs.Sessions.{loader_over, loaders_over, IsOver}
 
@@ -73,19 +66,3 @@ module _ (w : WorldOf) (s : SessionOf SourceOf) (over : IsOver w s) where
   over-held modes item =
       let none : [] ≡ s.pairs = ap (λ (x : SessionOf SourceOf). x.pairs) over.fresh in
       subst (λ (ps : List PairOf). HoldsItems modes item (without_failed (look ps))) none (nothing-held modes item)
-
--- an answer in a session of a world is the text of direct execution
-pub answer-direct : (s : ServiceOf) (after : StateOf SourceOf) (plan : PlanOf) (text : List ℕ) (rounds : ℕ) → AnswersAnew s plan after text rounds → IsAnsweredAnew s plan text
-answer-direct s after plan text rounds h =
-    let w = s.world in
-    let text_of = text_within s.most in
-    let old : StateOf SourceOf = state_of h.begun in
-    let text-is : IsTextOf text_of (plan_program plan) (direct (item_over item_of_key old.loaders)) text =
-    text-direct may_tell item_of_key (λ s keys answer is. is) (λ (s : SourceOf). s.mode) item_of_key-folded old after (plan_program plan) text_of text rounds
-    (over-alike w h.begun h.over) (over-held w h.begun h.over (session_modes old) (item_over item_of_key old.loaders)) h.headline in
-    record {
-      direct = subst (λ (item : ℕ → KeyOf → ItemOf). IsTextOf text_of (plan_program plan) (direct item) text) (over-items w h.begun h.over) text-is;
-      after = after;
-      rounds = rounds;
-      answers = h;
-    }

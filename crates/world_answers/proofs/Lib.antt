@@ -4,6 +4,7 @@ pub mod Deciding
 pub mod Direct
 pub mod Documents
 pub mod Json
+pub mod Known
 pub mod Lines
 pub mod Loading
 pub mod Logs

@@ -1,5 +1,5 @@
 -- A line has at most one answer.
-use Rattle.std.proofs.Common.{◌≡◌, ◌≢◌, ℕ, false, List, [], ◌∷◌, ◌++◌, map, Option, Some, None, codes, refl, sym, ap, subst, ◌∙◌, string_bytes}
+use Rattle.std.proofs.Common.{◌≡◌, ◌≢◌, ℕ, false, List, [], ◌∷◌, ◌++◌, map, Option, Some, None, codes, refl, sym, ap, ap₂, subst, ◌∙◌, arith, string_bytes}
 use Rattle.std.specs.List.{AllZip}
 use Rattle.std.specs.Option.{option_map, option_and_then}
 use Rattle.std.specs.Prelude.{Result, Ok, Err}
@@ -24,13 +24,14 @@ use Rattle.gq_check.specs.Texts.{section_of, title_of, check_message, check_plac
 use Rattle.gq_check.specs.Verdict.{FaultOf, Breaks, TooComplex, TooDeep, NotServed, IsVerdict, IsCheckFault, fault_of}
 use Rattle.request_line.specs.Requests.{RequestOf, IsRequest, AreRequests, asked, asked_each}
 use Rattle.gq_resolve.specs.Within.{text_within}
+use Rattle.load_rounds.specs.Limits.{IsWithin, IsOver as IsMore}
 use Rattle.plan_requests.specs.declared.fault.RequestFault.{RequestFault}
 use Rattle.plan_requests.specs.declared.fault.RequestFault.TheVariants as fault
 use Rattle.plan_requests.specs.Requests.{parse_message, request_message, request_place, is_want_of_memory}
 use Rattle.plan_requests.specs.Servers.{ServerOf}
 use Rattle.plan_requests.specs.Planning.{values_of, IsPlanned, IsFaulty, IsRefusal, refusal_text, IsRefused, HasPlan}
-use Rattle.world_answers.specs.Answers.{IsDirectText, AnswersRequest, faulty, planned}
-use Rattle.server.specs.Arrays.{PlaceOf, refused, answered, text_in, array_text}
+use Rattle.world_answers.specs.Answers.{direct_work, IsDirectText, executed, too_much, AnswersRequest, faulty, planned}
+use Rattle.server.specs.Arrays.{PlaceOf, refused, answered, text_in, plans_in, array_text}
 use Rattle.world_answers.specs.Arrays.{IsInPlace, AnswersArray}
 use Rattle.world_answers.specs.Lines.{IsAnswer, no_request, request, several}
 use Rattle.world_answers.specs.Services.{ServiceOf, server_in}
@@ -191,18 +192,27 @@ module _ (verdict : OneVerdict) (w : ServerOf) (r : RequestOf) where
       let same = faults-alike h.fault k.fault h.faulty k.faulty in
       h.report ∙ ap (λ m. refusal_text m (request_place h.fault)) same.message ∙ ap (refusal_text (request_message k.fault)) same.place ∙ sym k.report
 
-module _ (verdict : OneVerdict) (s : ServiceOf) (r : RequestOf) where
-  executed-one : (p : PlanOf) (text other : List ℕ) → IsDirectText s p text → IsDirectText s p other → text ≡ other
-  executed-one p text other h k = h.report ∙ ap (text_within s.most) (same_value h.answered k.answered (sym h.executed ∙ k.executed)) ∙ sym k.report
+-- an amount that is within a limit isn't more than it
+within-or-more : (limit : Option ℕ) (amount : ℕ) → IsWithin limit amount → IsMore limit amount → ⊥
+within-or-more None amount within more = more
+within-or-more (Some most) amount within more = omega (arith, within, more)
 
-  planned-one : (p q : PlanOf) (text other : List ℕ) → IsPlanned (server_in s) r p → IsPlanned (server_in s) r q → IsDirectText s p text → IsDirectText s q other → text ≡ other
-  planned-one p q text other h k e d = executed-one p text other e (subst (λ z. IsDirectText s z other) (one-plan verdict (server_in s) r q p k h) d)
+-- a plan has one text among those that it is asked with
+direct-one : (s : ServiceOf) (all : List PlanOf) (p : PlanOf) (text other : List ℕ) → IsDirectText s all p text → IsDirectText s all p other → text ≡ other
+direct-one s all p text other (executed within h) (executed more k) = h.report ∙ ap (text_within s.most) (same_value h.answered k.answered (sym h.executed ∙ k.executed)) ∙ sym k.report
+direct-one s all p text other (executed within h) (too_much more e) = absurd (within-or-more s.work (direct_work s all) within more)
+direct-one s all p text other (too_much more e) (executed within k) = absurd (within-or-more s.work (direct_work s all) within more)
+direct-one s all p text other (too_much more e) (too_much also d) = e ∙ sym d
+
+module _ (verdict : OneVerdict) (s : ServiceOf) (r : RequestOf) where
+  alone-one : (p q : PlanOf) (text other : List ℕ) → IsPlanned (server_in s) r p → IsPlanned (server_in s) r q → IsDirectText s (p ∷ []) p text → IsDirectText s (q ∷ []) q other → text ≡ other
+  alone-one p q text other h k e d = direct-one s (p ∷ []) p text other e (subst (λ z. IsDirectText s (z ∷ []) z other) (one-plan verdict (server_in s) r q p k h) d)
 
   answers-one : (text other : List ℕ) → AnswersRequest s r text → AnswersRequest s r other → text ≡ other
   answers-one text other (faulty {fault = f} h e) (faulty {fault = g} k d) = refusals-one verdict (server_in s) r text other (record { fault = f; faulty = h; report = e }) (record { fault = g; faulty = k; report = d })
   answers-one text other (faulty {fault = f} h e) (planned {plan = q} k d) = absurd (faulty-or-planned verdict (server_in s) r f q h k)
   answers-one text other (planned {plan = p} h e) (faulty {fault = g} k d) = absurd (faulty-or-planned verdict (server_in s) r g p k h)
-  answers-one text other (planned {plan = p} h e) (planned {plan = q} k d) = planned-one p q text other h k e.direct d.direct
+  answers-one text other (planned {plan = p} h e) (planned {plan = q} k d) = alone-one p q text other h k e.direct d.direct
 
 -- ---- the values of an array
 
@@ -218,26 +228,42 @@ module _ (verdict : OneVerdict) (s : ServiceOf) where
   refused-or-planned None text p h k = absurd k
   refused-or-planned (Some r) text p h k = faulty-or-planned verdict w r h.fault p h.faulty k
 
-  plans-one : (value : Option RequestOf) (p q : PlanOf) (text other : List ℕ) → HasPlan w value p → HasPlan w value q → IsDirectText s p text → IsDirectText s q other → text ≡ other
-  plans-one None p q text other h k e d = absurd h
-  plans-one (Some r) p q text other h k e d = planned-one verdict s r p q text other h k e d
+  plans-one : (value : Option RequestOf) (p q : PlanOf) → HasPlan w value p → HasPlan w value q → p ≡ q
+  plans-one None p q h k = absurd h
+  plans-one (Some r) p q h k = one-plan verdict w r p q h k
 
-  place-one : (value : Option RequestOf) (a b : PlaceOf) → IsInPlace s value a → IsInPlace s value b → text_in a ≡ text_in b
-  place-one value (refused text) (refused other) h k = refused-one value text other h k
-  place-one value (refused text) (answered q u) h k = absurd (refused-or-planned value text q h k.0)
-  place-one value (answered p t) (refused other) h k = absurd (refused-or-planned value other p k h.0)
-  place-one value (answered p t) (answered q u) h k = plans-one value p q t.text u.text h.0 k.0 h.1 k.1
+  -- the plans are the same
+  all-plans-one : (ps qs : List PlanOf) (values : List (Option RequestOf)) (as' bs : List PlaceOf) → AllZip (IsInPlace s ps) values as' → AllZip (IsInPlace s qs) values bs → plans_in as' ≡ plans_in bs
+  all-plans-one ps qs [] [] [] h k = refl
+  all-plans-one ps qs [] [] (b ∷ bs) h k = absurd k
+  all-plans-one ps qs [] (a ∷ as') bs h k = absurd h
+  all-plans-one ps qs (v ∷ vs) [] bs h k = absurd h
+  all-plans-one ps qs (v ∷ vs) (a ∷ as') [] h k = absurd k
+  all-plans-one ps qs (v ∷ vs) (refused text ∷ as') (refused other ∷ bs) h k = all-plans-one ps qs vs as' bs h.1 k.1
+  all-plans-one ps qs (v ∷ vs) (refused text ∷ as') (answered q u ∷ bs) h k = absurd (refused-or-planned v text q h.0 k.0.0)
+  all-plans-one ps qs (v ∷ vs) (answered p t ∷ as') (refused other ∷ bs) h k = absurd (refused-or-planned v other p k.0 h.0.0)
+  all-plans-one ps qs (v ∷ vs) (answered p t ∷ as') (answered q u ∷ bs) h k = ap₂ (λ (x : PlanOf) (xs : List PlanOf). x ∷ xs) (plans-one v p q h.0.0 k.0.0) (all-plans-one ps qs vs as' bs h.1 k.1)
 
-  places-one : (values : List (Option RequestOf)) (as' bs : List PlaceOf) → AllZip (IsInPlace s) values as' → AllZip (IsInPlace s) values bs → map text_in as' ≡ map text_in bs
-  places-one [] [] [] h k = refl
-  places-one [] [] (b ∷ bs) h k = absurd k
-  places-one [] (a ∷ as') bs h k = absurd h
-  places-one (v ∷ vs) [] bs h k = absurd h
-  places-one (v ∷ vs) (a ∷ as') [] h k = absurd k
-  places-one (v ∷ vs) (a ∷ as') (b ∷ bs) h k = ap (λ text. text ∷ map text_in as') (place-one v a b h.0 k.0) ∙ ap (λ texts. text_in b ∷ texts) (places-one vs as' bs h.1 k.1)
+  module _ (all : List PlanOf) where
+    place-one : (value : Option RequestOf) (a b : PlaceOf) → IsInPlace s all value a → IsInPlace s all value b → text_in a ≡ text_in b
+    place-one value (refused text) (refused other) h k = refused-one value text other h k
+    place-one value (refused text) (answered q u) h k = absurd (refused-or-planned value text q h k.0)
+    place-one value (answered p t) (refused other) h k = absurd (refused-or-planned value other p k h.0)
+    place-one value (answered p t) (answered q u) h k = direct-one s all p t.text u.text h.1 (subst (λ z. IsDirectText s all z u.text) (plans-one value q p k.0 h.0) k.1)
+
+    places-one : (values : List (Option RequestOf)) (as' bs : List PlaceOf) → AllZip (IsInPlace s all) values as' → AllZip (IsInPlace s all) values bs → map text_in as' ≡ map text_in bs
+    places-one [] [] [] h k = refl
+    places-one [] [] (b ∷ bs) h k = absurd k
+    places-one [] (a ∷ as') bs h k = absurd h
+    places-one (v ∷ vs) [] bs h k = absurd h
+    places-one (v ∷ vs) (a ∷ as') [] h k = absurd k
+    places-one (v ∷ vs) (a ∷ as') (b ∷ bs) h k = ap (λ text. text ∷ map text_in as') (place-one v a b h.0 k.0) ∙ ap (λ texts. text_in b ∷ texts) (places-one vs as' bs h.1 k.1)
 
   arrays-one : (values : List (Option RequestOf)) (text other : List ℕ) → AnswersArray s values text → AnswersArray s values other → text ≡ other
-  arrays-one values text other h k = h.report ∙ ap array_text (places-one values h.places k.places h.each k.each) ∙ sym k.report
+  arrays-one values text other h k =
+      let same : plans_in k.places ≡ plans_in h.places = all-plans-one (plans_in k.places) (plans_in h.places) values k.places h.places k.each h.each in
+      let each : AllZip (IsInPlace s (plans_in h.places)) values k.places = subst (λ (ps : List PlanOf). AllZip (IsInPlace s ps) values k.places) same k.each in
+      h.report ∙ ap array_text (places-one (plans_in h.places) values h.places k.places h.each each) ∙ sym k.report
 
 -- ---- a line
 

@@ -1,33 +1,34 @@
 -- Lines that are served in the session of a world's client have the text of direct execution.
-use Rattle.std.proofs.Common.{◌≡◌, ◌∙◌, ◌⊎◌, ℕ, List, Option, map, inl, inr, sym, ap, subst}
+use Rattle.std.proofs.Common.{◌≡◌, ◌∙◌, ◌⊎◌, ℕ, List, [], ◌∷◌, Option, map, inl, inr, sym, ap, subst}
 use Rattle.csv_source.specs.Tables.{SourceOf}
 use Rattle.load_queue.specs.Loaders.{as_made}
 use Rattle.plan_program.specs.PlanPrograms.{plan_program}
 use Rattle.load_rounds.specs.Sessions.{SessionOf, state_of, restarted}
-use Rattle.load_rounds.specs.SharedRounds.{ReportOf, together}
+use Rattle.load_rounds.specs.SharedRounds.{RequestOf as ExecutedOf, ReportOf, together}
+use Rattle.load_rounds.specs.declared.limits.Limits.{Limits}
 use Rattle.request_line.specs.Requests.{RequestOf}
 use Rattle.server_lines.specs.Answering.{at_memory}
 use Rattle.server_lines.specs.declared.fault.LineFault.{LineFault}
 use Rattle.server_lines.specs.declared.fault.LineFault.TheVariants as fault
-use Rattle.server.specs.Clients.{ClientOf, client_of, begun}
+use Rattle.server.specs.Clients.{ClientOf, IsSameClient, client_of, begun}
 use Rattle.server.specs.Answers as server
 use Rattle.server.specs.Arrays as server_arrays
 use Rattle.server.specs.Lines as server_lines
+use Rattle.server.specs.Overruns.{AreGiven, answered, overrun}
 use Rattle.server.specs.Plans.{requests_within}
 use Rattle.server.proofs.Loaders.{rounds-made, stops-made}
-use Rattle.world_answers.specs.Answers.{may_tell, AnswersRequest, faulty, planned}
+use Rattle.world_answers.specs.Answers.{may_tell, IsGivenAlone, answered_alone, overrun_alone, AnswersRequest, faulty, planned}
 use Rattle.world_answers.specs.Arrays.{AnswersTogether, AnswersArray}
 use Rattle.world_answers.specs.Lines.{IsAnswer, no_request, request, several, IsClientOf, AnswersLine}
-use Rattle.world_answers.specs.Services.{ServiceOf, server_in}
+use Rattle.world_answers.specs.Services.{ServiceOf, server_in, limits_in}
 use Rattle.world_answers.specs.Sessions.{IsOver}
-use Rattle.world_answers.proofs.Direct.{answer-direct}
 use Rattle.world_answers.proofs.Restarting.{over-kept}
-use Rattle.world_answers.proofs.Together.{direct-each}
+use Rattle.world_answers.proofs.Together.{answer-direct, direct-each}
 use Rattle.world_answers.proofs.Values.{places-direct}
 
 module _ (s : ServiceOf) (old new : SessionOf SourceOf) (over : IsOver s.world old) where
   abbrev c : ClientOf SourceOf
-  c = client_of (server_in s) s.most old
+  c = client_of (server_in s) s.most (limits_in s) old
 
   same-over : new ≡ old → IsOver s.world (restarted new)
   same-over same = over-kept s.world old new over (ap (λ (x : SessionOf SourceOf). map as_made x.loaders) same)
@@ -37,30 +38,38 @@ module _ (s : ServiceOf) (old new : SessionOf SourceOf) (over : IsOver s.world o
   request-direct : (r : RequestOf) (report : ReportOf) → server.AnswersRequest may_tell c r report new → AnswersRequest s r report.text
   request-direct r report (server.refused {text = text} h e same) = faulty h.faulty (ap (λ (t : ReportOf). t.text) e ∙ h.report)
   request-direct r report (server.planned {plan = plan} h a) =
-      planned h (answer-direct s (state_of new) plan report.text report.rounds (record { valid = a.valid; begun = old; over = over; headline = a.headline }))
+      planned h (answer-direct s (state_of new) plan report.text report.rounds (record { valid = a.valid; begun = old; over = over; given = answered_alone a.headline a.within }))
+  request-direct r report (server.overrun {plan = plan} {o = o} h valid a same) =
+      let given : IsGivenAlone s plan (state_of old) (state_of new) report.text report.rounds = overrun_alone {o = o} a (ap (λ (t : ReportOf). t.text) same) (ap (λ (t : ReportOf). t.rounds) same) in
+      planned h (answer-direct s (state_of new) plan report.text report.rounds (record { valid = valid; begun = old; over = over; given = given }))
 
   request-over : (r : RequestOf) (report : ReportOf) → server.AnswersRequest may_tell c r report new → IsOver s.world (restarted new)
   request-over r report (server.refused h e same) = same-over same
   request-over r report (server.planned {plan = plan} h a) =
       over-kept s.world old new over (rounds-made may_tell (state_of old) (state_of new) (plan_program plan) a.headline.log a.headline.made)
+  request-over r report (server.overrun {plan = plan} h valid a same) =
+      over-kept s.world old new over (rounds-made may_tell (state_of old) (state_of new) (together (requests_within s.most (plan ∷ []))) a.log a.made)
 
   -- ---- an array
 
   array-direct : (values : List (Option RequestOf)) (report : ReportOf) → server_arrays.AnswersArray may_tell c values report new → AnswersArray s values report.text
   array-direct values report a =
-      let shared : AnswersTogether s (server_arrays.plans_in a.places) (state_of new) (server_arrays.reports_in a.places) = record { begun = old; over = over; headline = a.headline } in
+      let shared : AnswersTogether s (server_arrays.plans_in a.places) (state_of new) (server_arrays.reports_in a.places) = record { begun = old; over = over; given = a.given } in
       record {
         places = a.places;
-        each = places-direct s values a.places a.each (direct-each s (state_of new) (server_arrays.plans_in a.places) (server_arrays.reports_in a.places) shared);
+        each = places-direct s (server_arrays.plans_in a.places) values a.places a.each (direct-each s (state_of new) (server_arrays.plans_in a.places) (server_arrays.reports_in a.places) shared);
         report = a.text;
         valid = a.valid;
         after = state_of new;
         together = shared;
       }
 
+  given-over : (rs : List ExecutedOf) (reports : List ReportOf) → AreGiven may_tell (limits_in s) (state_of old) (state_of new) rs reports → IsOver s.world (restarted new)
+  given-over rs reports (answered h within) = over-kept s.world old new over (rounds-made may_tell (state_of old) (state_of new) (together rs) h.log h.made)
+  given-over rs reports (overrun h same) = over-kept s.world old new over (rounds-made may_tell (state_of old) (state_of new) (together rs) h.log h.made)
+
   array-over : (values : List (Option RequestOf)) (report : ReportOf) → server_arrays.AnswersArray may_tell c values report new → IsOver s.world (restarted new)
-  array-over values report a =
-      over-kept s.world old new over (rounds-made may_tell (state_of old) (state_of new) (together (requests_within s.most (server_arrays.plans_in a.places))) a.headline.log a.headline.made)
+  array-over values report a = given-over (requests_within s.most (server_arrays.plans_in a.places)) (server_arrays.reports_in a.places) a.given
 
   -- ---- a text
 
@@ -94,11 +103,14 @@ module _ (s : ServiceOf) (old new : SessionOf SourceOf) (over : IsOver s.world o
 
 module _ (s : ServiceOf) where
   -- the client, by the service
-  client-is : (c : ClientOf SourceOf) → IsClientOf s c → begun c ≡ client_of (server_in s) s.most (restarted c.session)
-  client-is c is = ap (λ x. client_of x c.most (restarted c.session)) is.server ∙ ap (λ m. client_of (server_in s) m (restarted c.session)) is.most
+  client-is : (c : ClientOf SourceOf) → IsClientOf s c → begun c ≡ client_of (server_in s) s.most (limits_in s) (restarted c.session)
+  client-is c is =
+      ap (λ x. client_of x c.most c.limits (restarted c.session)) is.server
+      ∙ ap (λ m. client_of (server_in s) m c.limits (restarted c.session)) is.most
+      ∙ ap (λ (l : Limits). client_of (server_in s) s.most l (restarted c.session)) is.limits
 
-  later-is : (c later : ClientOf SourceOf) → IsClientOf s c → later.server ≡ c.server → later.most ≡ c.most → IsOver s.world (restarted later.session) → IsClientOf s later
-  later-is c later is server most over = record { server = server ∙ is.server; most = most ∙ is.most; over = over }
+  later-is : (c later : ClientOf SourceOf) → IsClientOf s c → IsSameClient c later → IsOver s.world (restarted later.session) → IsClientOf s later
+  later-is c later is same over = record { server = same.server ∙ is.server; most = same.most ∙ is.most; limits = same.limits ∙ is.limits; over = over }
 
   pub line-direct : (c : ClientOf SourceOf) (line text : List ℕ) (later : ClientOf SourceOf) → IsClientOf s c → server_lines.ServesLine may_tell c line text later → AnswersLine s c line text later
   line-direct c line text later is h = record {
@@ -109,7 +121,7 @@ module _ (s : ServiceOf) where
 
   pub line-client : (c : ClientOf SourceOf) (line text : List ℕ) (later : ClientOf SourceOf) → IsClientOf s c → server_lines.ServesLine may_tell c line text later → IsClientOf s later
   line-client c line text later is h =
-      later-is c later is h.same.server h.same.most (text-over s (restarted c.session) later.session is.over line (record { text = text; rounds = h.rounds })
+      later-is c later is h.same (text-over s (restarted c.session) later.session is.over line (record { text = text; rounds = h.rounds })
       (subst (λ (x : ClientOf SourceOf). server_lines.AnswersText may_tell x line (record { text = text; rounds = h.rounds }) later.session) (client-is c is) h.answers))
 
   stops-over : (c : ClientOf SourceOf) (line : List ℕ) (later : ClientOf SourceOf) → IsClientOf s c → (later.session ≡ c.session) ⊎ server_lines.StopsText may_tell (begun c) line later.session → IsOver s.world (restarted later.session)
@@ -118,7 +130,7 @@ module _ (s : ServiceOf) where
       stops-text s (restarted c.session) later.session is.over line (subst (λ (x : ClientOf SourceOf). server_lines.StopsText may_tell x line later.session) (client-is c is) stops)
 
   pub stops-client : (c : ClientOf SourceOf) (line : List ℕ) (later : ClientOf SourceOf) → IsClientOf s c → server_lines.StopsLine may_tell c line later → IsClientOf s later
-  stops-client c line later is h = later-is c later is h.same.server h.same.most (stops-over c line later is h.stops)
+  stops-client c line later is h = later-is c later is h.same (stops-over c line later is h.stops)
 
   -- only want of memory keeps a line from its answer
   pub stopped-client : (e : LineFault) (c : ClientOf SourceOf) (line : List ℕ) (later : ClientOf SourceOf) → IsClientOf s c → at_memory (server_lines.StopsLine may_tell) e c line later → IsClientOf s later

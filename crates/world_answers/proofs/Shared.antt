@@ -1,6 +1,7 @@
--- Plans are answered together over a session of their world that is new: rounds can be made until nothing is missing for any of them.
-use Rattle.std.proofs.Common.{◌≡◌, ◌+◌, ◌⊎◌, ◌≤◌, ◌<◌, ◌∙◌, ℕ, zero, suc, List, [], ◌∷◌, All, length, inl, inr, sym, ap, subst, refl, arith}
-use Rattle.std.proofs.lemmas.List.Elements.{All-head, All-tail}
+-- Plans are answered together over a session of their world that is new: rounds can be made until nothing is missing for any of them, or
+-- until they are too much work. So is a plan alone.
+use Rattle.std.proofs.Common.{◌≡◌, ◌+◌, ◌⊎◌, ◌≤◌, ◌<◌, ◌∙◌, ℕ, zero, suc, List, [], ◌∷◌, All, map, length, inl, inr, sym, ap, subst, refl, arith}
+use Rattle.std.proofs.lemmas.List.Elements.{All-nil, All-cons, All-head, All-tail}
 use Rattle.load_memory.specs.Replies.{ReplyOf}
 use Rattle.csv_source.specs.Tables.{SourceOf}
 use Rattle.execution.specs.Loads.{Load, Memory, read}
@@ -12,20 +13,28 @@ use Rattle.execution.proofs.FewestLaws.{all-rounds}
 use Rattle.execution.proofs.OnceLaws.{asked-once, answered-in}
 use Rattle.execution.proofs.Same.{one-either}
 use Rattle.execution.proofs.SharedLaws.{below-front, own-chain, own-sparing}
+use Rattle.gq_check.specs.Planned.{IsPlan}
 use Rattle.gq_check.specs.Plans.{PlanOf}
 use Rattle.plan_program.specs.PlanPrograms.{plan_program}
 use Rattle.execution.specs.Executes.{IsTextOf}
+use Rattle.load_rounds.specs.Limits.{work_in, IsWithin, IsOver as IsMore, AreAskedInTime}
 use Rattle.load_rounds.specs.Sessions.{StateOf, state_of, rules_of, session_modes}
-use Rattle.load_rounds.specs.SharedRounds.{RequestOf, ReportOf, requests, items_from, together, greatest, AreShared}
+use Rattle.load_rounds.specs.SharedRounds.{RequestOf, ReportOf, request_of, requests, items_from, together, greatest, AreShared, SharedHeadline}
+use Rattle.load_rounds.specs.declared.limits.Excess.TheVariants.{Work}
+use Rattle.load_rounds.specs.declared.limits.Overrun.{Overrun}
+use Rattle.load_rounds.proofs.Requests.{headline-one}
 use Rattle.load_rounds.proofs.Stepping.{made-recorded}
+use Rattle.server.specs.Overruns.{AreGiven, answered, overrun, overrun_report, overrun_text}
+use Rattle.server.proofs.Values.{given-many}
 use Rattle.gq_resolve.specs.Within.{text_within}
 use Rattle.world.specs.Worlds.{WorldOf, HasSources}
-use Rattle.world_answers.specs.Answers.{may_tell}
+use Rattle.world_answers.specs.Answers.{may_tell, IsGivenAlone, answered_alone, overrun_alone, IsAnsweredAnew}
 use Rattle.world_answers.specs.Arrays.{AnswersTogether}
-use Rattle.world_answers.specs.Services.{ServiceOf}
+use Rattle.world_answers.specs.Services.{ServiceOf, limits_in}
 use Rattle.world_answers.specs.Sessions.{session_over}
 use Rattle.world_answers.proofs.Restarting.{over-new}
 use Rattle.world_answers.proofs.Answered.{limited, over-loaders, Done, rounds-end, text_over, text-reported, plan-within}
+use Rattle.world_answers.proofs.Together.{answer-direct}
 
 own-most : (rules : List RuleOf) (p : Program) (M : Memory) (log : List (List ReplyOf)) → own_rounds rules p M log ≤ length log
 own-most rules p M [] = omega arith
@@ -65,8 +74,8 @@ module _ (s : ServiceOf) (has : HasSources s.world) where
     within : HasLoaders (length (rules_of old)) whole
     within = over-loaders w has whole (within-all 0 all bound)
 
-    abbrev end : Done w has whole within
-    end = rounds-end w has whole within
+    abbrev end : Done w has s.work (asked_of all) within
+    end = rounds-end w has s.work (asked_of all) within
 
     abbrev log : List (List ReplyOf)
     log = end.is.log
@@ -80,21 +89,6 @@ module _ (s : ServiceOf) (has : HasSources s.world) where
 
     same : session_modes end.last ≡ session_modes old
     same = ap modes_of end.is.rules
-
-    -- each has its answer, in its own rounds
-    each-shared : (n : ℕ) (plans : List PlanOf) → ((p : Program) → IsBelow p (items_from n (asked_of plans)) → IsBelow p (items_from 0 (asked_of all))) → AreShared old end.last log (asked_of plans) (all_reports plans)
-    each-shared n [] among = tt
-    each-shared n (p ∷ ps) among =
-        let here : IsBelow (plan_program p) (items_from 0 (asked_of all)) = among (plan_program p) (inl refl) in
-        let none : front (session_modes end.last) (plan_program p) end.last.memory ≡ [] = below-front (session_modes end.last) ListOf (items_from 0 (asked_of all)) (plan_program p) end.last.memory here end.none in (
-          record {
-            answered = subst (λ ms. IsTextOf text_of (plan_program p) (read ms end.last.memory) (text_over text_of (plan_program p) end.last)) same (text-reported text_of (plan_program p) end.last none);
-            counted = refl;
-            chained = own-chain (may_at may_tell old.loaders) (rules_of old) ListOf (items_from 0 (asked_of all)) (plan_program p) (limited w has) within here first log end.last.memory end.is.made.rounds;
-            fewest = λ Ns run. own-sparing (may_at may_tell old.loaders) (rules_of old) ListOf (items_from 0 (asked_of all)) (plan_program p) (limited w has) within here first log end.last.memory Ns end.is.made.rounds run;
-          },
-          each-shared (suc n) ps (λ q b. among q (inr b)),
-        )
 
     -- the answer with the most rounds has all of them
     greatest-most : (plans : List PlanOf) → greatest (all_reports plans) ≤ length log
@@ -112,22 +106,85 @@ module _ (s : ServiceOf) (has : HasSources s.world) where
         let one = all-rounds (may_at may_tell old.loaders) (rules_of old) ListOf (items_from 0 (asked_of all)) first log end.last.memory end.is.made.rounds (omega (arith, e)) in
         omega (arith, greatest-most all, one.2, greatest-has 0 one.0 all one.1)
 
+    -- ---- nothing is missing any more
+
+    module _ (none : front (session_modes end.last) whole end.last.memory ≡ []) where
+      -- each has its answer, in its own rounds
+      each-shared : (n : ℕ) (plans : List PlanOf) → ((p : Program) → IsBelow p (items_from n (asked_of plans)) → IsBelow p (items_from 0 (asked_of all))) → AreShared old end.last log (asked_of plans) (all_reports plans)
+      each-shared n [] among = tt
+      each-shared n (p ∷ ps) among =
+          let here : IsBelow (plan_program p) (items_from 0 (asked_of all)) = among (plan_program p) (inl refl) in
+          let own : front (session_modes end.last) (plan_program p) end.last.memory ≡ [] = below-front (session_modes end.last) ListOf (items_from 0 (asked_of all)) (plan_program p) end.last.memory here none in (
+            record {
+              answered = subst (λ ms. IsTextOf text_of (plan_program p) (read ms end.last.memory) (text_over text_of (plan_program p) end.last)) same (text-reported text_of (plan_program p) end.last own);
+              counted = refl;
+              chained = own-chain (may_at may_tell old.loaders) (rules_of old) ListOf (items_from 0 (asked_of all)) (plan_program p) (limited w has) within here first log end.last.memory end.is.made.rounds;
+              fewest = λ Ns run. own-sparing (may_at may_tell old.loaders) (rules_of old) ListOf (items_from 0 (asked_of all)) (plan_program p) (limited w has) within here first log end.last.memory Ns end.is.made.rounds run;
+            },
+            each-shared (suc n) ps (λ q b. among q (inr b)),
+          )
+
+      given-answers : IsWithin s.work (work_in end.last (asked_of all)) → AreGiven may_tell (limits_in s) old end.last (asked_of all) (all_reports all)
+      given-answers few = answered (record {
+        log = log;
+        made = end.is.made;
+        recorded = made-recorded may_tell old end.last whole log end.is.made;
+        complete = ap (λ ms. front ms whole end.last.memory) (sym same) ∙ none;
+        answers = each-shared 0 all (λ p b. b);
+        pairs = λ pair there. answered-in (may_at may_tell old.loaders) (rules_of old) whole first log end.last.memory pair.loader pair.key pair.outcome end.is.made.rounds there;
+        once = asked-once (may_at may_tell old.loaders) (rules_of old) whole (limited w has) first log end.last.memory end.is.made.rounds;
+        longest = longest (length log) refl;
+      }) (record { work = few; rounds = tt })
+
+    -- ---- they are too much work
+
+    abbrev refusal : Overrun
+    refusal = record { excess = Work; rounds = end.rounds }
+
+    given-refusals : IsMore s.work (work_in end.last (asked_of all)) → AreGiven may_tell (limits_in s) old end.last (asked_of all) (map (λ (r : RequestOf). overrun_report refusal) (asked_of all))
+    given-refusals more = overrun {o = refusal} (record {
+      log = log;
+      made = end.is.made;
+      recorded = made-recorded may_tell old end.last whole log end.is.made;
+      counted = sym end.is.counted;
+      over = more;
+      in_time = subst (λ (n : ℕ). AreAskedInTime may_tell old end.last (limits_in s) (asked_of all) n) (sym end.is.counted) end.in_time;
+    }) refl
+
+    given-together : (reports : List ReportOf) → AreGiven may_tell (limits_in s) old end.last (asked_of all) reports → AnswersTogether s all end.last reports
+    given-together reports given = record { begun = session_over w; over = over-new w has.each; given = given }
+
+    of-end : (IsWithin s.work (work_in end.last (asked_of all)) × (front (session_modes end.last) whole end.last.memory ≡ [])) ⊎ IsMore s.work (work_in end.last (asked_of all)) → (reports : List ReportOf) × AnswersTogether s all end.last reports
+    of-end (inl done) = (all_reports all, given-together (all_reports all) (given-answers done.1 done.0))
+    of-end (inr more) = (map (λ (r : RequestOf). overrun_report refusal) (asked_of all), given-together (map (λ (r : RequestOf). overrun_report refusal) (asked_of all)) (given-refusals more))
+
     pub plans-answered : (after : StateOf SourceOf) × (reports : List ReportOf) × AnswersTogether s all after reports
-    plans-answered = (
-      end.last,
-      all_reports all,
-      record {
-        begun = session_over w;
-        over = over-new w has.each;
-        headline = record {
-          log = log;
-          made = end.is.made;
-          recorded = made-recorded may_tell old end.last whole log end.is.made;
-          complete = ap (λ ms. front ms whole end.last.memory) (sym same) ∙ end.none;
-          answers = each-shared 0 all (λ p b. b);
-          pairs = λ pair there. answered-in (may_at may_tell old.loaders) (rules_of old) whole first log end.last.memory pair.loader pair.key pair.outcome end.is.made.rounds there;
-          once = asked-once (may_at may_tell old.loaders) (rules_of old) whole (limited w has) first log end.last.memory end.is.made.rounds;
-          longest = longest (length log) refl;
-        };
-      },
-    )
+    plans-answered = let told = of-end end.ended in (end.last, told.0, told.1)
+
+-- ---- a plan alone
+
+-- one report of one plan
+only-report : (reports : List ReportOf) → 1 ≡ length reports → (t : ReportOf) × (reports ≡ t ∷ [])
+only-report [] e = absurd (omega (arith, e))
+only-report (t ∷ []) e = (t, refl)
+only-report (t ∷ u ∷ us) e = absurd (omega (arith, e))
+
+module _ (s : ServiceOf) (plan : PlanOf) where
+  abbrev asked : RequestOf
+  asked = request_of (plan_program plan) (text_within s.most)
+
+  -- what it is given as one of an array of one
+  given-alone : (begun after : StateOf SourceOf) (reports : List ReportOf) → AreGiven may_tell (limits_in s) begun after (asked ∷ []) reports → (text : List ℕ) × (rounds : ℕ) × IsGivenAlone s plan begun after text rounds
+  given-alone begun after reports (answered h within) =
+      let only = only-report reports (given-many may_tell (limits_in s) begun after s.most (plan ∷ []) reports (answered h within)) in
+      let t : ReportOf = only.0 in
+      let one : SharedHeadline may_tell begun after (asked ∷ []) (t ∷ []) = subst (λ (ts : List ReportOf). SharedHeadline may_tell begun after (asked ∷ []) ts) only.1 h in
+      (t.text, t.rounds, answered_alone (headline-one may_tell begun after asked t one) (record { work = within.work; rounds = tt }))
+  given-alone begun after reports (overrun {o = o} h same) = (overrun_text o.excess, o.rounds, overrun_alone {o = o} h refl refl)
+
+  pub plan-answered : (has : HasSources s.world) → plan.bindings ≡ s.world.bindings → IsPlan plan → (text : List ℕ) × IsAnsweredAnew s plan text
+  plan-answered has bound valid =
+      let of-world : PlanOf → Type 0 = λ p. p.bindings ≡ s.world.bindings in
+      let shared = plans-answered s has (plan ∷ []) (All-cons of-world plan [] bound (All-nil of-world)) in
+      let given = given-alone (state_of shared.2.begun) shared.0 shared.1 shared.2.given in
+      (given.0, answer-direct s shared.0 plan given.0 given.1 (record { valid = valid; begun = shared.2.begun; over = shared.2.over; given = given.2 }))

@@ -10,7 +10,7 @@ use Rattle.gq_check.specs.Verdict.{FaultOf, IsVerdict, IsValid}
 use Rattle.world.specs.Worlds.{WorldOf, HasSources}
 use Rattle.world_answers.specs.Services.{ServiceOf}
 use Rattle.world_answers.specs.Requests.{IsRefusedOrAnswered, invalid, unprepared, answered}
-use Rattle.world_answers.proofs.Answered.{plan-answered}
+use Rattle.world_answers.proofs.Shared.{plan-answered}
 use Rattle.world_answers.proofs.Verdicts.{verdict-there}
 
 module _ (s : ServiceOf) (has : HasSources s.world) (d : Document) (name : Option (List ℕ)) (given : Data) where

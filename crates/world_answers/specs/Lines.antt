@@ -12,7 +12,7 @@ use Rattle.server.specs.Clients.{ClientOf}
 use Rattle.server.specs.Lines.{ServesLine, StopsLine, serving}
 use Rattle.world_answers.specs.Answers.{may_tell, AnswersRequest}
 use Rattle.world_answers.specs.Arrays.{AnswersArray}
-use Rattle.world_answers.specs.Services.{ServiceOf, server_in}
+use Rattle.world_answers.specs.Services.{ServiceOf, server_in, limits_in}
 use Rattle.world_answers.specs.Sessions.{IsOver}
 
 -- the text answers a line by a service
@@ -24,10 +24,11 @@ pub data IsAnswer (s : ServiceOf) (line text : List ℕ) : Type 0 where
 
 -- ---- the client of a run
 
--- The client is one of the service: its session, once it starts again, is over the world's sources, with the world's limit.
+-- The client is one of the service, with its limits: its session, once it starts again, is over the world's sources, with the world's limit.
 pub record IsClientOf (s : ServiceOf) (c : ClientOf SourceOf) : Type 0 where
   pub server : c.server ≡ server_in s
   pub most : c.most ≡ s.most
+  pub limits : c.limits ≡ limits_in s
   pub over : IsOver s.world (restarted c.session)
 
 -- A line is answered by this text in the client's session, from which it starts again: the loaders were asked exactly the batches of a

@@ -51,8 +51,9 @@ pub fn answers_are_there()
         → AnswersKeyByKey item rules p M → HasLog item rules p M }
 {}
 
-/// Each plan over the bindings of a world has an answer, whatever the limit: a text that is that of direct execution, and a session
-/// of the world, new at first, in which it was answered with the headline. So only being out of memory keeps a plan from its answer.
+/// Each plan over the bindings of a world has an answer, whatever the limits: a text that is that of direct execution, and a session
+/// of the world, new at first, in which it was answered with the headline, or refused as soon as what is known was over the limit on
+/// work. So only being out of memory keeps a plan from its answer.
 pub fn plans_are_answered()
     ensures { (s : ServiceOf) (plan : PlanOf) → HasSources s.world → plan.bindings
         ≡ s.world.bindings → IsPlan plan → (text : List ℕ) × IsAnsweredAnew s plan text }
@@ -67,8 +68,8 @@ pub fn requests_are_answered()
 
 /// Each line has an answer by a service, and so exactly one (`one_answer`): it is no request, or its query is no
 /// document, or one to which `requests_are_answered` applies, and a string can hold every name that a refusal tells. An array has the
-/// refusals of its values, and all of its plans can be answered in one session. Of a line that no memory holds, one of 2^63 bytes or
-/// more, this isn't said.
+/// refusals of its values, and all of its plans can be answered in one session, or refused there. Of a line that no memory holds, one of
+/// 2^63 bytes or more, this isn't said.
 pub fn lines_are_answered()
     ensures { (s : ServiceOf) (line : List ℕ) → HasSources s.world → length line < 2 ^ 63
         → (text : List ℕ) × IsAnswer s line text }

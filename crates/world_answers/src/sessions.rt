@@ -54,7 +54,7 @@ fn loader_of<'w>(
 
 impl<'w> Service<'w> {
     /// A new client of the service: the loaders of the bindings, in order, over the world's sources and with its limit; nothing is read or
-    /// indexed anew.
+    /// indexed anew. It has the limits of the service, and none on its rounds.
     ///
     /// # Errors
     ///
@@ -67,6 +67,7 @@ impl<'w> Service<'w> {
         let server = self.world.server().clone()?;
         let mut client = ClientSession::new(alloc, server, session);
         client.limit_answers(self.max_answer);
+        client.limit_work(self.max_work);
         Ok(client)
     }
 }

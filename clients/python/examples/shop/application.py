@@ -24,8 +24,9 @@ if TYPE_CHECKING:
     from _typeshed.wsgi import StartResponse, WSGIApplication, WSGIEnvironment
 
 ROUNDS = "application/vnd.rudzkvano.rounds+json"
-# The longest answer and the longest body of a request, in bytes. The schema has cycles, so a short query can ask for any number of rows.
-MOST_BYTES = 4_194_304
+# The longest answer and the longest body of a request, in bytes, and the most work of a request, in positions of its answer. The schema has cycles,
+# so a short query can ask for any number of rows.
+MOST_BYTES, MOST_WORK = 4_194_304, 1_000_000
 
 HERE = Path(__file__).resolve().parent
 SCHEMA, BINDINGS = HERE / "schema.graphql", HERE / "bindings.txt"
@@ -58,7 +59,7 @@ class Recorder:
 def application(database: Database) -> WSGIApplication:
     server = Server(SCHEMA.read_text("utf-8"), BINDINGS.read_text("utf-8"))
     files = {path: (file.read_bytes(), media_type) for path, (file, media_type) in FILES.items()}
-    limits: Any = {"max_batch": MOST_KEYS, "max_answer": MOST_BYTES, "max_body": MOST_BYTES}
+    limits: Any = {"max_batch": MOST_KEYS, "max_answer": MOST_BYTES, "max_work": MOST_WORK, "max_body": MOST_BYTES}
     plain = wsgi.application(server, batch_functions(database, server.loaders), **limits)
 
     def serve_rounds(environ: WSGIEnvironment, start_response: StartResponse) -> Iterable[bytes]:

@@ -88,7 +88,9 @@ FAULTS = [
     ("{\n  order(id: 7) {\n    colour\n  }\n}", {"message": "5.3.1 Field Selections: colour", "locations": [{"line": 3, "column": 5}]}),
     ("{order(id: 7) {id}", {"message": "unexpected end", "locations": [{"line": 1, "column": 19}]}),
     ("mutation {a}", {"message": "not served: mutation", "locations": [{"line": 1, "column": 1}]}),
-    ("{products {lines {order {customer {orders {id date status}}}}}}", {"message": "answer too long"}),
+    ("{products {lines {order {customer {name email city}}}}}", {"message": "answer too long"}),
+    # 1,257,714 positions
+    ("{products {lines {order {customer {orders {id date status}}}}}}", {"message": "too much work"}),
 ]
 
 

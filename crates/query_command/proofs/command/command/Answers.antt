@@ -19,7 +19,8 @@ returns c =
     let third = c.in_ok-arg-3.ensures.shape c.workers.ensures.local ∙ ap₂ with_rule second c.workers.ensures.rule in
     let fourth = c.in_ok-arg-4.ensures.shape c.max_batch.ensures.local ∙ ap₂ with_rule third c.max_batch.ensures.rule in
     let fifth = c.in_ok-arg-5.ensures.shape c.max_answer.ensures.local ∙ ap₂ with_rule fourth c.max_answer.ensures.rule in
-    let sixth = c.in_ok-arg-6.ensures.shape c.explain.ensures.local ∙ ap₂ with_rule fifth c.explain.ensures.rule in
-    let seventh = c.in_ok-arg-7.ensures.shape c.trace.ensures.local ∙ ap₂ with_rule sixth c.trace.ensures.rule in
-    let eighth = c.in_ok-arg-8.ensures.shape c.requests.ensures.local ∙ ap₂ with_rule seventh c.requests.ensures.rule in
-    IfOk-weaker c.arg-9.result _ _ (λ r added. added.shape c.tables.ensures.local ∙ ap₂ with_rule eighth c.tables.ensures.rule) c.arg-9.ensures
+    let sixth = c.in_ok-arg-6.ensures.shape c.max_work.ensures.local ∙ ap₂ with_rule fifth c.max_work.ensures.rule in
+    let seventh = c.in_ok-arg-7.ensures.shape c.explain.ensures.local ∙ ap₂ with_rule sixth c.explain.ensures.rule in
+    let eighth = c.in_ok-arg-8.ensures.shape c.trace.ensures.local ∙ ap₂ with_rule seventh c.trace.ensures.rule in
+    let ninth = c.in_ok-arg-9.ensures.shape c.requests.ensures.local ∙ ap₂ with_rule eighth c.requests.ensures.rule in
+    IfOk-weaker c.arg-10.result _ _ (λ r added. added.shape c.tables.ensures.local ∙ ap₂ with_rule ninth c.tables.ensures.rule) c.arg-10.ensures

@@ -7,7 +7,7 @@ use Rattle.query_run.proofs.running.run_files.Goals as goal
 
 pub returns-in-Ok-open_requests-clause-run : goal.returns-in-Ok-open_requests-clause-run
 returns-in-Ok-open_requests-clause-run g c =
-    let served = rw c.max_answer.ensures at c.serve_requests.ensures.run in
+    let served = rw (c.limit_of-max_answer.ensures, c.limit_of-max_work.ensures) at c.serve_requests.ensures.run in
     inl (record {
       world = c.in-Ok.world;
       from = c.in-Ok.ensures.ok;

@@ -1,4 +1,4 @@
-use Rattle.world_answers.proofs.Answered.{plan-answered}
+use Rattle.world_answers.proofs.Shared.{plan-answered}
 use Rattle.world_answers.proofs.existence.plans_are_answered.Goals as goal
 
 pub returns : goal.returns

@@ -12,7 +12,11 @@ invariant_of-self c =
     let own = c.self.inside in let e = c.reply.ensures in let old = pending_in own.hand.far in let new = pending_in c.reply.new.self.far in
     holds-loading own.hand c.reply.new.self own.orders c.taken.new.orders
     (goes-on old new c.args.number c.args.reply own.hand.client.session.loaders c.reply.result e.taken e.underway e.stopped)
-    (record { server = ap (λ (x : ClientOf HandedIn). x.server) e.client; most = ap (λ (x : ClientOf HandedIn). x.most) e.client })
+    (record {
+      server = ap (λ (x : ClientOf HandedIn). x.server) e.client;
+      most = ap (λ (x : ClientOf HandedIn). x.most) e.client;
+      limits = ap (λ (x : ClientOf HandedIn). x.limits) e.client;
+    })
     (c.taken.ensures.orders ∙ orders-are old new c.args.number c.args.reply own.hand c.reply.new.self (IsOver c.reply.new.self.far) c.reply.result own.orders c.self.invariant.orders_are e.taken e.refused
     (λ is. ap (λ (h : LoadByHandOf HandedIn). pending_in h.far) is) (λ over. ap pending_in over))
     c.self.invariant

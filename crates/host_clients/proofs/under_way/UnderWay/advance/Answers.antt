@@ -8,8 +8,9 @@ use Rattle.host_clients.proofs.under_way.UnderWay.advance.Goals as goal
 
 pub invariant_of-answered : goal.invariant_of-answered
 invariant_of-answered c =
-    let own = c.self.inside in let did = rw c.in-Ok-Done.field-0-is at c.in-Ok-Done.ensures.did in
-    answer-of own.queries.value own.hand c.advance.new.self own.note.asked own.orders c.in-Ok-Done.answer c.self.invariant (rw did at c.advance.ensures.answered)
+    let own = c.self.inside in let e = c.advance.ensures in let did = rw c.in-Ok-Done.field-0-is at c.in-Ok-Done.ensures.did in
+    answer-of own.queries.value own.hand c.advance.new.self own.note.asked own.orders c.in-Ok-Done.answer c.self.invariant (rw did at e.answered) e.same c.into_client.result
+    c.into_client.ensures.client
 
 pub invariant_of-under_way : goal.invariant_of-under_way
 invariant_of-under_way c =

@@ -7,7 +7,7 @@ use Rattle.load_rounds.specs.Sessions.{StateOf, state_of, rules_of}
 use Rattle.load_rounds.specs.Histories.{any_tell}
 use Rattle.load_rounds.specs.ByHand.{front_in}
 use Rattle.load_rounds.specs.Runs.{RunOf, program_of}
-use Rattle.load_rounds.proofs.Runs.{received-below}
+use Rattle.load_rounds.proofs.Runs.{received-below, asked-ran}
 use Rattle.load_rounds.proofs.Stages.{takes, loses, takes-holds, received-size}
 use Rattle.load_rounds.proofs.rounds.Rounds.take_owned.Goals as goal
 
@@ -24,6 +24,12 @@ returns-in_err-receive_owned-clause-run g c =
     let run : RunOf _ _ = record { parts = c.self.inside.executions; rounds = c.self.inside.rounds; stage = c.self.inside.stage } in
     let out = rw (← c.self.view_is) at c.requires.out.out in
     λ round. loses g.P.Execute.program g.P.Execute.text_of g.P.Execute.loaders g.P.Execute.fits g.S.LocalSource.may_tell (state_of c.args.session.now) (state_of c.receive_owned.new.self) run c.args.self.now c.self.view_is c.in_err-receive_owned.ensures.kept out
+
+pub returns-clause-ran : goal.returns-clause-ran
+returns-clause-ran g c =
+    let s = state_of c.args.session.now in
+    let p = program_of g.P.Execute.program g.P.Execute.text_of c.args.self.now in
+    λ round asked. rw c.in_ok-receive_owned.ensures.received (asked-ran g.S.LocalSource.may_tell p s asked (map reply_of c.args.replies.items) c.receive_owned.ensures.limited round)
 
 pub returns-clause-holds : goal.returns-clause-holds
 returns-clause-holds g c =

@@ -1,7 +1,9 @@
-use Rattle.std.proofs.Common.{◌∙◌, length, sym, subst}
+use Rattle.std.proofs.Common.{◌∙◌, length, ap, sym, subst}
 use Rattle.load_rounds.specs.Sessions.{state_of}
 use Rattle.load_rounds.specs.SharedRounds.{requests, joint, SharedHeadline}
-use Rattle.load_rounds.specs.Limits.{AreAskedInTime, AreWithin}
+use Rattle.load_rounds.specs.Executions.{plans_in}
+use Rattle.load_rounds.specs.Limits.{AreAskedInTime, AreOver, AreWithin}
+use Rattle.load_rounds.specs.declared.limits.Overrun.{Overrun}
 use Rattle.load_rounds.proofs.Limiting.{refused, finished-within}
 use Rattle.load_rounds.proofs.Stages.{finished-all, forgot-stops, stopped-all, headline-stops}
 use Rattle.load_rounds.proofs.States.{on-err}
@@ -27,7 +29,8 @@ returns-in-Some-clause-answers g c =
     let begun = c.in_ok-rounds.ensures.begun in
     let ended = rw c.in-Some.is at c.in_ok-excess.ensures.ended in
     let in_time = subst (λ ps. AreAskedInTime g.S.LocalSource.may_tell old now c.args.limits (requests X.program X.text_of ps) c.run_within.new.self.rounds) begun.same (c.in_ok-excess.ensures.in_time old begun.is) in
-    refused X.program X.text_of g.S.LocalSource.may_tell old now c.args.limits c.args.plans.items c.run_within.new.self (c.run_within.ensures.plans ∙ begun.same) c.in-Some.excess ended.0 (c.run_within.ensures.run old begun.is) ended.1 in_time
+    let over = subst (λ e. AreOver c.args.limits (requests X.program X.text_of (plans_in c.run_within.new.self.parts)) now c.run_within.new.self.rounds e) (sym (ap (λ (o : Overrun). o.excess) c.overrun.ensures)) ended.1 in
+    refused X.program X.text_of g.S.LocalSource.may_tell old now c.args.limits c.args.plans.items c.run_within.new.self (c.run_within.ensures.plans ∙ begun.same) c.overrun.result (ap (λ (o : Overrun). o.rounds) c.overrun.ensures) ended.0 (c.run_within.ensures.run old begun.is) over in_time
 
 pub returns-in_err-into_answers-clause-stopped : goal.returns-in_err-into_answers-clause-stopped
 returns-in_err-into_answers-clause-stopped g c =

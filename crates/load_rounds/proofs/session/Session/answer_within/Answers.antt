@@ -2,7 +2,9 @@ use Rattle.std.proofs.Common.{◌≡◌, ◌∙◌, Some, None, [], ◌∷◌, a
 use Rattle.load_rounds.specs.Sessions.{state_of}
 use Rattle.load_rounds.specs.Headline.{Headline}
 use Rattle.load_rounds.specs.SharedRounds.{ReportOf, request_of, requests, report_of}
-use Rattle.load_rounds.specs.Limits.{AreAskedInTime, AreWithin}
+use Rattle.load_rounds.specs.Executions.{plans_in}
+use Rattle.load_rounds.specs.Limits.{AreAskedInTime, AreOver, AreWithin}
+use Rattle.load_rounds.specs.declared.limits.Overrun.{Overrun}
 use Rattle.load_rounds.proofs.KeyByKey.{some-same}
 use Rattle.load_rounds.proofs.Limiting.{refused, within-same}
 use Rattle.load_rounds.proofs.Stages.{answered-one, stopped-one}
@@ -26,7 +28,8 @@ returns-in-Some-clause-answer g c =
     let same = c.run_within.ensures.plans ∙ begun.same in
     let ended = rw c.in-Some.is at c.in_ok-excess.ensures.ended in
     let in_time = subst (λ ps. AreAskedInTime g.S.LocalSource.may_tell old now c.args.limits (requests X.program X.text_of ps) c.run_within.new.self.rounds) begun.same (c.in_ok-excess.ensures.in_time old begun.is) in
-    refused X.program X.text_of g.S.LocalSource.may_tell old now c.args.limits (plan ∷ []) c.run_within.new.self same c.in-Some.excess ended.0 (c.run_within.ensures.run old begun.is) ended.1 in_time
+    let over = subst (λ e. AreOver c.args.limits (requests X.program X.text_of (plans_in c.run_within.new.self.parts)) now c.run_within.new.self.rounds e) (sym (ap (λ (o : Overrun). o.excess) c.overrun.ensures)) ended.1 in
+    refused X.program X.text_of g.S.LocalSource.may_tell old now c.args.limits (plan ∷ []) c.run_within.new.self same c.overrun.result (ap (λ (o : Overrun). o.rounds) c.overrun.ensures) ended.0 (c.run_within.ensures.run old begun.is) over in_time
 
 pub unreachable-requires : goal.unreachable-requires
 unreachable-requires g c =

@@ -3,10 +3,12 @@ use Rattle.execution.specs.Sessions.{Forgot}
 use Rattle.load_rounds.specs.Sessions.{state_of, after_step}
 use Rattle.load_rounds.specs.Executions.{plans_in}
 use Rattle.load_rounds.specs.Runs.{RunOf, IsRun}
-use Rattle.load_rounds.specs.SharedRounds.{joint}
+use Rattle.load_rounds.specs.SharedRounds.{requests, joint}
+use Rattle.load_rounds.specs.Limits.{AreAskedInTime, IsWithin}
 use Rattle.load_rounds.proofs.Stages.{forgot-stops, stopped-all}
 use Rattle.load_rounds.proofs.States.{on-err}
 use Rattle.rounds_by_hand.proofs.Far.{forgot-kept, same-kept}
+use Rattle.rounds_by_hand.proofs.Within.{stored-in-time}
 use Rattle.rounds_by_hand.proofs.hand.Hand.ready.Goals as goal
 
 pub returns-in_err-begin_all-in-Handed-clause-stopped : goal.returns-in_err-begin_all-in-Handed-clause-stopped
@@ -30,13 +32,23 @@ pub returns-in_ok-store-in-Out-clause-ready : goal.returns-in_ok-store-in-Out-cl
 returns-in_ok-store-in-Out-clause-ready g c =
     let value = sym c.replace.ensures.value ∙ c.in-Out.is in
     let round = rw value at (rw (← c.self.view_is) at c.requires.round) in
+    let within = rw value at (rw (← c.self.view_is) at c.requires.within) in
     let ready = c.in_ok-store-in-Out.ensures.ready in
+    let X = g.P.Execute in
+    let may = g.S.LocalSource.may_tell in
+    let rounds = ap (λ (r : RunOf _ _). r.rounds) ready in
     rw (← c.self.view_is) (record {
       left = rw value (λ e. absurd (cc e));
       stage = ap (λ (r : RunOf _ _). r.stage) ready;
       plans = ap (λ (r : RunOf _ _). plans_in r.parts) ready ∙ round.0;
       holds = c.in_ok-store-in-Out.ensures.holds;
       went = λ begun h. let gone = rw value at h in c.in_ok-store-in-Out.ensures.ran gone.2 (state_of begun) gone.1;
+      in_time = λ begun h.
+          let gone = rw value at h in
+          let away = rw round.1.stage at gone.1 in
+          subst (λ n. AreAskedInTime may (state_of begun) (state_of c.store.new.session) c.self.inside.limits (requests X.program X.text_of c.self.inside.plans.value.items) n) (sym rounds)
+          (stored-in-time X.program X.text_of c.self.inside.plans.value.items c.in-Out.run' round.0 c.self.inside.limits may (state_of begun) (state_of c.self.inside.session) (state_of c.store.new.session) within away (c.in_ok-store-in-Out.ensures.in_one gone.2));
+      within = subst (IsWithin c.self.inside.limits.rounds) (sym rounds) within.rounds;
     })
 
 -- ---- the loaders stay

@@ -12,8 +12,10 @@ returns-in-Ok-clause-kept g c =
       holds = record {
         enough = enough;
         round = (round.0, taken-with g.P.Execute.program g.P.Execute.text_of (state_of c.self.inside.session) c.in-Out.field-0 c.in-Out.pending.items c.args.number c.args.reply c.take_reply.new.pending.items c.in-Ok.ensures.taken round.1, round.2);
+        within = rw c.in-Out.is at (rw (← c.self.view_is) at c.requires.within);
       };
       plans = rw (← c.self.view_is) refl;
+      limits = rw (← c.self.view_is) refl;
       session = rw (← c.self.view_is) refl;
     }
 

@@ -3,9 +3,10 @@ use Rattle.std.proofs.lemmas.Result.{IfOk-weaker}
 use Rattle.std.specs.Prelude.{IfOk}
 use Rattle.load_rounds.specs.SharedRounds.{report_of}
 use Rattle.load_rounds.specs.declared.answer.Answer.{Answer}
+use Rattle.rounds_by_hand.specs.declared.progress.Progress.TheVariants.{Done}
 use Rattle.server.specs.Hands.{GoesOn, Responds, planned_of, refusals_in}
 use Rattle.server.specs.Planned.{IsResponseOf}
-use Rattle.server.proofs.Handing.{goes, held, holds-on, refusal-responds, responds, told}
+use Rattle.server.proofs.Handing.{goes, held, holds-on, overrun-responds, refusal-responds, responds, told}
 use Rattle.server.proofs.by_hand.ByHand.ask_and_advance.Goals as goal
 
 pub returns-then-self-clause-answered : goal.returns-then-self-clause-answered
@@ -16,32 +17,59 @@ returns-then-self-clause-answered g c =
     let refused = sym c.self.invariant.refuses_is ∙ c.if-self.true in
     let answer = c.in_ok-response.field-0 in
     let response = subst (λ (answers : List Answer). IsResponseOf form.is_array (refusals_in form) (map report_of answers) (report_of answer)) c.new.ensures.items c.in_ok-response.ensures in
-    rw (← c.self.view_is) (refusal-responds c.self.inside.queries c.self.inside.max_answer planned g.S.LocalSource.may_tell hand refused (c.self.invariant.refused refused) answer response)
+    rw (← c.self.view_is) (refusal-responds c.self.inside.queries c.self.inside.max_answer c.self.inside.limits planned g.S.LocalSource.may_tell hand refused (c.self.invariant.refused refused) answer response)
 
 pub invariant_of-self : goal.invariant_of-self
-invariant_of-self g c = holds-on c.self.inside.queries c.self.inside.max_answer c.self.inside.form c.self.inside.loaders c.self.inside.is_refused c.self.inside.hand c.ask_and_advance.new.self c.self.invariant c.if-self.false c.ask_and_advance.ensures.kept
+invariant_of-self g c = holds-on c.self.inside.queries c.self.inside.max_answer c.self.inside.limits c.self.inside.form c.self.inside.loaders c.self.inside.is_refused c.self.inside.hand c.ask_and_advance.new.self c.self.invariant c.if-self.false c.ask_and_advance.ensures.kept
 
-pub returns-in_err-did-clause-underway : goal.returns-in_err-did-clause-underway
-returns-in_err-did-clause-underway g c =
+pub returns-in_err-overrun-in-Err-Over-clause-underway : goal.returns-in_err-overrun-in-Err-Over-clause-underway
+returns-in_err-overrun-in-Err-Over-clause-underway g c =
     let hand = c.self.inside.hand in
     let planned = planned_of c.self.inside.form c.self.inside.loaders hand.plans in
     let e = c.ask_and_advance.ensures in
-    rw (← c.self.view_is) (told c.self.inside.queries c.self.inside.max_answer c.self.inside.form c.self.inside.loaders hand c.ask_and_advance.new.self (GoesOn g.S.LocalSource.may_tell (held c.self.inside.queries c.self.inside.max_answer planned hand)) e.kept.plans
-    (goes c.self.inside.queries c.self.inside.max_answer planned g.S.LocalSource.may_tell hand c.ask_and_advance.new.self refl e.kept.plans e.underway))
+    rw (← c.self.view_is) (told c.self.inside.queries c.self.inside.max_answer c.self.inside.limits c.self.inside.form c.self.inside.loaders hand c.ask_and_advance.new.self (GoesOn g.S.LocalSource.may_tell (held c.self.inside.queries c.self.inside.max_answer c.self.inside.limits planned hand)) e.kept.plans
+    (goes c.self.inside.queries c.self.inside.max_answer c.self.inside.limits planned g.S.LocalSource.may_tell hand c.ask_and_advance.new.self refl e.kept.plans e.underway))
+
+pub returns-in-Err-Over-clause-underway : goal.returns-in-Err-Over-clause-underway
+returns-in-Err-Over-clause-underway g c =
+    let hand = c.self.inside.hand in
+    let planned = planned_of c.self.inside.form c.self.inside.loaders hand.plans in
+    let e = c.ask_and_advance.ensures in
+    rw (← c.self.view_is) (told c.self.inside.queries c.self.inside.max_answer c.self.inside.limits c.self.inside.form c.self.inside.loaders hand c.ask_and_advance.new.self (GoesOn g.S.LocalSource.may_tell (held c.self.inside.queries c.self.inside.max_answer c.self.inside.limits planned hand)) e.kept.plans
+    (goes c.self.inside.queries c.self.inside.max_answer c.self.inside.limits planned g.S.LocalSource.may_tell hand c.ask_and_advance.new.self refl e.kept.plans e.underway))
+
+pub returns-in-Err-NoMemory-clause-underway : goal.returns-in-Err-NoMemory-clause-underway
+returns-in-Err-NoMemory-clause-underway g c =
+    let hand = c.self.inside.hand in
+    let planned = planned_of c.self.inside.form c.self.inside.loaders hand.plans in
+    let e = c.ask_and_advance.ensures in
+    rw (← c.self.view_is) (told c.self.inside.queries c.self.inside.max_answer c.self.inside.limits c.self.inside.form c.self.inside.loaders hand c.ask_and_advance.new.self (GoesOn g.S.LocalSource.may_tell (held c.self.inside.queries c.self.inside.max_answer c.self.inside.limits planned hand)) e.kept.plans
+    (goes c.self.inside.queries c.self.inside.max_answer c.self.inside.limits planned g.S.LocalSource.may_tell hand c.ask_and_advance.new.self refl e.kept.plans e.underway))
 
 pub returns-clause-underway : goal.returns-clause-underway
 returns-clause-underway g c =
     let hand = c.self.inside.hand in
     let planned = planned_of c.self.inside.form c.self.inside.loaders hand.plans in
     let e = c.ask_and_advance.ensures in
-    rw (← c.self.view_is) (told c.self.inside.queries c.self.inside.max_answer c.self.inside.form c.self.inside.loaders hand c.ask_and_advance.new.self (GoesOn g.S.LocalSource.may_tell (held c.self.inside.queries c.self.inside.max_answer planned hand)) e.kept.plans
-    (goes c.self.inside.queries c.self.inside.max_answer planned g.S.LocalSource.may_tell hand c.ask_and_advance.new.self refl e.kept.plans e.underway))
+    rw (← c.self.view_is) (told c.self.inside.queries c.self.inside.max_answer c.self.inside.limits c.self.inside.form c.self.inside.loaders hand c.ask_and_advance.new.self (GoesOn g.S.LocalSource.may_tell (held c.self.inside.queries c.self.inside.max_answer c.self.inside.limits planned hand)) e.kept.plans
+    (goes c.self.inside.queries c.self.inside.max_answer c.self.inside.limits planned g.S.LocalSource.may_tell hand c.ask_and_advance.new.self refl e.kept.plans e.underway))
+
+pub returns-in-Err-Over-clause-answered : goal.returns-in-Err-Over-clause-answered
+returns-in-Err-Over-clause-answered g c =
+    let hand = c.self.inside.hand in
+    let planned = planned_of c.self.inside.form c.self.inside.loaders hand.plans in
+    let e = c.ask_and_advance.ensures in
+    let open' = sym c.self.invariant.refuses_is ∙ c.if-self.false in
+    let refused = rw c.in-Err-Over.field-0-is at c.in-Err-Over.ensures.refused in
+    let answer = c.in_ok-overrun-in-Err-Over.field-0 in
+    let own = overrun-responds c.self.inside.queries c.self.inside.max_answer c.self.inside.limits planned g.S.LocalSource.may_tell hand c.ask_and_advance.new.self c.in-Err-Over.overrun refl e.kept.plans (e.kept.limits ∙ c.self.invariant.limits) open' refused.went answer c.in_ok-overrun-in-Err-Over.ensures in
+    rw (← c.self.view_is) (told c.self.inside.queries c.self.inside.max_answer c.self.inside.limits c.self.inside.form c.self.inside.loaders hand c.ask_and_advance.new.self (λ b. Responds g.S.LocalSource.may_tell (held c.self.inside.queries c.self.inside.max_answer c.self.inside.limits planned hand) b (Done answer)) e.kept.plans own)
 
 pub returns-clause-answered : goal.returns-clause-answered
 returns-clause-answered g c =
     let hand = c.self.inside.hand in
     let planned = planned_of c.self.inside.form c.self.inside.loaders hand.plans in
-    let e = c.in_ok-did.ensures in
+    let e = c.in-Ok.ensures in
     let open' = sym c.self.invariant.refuses_is ∙ c.if-self.false in
-    let own = IfOk-weaker c.try_map.result _ _ (λ own is. responds c.self.inside.queries c.self.inside.max_answer planned g.S.LocalSource.may_tell hand c.ask_and_advance.new.self refl e.kept.plans open' c.in_ok-did.did own is e.answers) c.try_map.ensures.made in
-    rw (← c.self.view_is) (told c.self.inside.queries c.self.inside.max_answer c.self.inside.form c.self.inside.loaders hand c.ask_and_advance.new.self (λ b. IfOk c.try_map.result (Responds g.S.LocalSource.may_tell (held c.self.inside.queries c.self.inside.max_answer planned hand) b)) e.kept.plans own)
+    let own = IfOk-weaker c.try_map.result _ _ (λ own is. responds c.self.inside.queries c.self.inside.max_answer c.self.inside.limits planned g.S.LocalSource.may_tell hand c.ask_and_advance.new.self refl e.kept.plans (e.kept.limits ∙ c.self.invariant.limits) open' c.in-Ok.did own is e.answers) c.try_map.ensures.made in
+    rw (← c.self.view_is) (told c.self.inside.queries c.self.inside.max_answer c.self.inside.limits c.self.inside.form c.self.inside.loaders hand c.ask_and_advance.new.self (λ b. IfOk c.try_map.result (Responds g.S.LocalSource.may_tell (held c.self.inside.queries c.self.inside.max_answer c.self.inside.limits planned hand) b)) e.kept.plans own)

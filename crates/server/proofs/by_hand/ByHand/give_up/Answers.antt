@@ -9,7 +9,7 @@ returns-clause-underway g c =
     let hand = c.self.inside.hand in
     let form = c.self.inside.form in
     let planned = planned_of form c.self.inside.loaders hand.plans in
-    let went = goes c.self.inside.queries c.self.inside.max_answer planned g.S.LocalSource.may_tell hand c.give_up.new.self refl c.give_up.ensures.kept.plans c.give_up.ensures.underway in
+    let went = goes c.self.inside.queries c.self.inside.max_answer c.self.inside.limits planned g.S.LocalSource.may_tell hand c.give_up.new.self refl c.give_up.ensures.kept.plans c.give_up.ensures.underway in
     rw (← c.self.view_is)
-    (subst (λ (ps : List LimitedPlanOf). GoesOn g.S.LocalSource.may_tell (held c.self.inside.queries c.self.inside.max_answer planned hand) (held c.self.inside.queries c.self.inside.max_answer (planned_of form c.self.inside.loaders ps) c.give_up.new.self))
+    (subst (λ (ps : List LimitedPlanOf). GoesOn g.S.LocalSource.may_tell (held c.self.inside.queries c.self.inside.max_answer c.self.inside.limits planned hand) (held c.self.inside.queries c.self.inside.max_answer c.self.inside.limits (planned_of form c.self.inside.loaders ps) c.give_up.new.self))
     (sym c.give_up.ensures.kept.plans) went)

@@ -7,4 +7,4 @@ pub returns-clause-stopped : goal.returns-clause-stopped
 returns-clause-stopped g c =
     let hand = c.self.inside.hand in
     let planned = planned_of c.self.inside.form c.self.inside.loaders hand.plans in
-    rw (← c.self.view_is) (gives-up c.self.inside.queries c.self.inside.max_answer planned g.S.LocalSource.may_tell hand c.into_session.result refl c.self.invariant.refused c.into_session.ensures.session c.into_session.ensures.stopped)
+    rw (← c.self.view_is) (gives-up c.self.inside.queries c.self.inside.max_answer c.self.inside.limits planned g.S.LocalSource.may_tell hand c.into_session.result refl c.self.invariant.refused c.into_session.ensures.session c.into_session.ensures.stopped)

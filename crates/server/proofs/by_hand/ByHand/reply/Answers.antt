@@ -12,9 +12,9 @@ returns-clause-underway g c =
     let hand = c.self.inside.hand in
     let form = c.self.inside.form in
     let planned = planned_of form c.self.inside.loaders hand.plans in
-    let went = goes-if-may c.self.inside.queries c.self.inside.max_answer planned g.S.LocalSource.may_tell c.reply.result (slice_get (pending_in hand.far) c.args.number) c.args.reply hand c.reply.new.self refl c.reply.ensures.kept.plans c.reply.ensures.underway in
+    let went = goes-if-may c.self.inside.queries c.self.inside.max_answer c.self.inside.limits planned g.S.LocalSource.may_tell c.reply.result (slice_get (pending_in hand.far) c.args.number) c.args.reply hand c.reply.new.self refl c.reply.ensures.kept.plans c.reply.ensures.underway in
     rw (← c.self.view_is)
-    (subst (λ (ps : List LimitedPlanOf). OnOk c.reply.result (IfSome (slice_get (pending_in hand.far) c.args.number) (GoesOnIfMay g.S.LocalSource.may_tell c.args.reply (held c.self.inside.queries c.self.inside.max_answer planned hand) (held c.self.inside.queries c.self.inside.max_answer (planned_of form c.self.inside.loaders ps) c.reply.new.self))))
+    (subst (λ (ps : List LimitedPlanOf). OnOk c.reply.result (IfSome (slice_get (pending_in hand.far) c.args.number) (GoesOnIfMay g.S.LocalSource.may_tell c.args.reply (held c.self.inside.queries c.self.inside.max_answer c.self.inside.limits planned hand) (held c.self.inside.queries c.self.inside.max_answer c.self.inside.limits (planned_of form c.self.inside.loaders ps) c.reply.new.self))))
     (sym c.reply.ensures.kept.plans) went)
 
 pub returns-clause-stopped : goal.returns-clause-stopped
@@ -22,7 +22,7 @@ returns-clause-stopped g c =
     let hand = c.self.inside.hand in
     let form = c.self.inside.form in
     let planned = planned_of form c.self.inside.loaders hand.plans in
-    let went = on_err_weaker c.reply.result (λ went. goes c.self.inside.queries c.self.inside.max_answer planned g.S.LocalSource.may_tell hand c.reply.new.self refl c.reply.ensures.kept.plans went) c.reply.ensures.stopped in
+    let went = on_err_weaker c.reply.result (λ went. goes c.self.inside.queries c.self.inside.max_answer c.self.inside.limits planned g.S.LocalSource.may_tell hand c.reply.new.self refl c.reply.ensures.kept.plans went) c.reply.ensures.stopped in
     rw (← c.self.view_is)
-    (subst (λ (ps : List LimitedPlanOf). OnErr c.reply.result (GoesOn g.S.LocalSource.may_tell (held c.self.inside.queries c.self.inside.max_answer planned hand) (held c.self.inside.queries c.self.inside.max_answer (planned_of form c.self.inside.loaders ps) c.reply.new.self)))
+    (subst (λ (ps : List LimitedPlanOf). OnErr c.reply.result (GoesOn g.S.LocalSource.may_tell (held c.self.inside.queries c.self.inside.max_answer c.self.inside.limits planned hand) (held c.self.inside.queries c.self.inside.max_answer c.self.inside.limits (planned_of form c.self.inside.loaders ps) c.reply.new.self)))
     (sym c.reply.ensures.kept.plans) went)

@@ -22,8 +22,8 @@ returns-then-is_refused-clause-stopped g c = anyway _ (planned-unasked g.S.Local
 pub returns-in_err-copies-clause-stopped : goal.returns-in_err-copies-clause-stopped
 returns-in_err-copies-clause-stopped g c = anyway _ (planned-unasked g.S.LocalSource.may_tell c.args.self.now c.planned.inside.form c.planned.inside.loaders c.planned.inside.plans.items c.args.planned.now c.planned.view_is)
 
-pub answer_all-requires : goal.answer_all-requires
-answer_all-requires g c =
+pub answer_all_within-requires : goal.answer_all_within-requires
+answer_all_within-requires g c =
     let own = rw (← c.planned.view_is, ← c.self.view_is) at c.requires in
     let known = λ (l : LimitedPlanOf). limited_loaders l ≤ length c.self.inside.session.loaders in
     let copied = c.in_ok-copies.ensures ∙ ap (λ (w : PlannedOf). w.plans) (sym c.planned.view_is) in
@@ -31,31 +31,31 @@ answer_all-requires g c =
 
 pub invariant_of-self : goal.invariant_of-self
 invariant_of-self g c =
-    let done = c.answer_all.ensures in
-    let many = answers-many g.S.LocalSource.may_tell c.self.inside.session c.answer_all.new.self c.in_ok-copies.copies.items c.answer_all.result done.answers done.stopped in
+    let done = c.answer_all_within.ensures in
+    let many = answers-many g.S.LocalSource.may_tell c.self.inside.session c.answer_all_within.new.self c.self.inside.limits c.in_ok-copies.copies.items c.answer_all_within.result done.answers done.stopped in
     subst (λ n. length c.self.inside.queries.bindings.loaders ≤ n) (sym many) c.self.invariant
 
-pub returns-in_err-answers-clause-stopped : goal.returns-in_err-answers-clause-stopped
-returns-in_err-answers-clause-stopped g c =
+pub returns-in_err-given-clause-stopped : goal.returns-in_err-given-clause-stopped
+returns-in_err-given-clause-stopped g c =
     let inside = c.planned.inside in
     let copies = c.in_ok-copies.copies.items in
     let copied = c.in_ok-copies.ensures ∙ ap (λ (w : PlannedOf). w.plans) (sym c.planned.view_is) in
     let seen : planned_of inside.form inside.loaders copies ≡ c.args.planned.now = ap (λ (ps : List LimitedPlanOf). planned_of inside.form inside.loaders ps) copied ∙ c.planned.view_is in
     let same = ap (λ (x : ClientOf _). x.session) c.self.view_is in
     anyway _
-    (planned-stop g.S.LocalSource.may_tell c.args.self.now inside.form inside.loaders copies c.args.planned.now seen c.self.inside.session c.answer_all.new.self same
-    (sym c.is_refused.ensures ∙ c.if-is_refused.false) c.in_err-answers.ensures.stopped)
+    (planned-stop g.S.LocalSource.may_tell c.args.self.now inside.form inside.loaders copies c.args.planned.now seen c.self.inside.session c.answer_all_within.new.self same
+    (sym c.is_refused.ensures ∙ c.if-is_refused.false) c.in_err-given.ensures.stopped)
 
-pub returns-in_err-answers-clause-loaders : goal.returns-in_err-answers-clause-loaders
-returns-in_err-answers-clause-loaders g c =
-    let done = c.answer_all.ensures in
-    answers-many g.S.LocalSource.may_tell c.self.inside.session c.answer_all.new.self c.in_ok-copies.copies.items c.answer_all.result done.answers done.stopped
+pub returns-in_err-given-clause-loaders : goal.returns-in_err-given-clause-loaders
+returns-in_err-given-clause-loaders g c =
+    let done = c.answer_all_within.ensures in
+    answers-many g.S.LocalSource.may_tell c.self.inside.session c.answer_all_within.new.self c.self.inside.limits c.in_ok-copies.copies.items c.answer_all_within.result done.answers done.stopped
     ∙ ap (λ (x : ClientOf _). length x.session.loaders) c.self.view_is
 
 pub invariant_of-self-2 : goal.invariant_of-self-2
 invariant_of-self-2 g c =
-    let done = c.answer_all.ensures in
-    let many = answers-many g.S.LocalSource.may_tell c.self.inside.session c.answer_all.new.self c.in_ok-copies.copies.items c.answer_all.result done.answers done.stopped in
+    let done = c.answer_all_within.ensures in
+    let many = answers-many g.S.LocalSource.may_tell c.self.inside.session c.answer_all_within.new.self c.self.inside.limits c.in_ok-copies.copies.items c.answer_all_within.result done.answers done.stopped in
     subst (λ n. length c.self.inside.queries.bindings.loaders ≤ n) (sym many) c.self.invariant
 
 pub returns-clause-answered : goal.returns-clause-answered
@@ -65,8 +65,8 @@ returns-clause-answered g c =
     let copied = c.in_ok-copies.ensures ∙ ap (λ (w : PlannedOf). w.plans) (sym c.planned.view_is) in
     let seen : planned_of inside.form inside.loaders copies ≡ c.args.planned.now = ap (λ (ps : List LimitedPlanOf). planned_of inside.form inside.loaders ps) copied ∙ c.planned.view_is in
     let same = ap (λ (x : ClientOf _). x.session) c.self.view_is in
-    planned-respond g.S.LocalSource.may_tell c.args.self.now inside.form inside.loaders copies c.args.planned.now seen c.self.inside.session c.answer_all.new.self same
-    (sym c.is_refused.ensures ∙ c.if-is_refused.false) c.in_ok-answers.answers c.response-2.result c.in_ok-answers.ensures.answers c.response-2.ensures
+    planned-respond g.S.LocalSource.may_tell c.args.self.now inside.form inside.loaders copies c.args.planned.now seen c.self.inside.session c.answer_all_within.new.self same
+    (sym c.is_refused.ensures ∙ c.if-is_refused.false) c.self.inside.limits c.in_ok-given.given c.in_ok-given.ensures.answers (ap (λ (x : ClientOf _). x.limits) c.self.view_is) c.respond.result c.respond.ensures
 
 pub returns-clause-stopped : goal.returns-clause-stopped
 returns-clause-stopped g c =
@@ -76,11 +76,11 @@ returns-clause-stopped g c =
     let seen : planned_of inside.form inside.loaders copies ≡ c.args.planned.now = ap (λ (ps : List LimitedPlanOf). planned_of inside.form inside.loaders ps) copied ∙ c.planned.view_is in
     let same = ap (λ (x : ClientOf _). x.session) c.self.view_is in
     anyway _
-    (planned-answer-stop g.S.LocalSource.may_tell c.args.self.now inside.form inside.loaders copies c.args.planned.now seen c.self.inside.session c.answer_all.new.self same
-    (sym c.is_refused.ensures ∙ c.if-is_refused.false) c.in_ok-answers.answers c.in_ok-answers.ensures.answers)
+    (planned-answer-stop g.S.LocalSource.may_tell c.args.self.now inside.form inside.loaders copies c.args.planned.now seen c.self.inside.session c.answer_all_within.new.self same
+    (sym c.is_refused.ensures ∙ c.if-is_refused.false) c.self.inside.limits c.in_ok-given.given c.in_ok-given.ensures.answers)
 
 pub returns-clause-loaders : goal.returns-clause-loaders
 returns-clause-loaders g c =
-    let done = c.answer_all.ensures in
-    answers-many g.S.LocalSource.may_tell c.self.inside.session c.answer_all.new.self c.in_ok-copies.copies.items c.answer_all.result done.answers done.stopped
+    let done = c.answer_all_within.ensures in
+    answers-many g.S.LocalSource.may_tell c.self.inside.session c.answer_all_within.new.self c.self.inside.limits c.in_ok-copies.copies.items c.answer_all_within.result done.answers done.stopped
     ∙ ap (λ (x : ClientOf _). length x.session.loaders) c.self.view_is

@@ -14,9 +14,9 @@ invariant_of-result g c =
     let session = c.self.inside.session in
     let planned : PlannedOf = planned_of inside.form inside.loaders inside.plans.items in
     let hand = c.new.result in
-    let client = client_of c.self.inside.queries c.self.inside.max_answer hand.session in
+    let client = client_of c.self.inside.queries c.self.inside.max_answer c.self.inside.limits hand.session in
     let fits = subst (λ (p : PlannedOf). p.loaders ≤ length session.loaders) (sym c.planned.view_is) (subst (λ (x : ClientOf _). c.args.planned.loaders ≤ length x.session.loaders) (sym c.self.view_is) c.requires) in
-    let held = handed-in (client_of c.self.inside.queries c.self.inside.max_answer session) planned hand c.self.invariant c.new.ensures c.planned.invariant fits in
+    let held = handed-in (client_of c.self.inside.queries c.self.inside.max_answer c.self.inside.limits session) planned hand c.self.invariant c.new.ensures c.planned.invariant fits in
     let refuses : c.is_refused-is_refused.result ≡ is_refused planned = c.is_refused-is_refused.ensures ∙ ap is_refused (sym c.planned.view_is) in
     let plans = ap (λ (h : HandOf _ LimitedPlanOf RootState). h.plans) c.new.ensures in
     subst (λ (ps : List LimitedPlanOf). HoldsByHand client (planned_of inside.form inside.loaders ps) c.is_refused-is_refused.result hand) (sym plans)

@@ -4,7 +4,7 @@ use Rattle.std.proofs.lemmas.Result.{IfOk-weaker}
 use Rattle.gq_check.specs.Plans.{PlanOf}
 use Rattle.gq_resolve.specs.Counting.{counted}
 use Rattle.server.specs.Counts.{plans_read}
-use Rattle.server.proofs.Limits.{limited-plans}
+use Rattle.server.proofs.LimitedPlans.{limited-plans}
 use Rattle.server.proofs.queries.Queries.loads_read.Goals as goal
 
 pub loads_read-requires : goal.loads_read-requires

@@ -23,7 +23,7 @@ pub returns-in_err-planned-clause-stopped : goal.returns-in_err-planned-clause-s
 returns-in_err-planned-clause-stopped g c =
     let p = err_from_is_err_and c.from_residual-in_err-planned.result c.from_residual-in_err-planned.ensures.1 in
     rw (p.1, p.2, c.plan_text.ensures.same)
-    (unanswered (stops-line g.S.LocalSource.may_tell c.args.self.now.client c.restart.new.self c.restart.new.self c.args.line.now c.in_ok-restart.ensures.begun (record { server = refl; most = refl }) (unread refl))
+    (unanswered (stops-line g.S.LocalSource.may_tell c.args.self.now.client c.restart.new.self c.restart.new.self c.args.line.now c.in_ok-restart.ensures.begun (record { server = refl; most = refl; limits = refl }) (unread refl))
     (record { kept = Keeps-refl _; steady = steady_same _ }))
 
 pub returns-in_err-answer-clause-stopped : goal.returns-in_err-answer-clause-stopped

@@ -16,4 +16,4 @@ returns c =
     let w = c.args.self.now.world.now in
     let over = over-whichever w c.in_ok-session.session c.in_ok-session.ensures.opened c.in_ok-session.ensures.each in
     let same : c.in_ok-server.server ≡ c.server.result.now = grind arith in
-    rw (c.limit_answers.ensures, c.new-client.ensures, same, c.server.ensures) (record { server = refl; most = refl; over = subst (IsOver w) (sym over.fresh) over })
+    rw (c.limit_work.ensures, c.limit_answers.ensures, c.new-client.ensures, same, c.server.ensures) (record { server = refl; most = refl; limits = refl; over = subst (IsOver w) (sym over.fresh) over })

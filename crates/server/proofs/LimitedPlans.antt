@@ -1,5 +1,6 @@
 -- Plans, each with a limit.
-use Rattle.std.proofs.Common.{◌≡◌, ℕ, List, [], ◌∷◌, map, All, Option, refl, sym, ap, subst, ◌∙◌, ◌≤◌, length, inl}
+use Rattle.std.proofs.Common.{◌≡◌, ℕ, List, [], ◌∷◌, map, All, Option, Result, Ok, Err, refl, sym, ap, subst, ◌∙◌, ◌≤◌, length, inl}
+use Rattle.std.specs.Global.{Vec}
 use Rattle.std.proofs.lemmas.List.Elements.{All-nil, All-cons, All-head, All-tail, All-weaker}
 use Rattle.gq_check.specs.Plans.{PlanOf, plan_of}
 use Rattle.plan_program.specs.PlanPrograms.{plan_program}
@@ -7,8 +8,12 @@ use Rattle.load_memory.specs.Keys.{KeyOf}
 use Rattle.load_queue.specs.Answers.{AnswerOf}
 use Rattle.gq_bindings.specs.Tree.{BindingsOf}
 use Rattle.load_rounds.specs.Headline.{StopsAnswering}
+use Rattle.load_rounds.specs.Limits.{AreAnswersWithin}
 use Rattle.load_rounds.specs.Sessions.{SessionOf, StateOf}
-use Rattle.load_rounds.specs.SharedRounds.{RequestOf, ReportOf, request_of, requests, together, SharedHeadline}
+use Rattle.load_rounds.specs.SharedRounds.{RequestOf, request_of, requests, together}
+use Rattle.load_rounds.specs.declared.answer.Answer.{Answer}
+use Rattle.load_rounds.specs.declared.limits.Limits.{Limits}
+use Rattle.load_rounds.specs.declared.limits.Overrun.{Overrun}
 use Rattle.gq_resolve.specs.Within.{text_within}
 use Rattle.gq_resolve.specs.PreparedPlans.{LimitedPlanOf as LimitedPlan}
 use Rattle.plan_requests.specs.Servers.{ServerOf}
@@ -55,6 +60,8 @@ enough session s most plans limited has bound are =
     (All-weaker (λ (p : PlanOf). p.bindings ≡ s.bindings) (λ (p : PlanOf). length p.bindings.loaders ≤ length session.loaders)
     (λ p e. subst (λ (b : BindingsOf). length b.loaders ≤ length session.loaders) (sym e) has) plans bound)
 
--- an answer that was given is one at which memory may have run out
-pub answered-stops : {S : Type 0} (may : S → List KeyOf → AnswerOf → Type 0) (old new : StateOf S) (rs : List RequestOf) (reports : List ReportOf) → SharedHeadline may old new rs reports → StopsAnswering may old new (together rs)
-answered-stops may old new rs reports h = record { log = h.log; mid = new; made = h.made; end = inl refl; recorded = h.recorded }
+-- what was given, answers or a refusal, is that at which memory may have run out
+pub given-stops : {S : Type 0} (may : S → List KeyOf → AnswerOf → Type 0) (old new : StateOf S) (limits : Limits) (rs : List RequestOf) (given : Result (Vec Answer) Overrun) → AreAnswersWithin may old new limits rs given
+    → StopsAnswering may old new (together rs)
+given-stops may old new limits rs (Ok answers) h = record { log = h.0.log; mid = new; made = h.0.made; end = inl refl; recorded = h.0.recorded }
+given-stops may old new limits rs (Err overrun) h = record { log = h.log; mid = new; made = h.made; end = inl refl; recorded = h.recorded }
