@@ -3,11 +3,14 @@
 
     clients/built.py note FILE      before rt ci: writes down the text of each library
     clients/built.py take FILE      after it: marks those that it built, of which the text is still the same
+    clients/built.py lib CRATE      does what `rt lib` does in the folder of that crate
 
 rt ci leaves the libraries that it built in crates/NAME/out/rlib, without the stamp that tells other commands what text a library was built of.
 A library gets its stamp here where all of this holds: its text, that of the libraries below it, its line of crates.txt and the kit are the
 same as before rt ci; rt ci built it, since it is newer than FILE and has no stamp; and the libraries below it are those of this run too. Any
 other stays as it is, and rt lib builds it anew if it needs it.
+
+rt lib asks for the text of a library once for each way that leads to it, which takes minutes here. `lib` asks for each once.
 """
 
 import functools
@@ -69,9 +72,12 @@ def take(crates, file):
 
 
 def main(words):
-    if len(words) != 2 or words[0] not in ("note", "take"):
+    if len(words) != 2 or words[0] not in ("note", "take", "lib"):
         sys.exit(__doc__)
     root = os.path.dirname(os.path.dirname(os.path.realpath(__file__)))
+    if words[0] == "lib":
+        os.chdir(f"{root}/crates/{words[1]}")
+        sys.exit(kit_module().main("lib"))
     (note if words[0] == "note" else take)(libraries(root), words[1])
 
 

@@ -77,7 +77,7 @@ enum {
 /* ---- The library. */
 
 /* The version of this header. It goes with a library whose rz_version is the same, or has the same major number and a larger rest. */
-#define RZ_VERSION 131072u
+#define RZ_VERSION 131328u
 
 /* The version of the library: 65536 * major + 256 * minor + patch. */
 uint32_t rz_version(void);

@@ -510,12 +510,12 @@ func TestTheLibraryHasTheVersionOfTheHeader(t *testing.T) {
 		version uint32
 		text    string
 	}{
-		{0x20000, ""}, {0x20001, ""}, {0x20100, ""}, {0x1FFFF, "1.255.255"}, {0x10200, "1.2.0"}, {0x30000, "3.0.0"},
+		{0x20100, ""}, {0x20101, ""}, {0x20200, ""}, {0x20000, "2.0.0"}, {0x200FF, "2.0.255"}, {0x10200, "1.2.0"}, {0x30000, "3.0.0"},
 	}
 	for _, each := range cases {
 		var wanted error
 		if each.text != "" {
-			wanted = fmt.Errorf("librudzkvano_c.so is version %s of the library, and this package needs 2.0.0 or a later 2.x", each.text)
+			wanted = fmt.Errorf("librudzkvano_c.so is version %s of the library, and this package needs 2.1.0 or a later 2.x", each.text)
 		}
 		expect(t, each.version, checkVersion(each.version), wanted)
 	}

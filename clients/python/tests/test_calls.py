@@ -151,10 +151,11 @@ class Refusals(Calls):
 
     @unittest.skipUnless(shutil.which("cc"), "there is no C compiler, so libraries of other versions aren't tried")
     def test_a_library_of_another_version(self) -> None:
-        needs = "of the library, and this package needs 2.0.0 or a later 2.x"
+        needs = "of the library, and this package needs 2.1.0 or a later 2.x"
         cases = [
             ("unsigned rz_version(void) { return 65536; }", f"is version 1.0.0 {needs}"),
             ("unsigned rz_version(void) { return 131071; }", f"is version 1.255.255 {needs}"),
+            ("unsigned rz_version(void) { return 131072; }", f"is version 2.0.0 {needs}"),
             ("unsigned rz_version(void) { return 196608; }", f"is version 3.0.0 {needs}"),
             ("int other;", "is no library of Rudzkvano"),
         ]

@@ -10,6 +10,7 @@ ghost use Rattle.csv_source.specs.Tables.{rows_of, has_text};
 use crate::fault::TableFault;
 use crate::hash::bucket;
 use crate::table::Table;
+use load_memory::texts::is_same_text;
 use load_memory::{KeyMode, Row, Rows, Sheet};
 use std::alloc::{AllocError, Global};
 use std::marker::Model;
@@ -133,7 +134,7 @@ pub(crate) fn is_same(mode: KeyMode, field: &str, text: &str) -> bool
         (fold_text mode field.now) }
 {
     match mode {
-        KeyMode::Exact => text == field,
+        KeyMode::Exact => is_same_text(text, field),
         // Most equal texts are equal byte for byte, which is seen sooner.
         KeyMode::FoldAscii => text == field || text.eq_ignore_ascii_case(field),
     }

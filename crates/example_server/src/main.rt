@@ -291,13 +291,11 @@ fn restart(alloc: Global, session: &mut ClientSession<Books>) -> anyhow::Result<
 }
 
 // Returns how many calls execution one key at a time makes for a request, which asks for a key as often as it is needed.
-fn loads_read(alloc: Global, server: &Server) -> anyhow::Result<String> {
+fn loads(alloc: Global, server: &Server) -> anyhow::Result<String> {
     let mut session = server.session(alloc, None, |_line| Books)?;
-    let text = "{\"query\":\"{books(ids:[1,2,1,3]){title}}\"}";
-    session.answer_text(text.as_bytes())?;
-    let calls = session.loads_read(text.as_bytes())?;
+    let answer = session.answer(&asking("{books(ids:[1,2,1,3]){title}}"))?;
     let batches = session.session().logs(BOOK_BY_ID).unwrap_or(&[]).len();
-    Ok(format!(in alloc; "{calls} calls, and {batches} batch was asked")?)
+    Ok(format!(in alloc; "{} calls, and {batches} batch was asked", answer.loads)?)
 }
 
 // The lines of any reader, to any writer.
@@ -405,6 +403,6 @@ fn main(rt: HostRuntime) -> anyhow::Result<()> {
     show_by_hand(&rt, &server)?;
     println!(rt; "a shared server: {}", share_a_server(&rt, &server)?)?;
     println!(rt; "into_answering: {}", as_a_future(&rt, &server)?)?;
-    println!(rt; "loads_read: {}", loads_read(alloc, &server)?)?;
+    println!(rt; "loads: {}", loads(alloc, &server)?)?;
     Ok(())
 }

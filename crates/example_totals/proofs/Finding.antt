@@ -1,12 +1,11 @@
 -- Lemmas on what a tree comes to, and what its completion says.
-use Rattle.std.proofs.Common.{◌≡◌, ◌+◌, ◌++◌, ◌||◌, ℕ, Bool, true, false, List, [], ◌∷◌, refl, sym, ap, ◌∙◌, String, string_bytes, Option}
+use Rattle.std.proofs.Common.{◌≡◌, ◌+◌, ◌++◌, ◌||◌, ℕ, Bool, true, false, List, [], ◌∷◌, refl, sym, ap, ◌∙◌, arith, String, string_bytes}
 use Rattle.std.specs.Fmt.{decimal}
 use Rattle.std.specs.declared.alloc.Global.{Global}
 use Rattle.text_place.specs.declared.place.Place.{Place}
-use Rattle.load_memory.specs.Outcomes.{OutcomeOf}
 use Rattle.load_memory.specs.Pairs.{MemoryOf}
 use Rattle.load_queue.specs.Wanted.{WantedOf}
-use Rattle.execution.specs.Program.{Value, Null, Fault, Part, given, Program, Tree, Open, At, Over, Trees, NoMore, And, tree}
+use Rattle.execution.specs.Program.{Value, Null, Fault, Part, Program, Tree, Open, At, Over, Trees, NoMore, And, tree}
 use Rattle.execution.specs.Completion.{ErrorOf, is_open, any_open}
 use Rattle.execution.specs.Executed.{pulls_down, response, responses, errors, all_errors, completed}
 use Rattle.execution.specs.Executes.{IsExecuted}
@@ -15,7 +14,7 @@ use Rattle.futures.specs.declared.task.Poll.TheVariants.{Ready, Pending}
 use Rattle.load_rounds.specs.Calls.{reader_of}
 use Rattle.example_totals.specs.Totals.{sum_in, sum_below, first_message, total_text}
 use Rattle.example_totals.specs.Found.{FoundOf, lacking, number, fault, found_of, both, found_in, found_below, IsFound}
-use Rattle.example_totals.specs.declared.totals.Found.{Found}
+use Rattle.example_totals.specs.declared.totals.Finding.{Finding}
 use Rattle.execution.proofs.Executing.{ready, waits}
 
 -- ---- trees whose positions are of nullable types
@@ -76,28 +75,48 @@ mutual
       says-both (found_in t) (found_below rest) (is_open t) (any_open rest) (errors position.non_null position.place (path ++ position.part ∷ []) t) (all_errors path rest) (sum_in (response t)) (sum_below (responses rest))
       (rw h.0 (tree-says t h.1 position.place (path ++ position.part ∷ []))) (trees-say rest h.2 path)
 
--- ---- what an execution answers by what was found
+pub both-assoc : (f g h : FoundOf) → both (both f g) h ≡ both f (both g h)
+both-assoc lacking g h = refl
+both-assoc (number l) lacking h = refl
+both-assoc (number l) (number m) lacking = refl
+both-assoc (number l) (number m) (number n) = ap number (omega arith)
+both-assoc (number l) (number m) (fault text) = refl
+both-assoc (number l) (fault text) lacking = refl
+both-assoc (number l) (fault text) (number n) = refl
+both-assoc (number l) (fault text) (fault other) = refl
+both-assoc (fault text) lacking h = refl
+both-assoc (fault text) (number m) lacking = refl
+both-assoc (fault text) (number m) (number n) = refl
+both-assoc (fault text) (number m) (fault other) = refl
+both-assoc (fault text) (fault other) lacking = refl
+both-assoc (fault text) (fault other) (number n) = refl
+both-assoc (fault text) (fault other) (fault last) = refl
 
-abbrev reads : Option OutcomeOf → (OutcomeOf → Program) → MemoryOf → Tree
-reads outcome next m = given outcome Open (λ o. tree (next o) (reader_of m))
+pub both-none : (f : FoundOf) → both f (number 0) ≡ f
+both-none lacking = refl
+both-none (number n) = ap number (omega arith)
+both-none (fault text) = refl
+
+-- ---- what an execution answers by what was found
 
 first-is : (text : List ℕ) (es : List ErrorOf) (otherwise : List ℕ) → BeginsWith text es → first_message es otherwise ≡ text
 first-is text [] otherwise h = absurd h
 first-is text (e ∷ es) otherwise h = h
 
-module _ (p : Program) (m : MemoryOf) (old new : List WantedOf) (part : Found) (nullable : IsNullable (tree p (reader_of m))) (is : IsFound p m old new part) where
-  told : (f : FoundOf) → found_of part ≡ f → Says f (is_open (tree p (reader_of m))) (completed (tree p (reader_of m))).errors (sum_in (completed (tree p (reader_of m))).response)
+module _ (p : Program) (m : MemoryOf) (old new : List WantedOf) (part : Finding) (nullable : IsNullable (tree p (reader_of m))) (is : IsFound p m old new part) where
+  told : (f : FoundOf) → found_of part.found ≡ f → Says f (is_open (tree p (reader_of m))) (completed (tree p (reader_of m))).errors (sum_in (completed (tree p (reader_of m))).response)
   told f e = rw (sym e ∙ is.found) (tree-says (tree p (reader_of m)) nullable (record { line = 1; column = 1 }) [])
 
-  pub answers-lacking : found_of part ≡ lacking → modes_wanted old ≡ m.modes → IsExecuted total_text old new p m Pending
+  pub answers-lacking : found_of part.found ≡ lacking → modes_wanted old ≡ m.modes → IsExecuted total_text old new p m Pending
   answers-lacking e lined_up = waits total_text p m old new is.wants (told lacking e) lined_up
 
-  pub answers-number : (n : ℕ) (text : String Global) → found_of part ≡ number n → string_bytes text ≡ decimal n → IsExecuted total_text old new p m (Ready text)
+  pub answers-number : (n : ℕ) (text : String Global) → found_of part.found ≡ number n → string_bytes text ≡ decimal n → IsExecuted total_text old new p m (Ready (record { text = text; loads = part.loads }))
   answers-number n text e writes =
       let says = told (number n) e in
-      ready total_text p m old new is.wants text says.0 (writes ∙ ap decimal (sym says.2) ∙ ap (λ es. first_message es (decimal (sum_in (completed (tree p (reader_of m))).response))) (sym says.1))
+      ready total_text p m old new is.wants (record { text = text; loads = part.loads }) says.0
+      (writes ∙ ap decimal (sym says.2) ∙ ap (λ es. first_message es (decimal (sum_in (completed (tree p (reader_of m))).response))) (sym says.1)) is.loads
 
-  pub answers-fault : (message : List ℕ) (text : String Global) → found_of part ≡ fault message → string_bytes text ≡ message → IsExecuted total_text old new p m (Ready text)
+  pub answers-fault : (message : List ℕ) (text : String Global) → found_of part.found ≡ fault message → string_bytes text ≡ message → IsExecuted total_text old new p m (Ready (record { text = text; loads = part.loads }))
   answers-fault message text e writes =
       let says = told (fault message) e in
-      ready total_text p m old new is.wants text says.0 (writes ∙ sym (first-is message (completed (tree p (reader_of m))).errors (decimal (sum_in (completed (tree p (reader_of m))).response)) says.1))
+      ready total_text p m old new is.wants (record { text = text; loads = part.loads }) says.0 (writes ∙ sym (first-is message (completed (tree p (reader_of m))).errors (decimal (sum_in (completed (tree p (reader_of m))).response)) says.1)) is.loads

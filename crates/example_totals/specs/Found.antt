@@ -1,13 +1,15 @@
 -- Definitions of what a part of the total comes to over a memory, as the code finds it. No public clause
 -- names these.
-use Rattle.std.specs.Prelude.{◌≡◌, ◌+◌, ℕ, List}
+use Rattle.std.specs.Prelude.{◌≡◌, ◌+◌, ℕ, List, length}
 use Rattle.load_memory.specs.Pairs.{MemoryOf}
 use Rattle.load_queue.specs.Wanted.{WantedOf}
 use Rattle.execution.specs.Program.{Value, Null, Fault, Program, Programs, needs, all_needs, Tree, Open, At, Over, Trees, NoMore, And, tree, trees}
 use Rattle.execution.specs.Front.{missing, wanting}
+use Rattle.execution.specs.Reads.{count_read, counted}
 use Rattle.load_rounds.specs.Calls.{reader_of}
 use Rattle.example_totals.specs.Totals.{number_at}
 use Rattle.example_totals.specs.declared.totals.Found.{Found}
+use Rattle.example_totals.specs.declared.totals.Finding.{Finding}
 use Rattle.example_totals.specs.declared.totals.Found.TheVariants as it
 
 -- something is missing, or a number, or why there is none
@@ -44,14 +46,17 @@ abbrev mutual
   found_below NoMore = number 0
   found_below (And position t rest) = both (found_in t) (found_below rest)
 
--- it is what the program comes to over the memory, and what the program needs and the memory lacks was wanted
+-- it is what the program comes to over the memory, with the count of its loads, and what the program needs and the memory lacks
+-- was wanted
 pub record IsFound (p : Program) (m : MemoryOf) (old new : List WantedOf)
-    (part : Found) : Type 0 where
-  pub found : found_of part ≡ found_in (tree p (reader_of m))
+    (part : Finding) : Type 0 where
+  pub found : found_of part.found ≡ found_in (tree p (reader_of m))
+  pub loads : part.loads ≡ counted (count_read p (reader_of m))
   pub wants : new ≡ wanting old (missing (reader_of m) (needs p (reader_of m)))
 
 -- says the same of the programs below a position
 pub record AreFound (ps : Programs) (m : MemoryOf) (old new : List WantedOf)
-    (part : Found) : Type 0 where
-  pub found : found_of part ≡ found_below (trees ps (reader_of m))
+    (part : Finding) : Type 0 where
+  pub found : found_of part.found ≡ found_below (trees ps (reader_of m))
+  pub loads : part.loads ≡ counted (length (all_needs ps (reader_of m)))
   pub wants : new ≡ wanting old (missing (reader_of m) (all_needs ps (reader_of m)))

@@ -27,8 +27,8 @@ pub fn write_total(
     let answer = session.answer(&total)?;
     let record = record(alloc, session, calls)?;
     print!(rt;
-        "  total of {customer}: {}, rounds {}\n{record}",
-        answer.text, answer.rounds
+        "  total of {customer}: {}, rounds {}, loads {}\n{record}",
+        answer.text, answer.rounds, answer.loads
     )?;
     Ok(())
 }
@@ -45,8 +45,8 @@ fn write_both(
     let totals = vec![in alloc; total_of(alloc, "ada")?, total_of(alloc, "bob")?]?;
     for (customer, answer) in customers.iter().zip(session.answer_all(totals)?) {
         println!(rt;
-            "  total of {customer}: {}, rounds {}",
-            answer.text, answer.rounds
+            "  total of {customer}: {}, rounds {}, loads {}",
+            answer.text, answer.rounds, answer.loads
         )?;
     }
     let record = record(alloc, session, calls)?;

@@ -22,8 +22,8 @@ fn write_rounds(
     let answer = answer_by_hand(alloc, &total, session, elsewhere, &mut notes)?;
     let record = record(alloc, session, calls)?;
     print!(rt;
-        "{notes}  total of ada: {}, rounds {}\n{record}",
-        answer.text, answer.rounds
+        "{notes}  total of ada: {}, rounds {}, loads {}\n{record}",
+        answer.text, answer.rounds, answer.loads
     )?;
     Ok(())
 }

@@ -7,7 +7,7 @@ ghost use Rattle.example_totals.specs.Found.{found_of, both, IsFound, AreFound};
 
 use crate::look_up::look_up;
 use crate::shop::{FRIENDS_OF, ORDERS_OF};
-use execution::Execute;
+use execution::{Execute, ExecutionResult};
 use futures::task::Poll;
 use load_memory::{Cell, Memory, Outcome, Row};
 use load_queue::Wants;
@@ -50,6 +50,22 @@ impl<'m> Found<'m> {
     }
 }
 
+/// What a part of the total comes to, and how many loads it reads.
+#[derive(Clone, Copy)]
+struct Finding<'m> {
+    found: Found<'m>,
+    loads: u64,
+}
+
+impl<'m> Finding<'m> {
+    // A part that reads one load.
+    fn of_one_load(found: Found<'m>) -> Finding<'m>
+        ensures { result ≡ record { found = found.entry; loads = 1 } }
+    {
+        Finding { found, loads: 1 }
+    }
+}
+
 // The amount of an order, if it has one.
 fn amount(order: &Row) -> Option<u32>
     ensures { result ≡ amount_of order.now }
@@ -80,7 +96,7 @@ fn of_friend<'m>(
     memory: &'m Memory,
     wants: &mut Wants,
     friend: &Row,
-) -> Result<Found<'m>, AllocError>
+) -> Result<Finding<'m>, AllocError>
     requires known { 2 ≤ length memory.now.modes }
     requires wanted { 2 ≤ length wants.old }
     ensures found { IfOk result (IsFound (friend_total (cell_of friend.now (codes "friend")))
@@ -88,16 +104,19 @@ fn of_friend<'m>(
     ensures loaders { length wants.new ≡ length wants.old }
 {
     let Cell::Text(id) = friend.get("friend") else {
-        return Ok(Found::Fault("a friend without an id"));
+        return Ok(Finding {
+            found: Found::Fault("a friend without an id"),
+            loads: 0,
+        });
     };
     match look_up(alloc, memory, wants, ORDERS_OF, id)? {
-        None => Ok(Found::Missing),
+        None => Ok(Finding::of_one_load(Found::Missing)),
         Some(Outcome::Rows(orders)) => match sum(orders)? {
-            Some(sum) => Ok(Found::Number(sum)),
-            None => Ok(Found::Fault("an order without an amount")),
+            Some(sum) => Ok(Finding::of_one_load(Found::Number(sum))),
+            None => Ok(Finding::of_one_load(Found::Fault("an order without an amount"))),
         },
-        Some(Outcome::KeyFault(text) | Outcome::BatchFault(text)) => Ok(Found::Fault(
-            text.as_str(),
+        Some(Outcome::KeyFault(text) | Outcome::BatchFault(text)) => Ok(Finding::of_one_load(
+            Found::Fault(text.as_str()),
         )),
     }
 }
@@ -108,16 +127,23 @@ fn of_friends<'m>(
     memory: &'m Memory,
     wants: &mut Wants,
     friends: &[Row],
-) -> Result<Found<'m>, AllocError>
+) -> Result<Finding<'m>, AllocError>
     requires known { 2 ≤ length memory.now.modes }
     requires wanted { 2 ≤ length wants.old }
     ensures found { IfOk result
         (AreFound (friend_totals 0 friends.now) memory.now wants.old wants.new) }
     ensures loaders { length wants.new ≡ length wants.old }
 {
-    let mut all = Found::Number(0);
+    let mut all = Finding {
+        found: Found::Number(0),
+        loads: 0,
+    };
     for friend in friends {
-        all = all.and(of_friend(alloc, memory, wants, friend)?)?;
+        let part = of_friend(alloc, memory, wants, friend)?;
+        all = Finding {
+            found: all.found.and(part.found)?,
+            loads: all.loads.saturating_add(part.loads),
+        };
     }
     Ok(all)
 }
@@ -129,18 +155,24 @@ impl FriendsTotal {
         alloc: Global,
         memory: &'m Memory,
         wants: &mut Wants,
-    ) -> Result<Found<'m>, AllocError>
+    ) -> Result<Finding<'m>, AllocError>
         requires known { 2 ≤ length memory.now.modes }
         requires wanted { 2 ≤ length wants.old }
         ensures { IfOk result (IsFound (total_of_friends (string_bytes self.now.customer))
             memory.now wants.old wants.new) }
     {
         match look_up(alloc, memory, wants, FRIENDS_OF, self.customer.as_str())? {
-            None => Ok(Found::Missing),
-            Some(Outcome::Rows(friends)) => of_friends(alloc, memory, wants, friends),
-            Some(Outcome::KeyFault(text) | Outcome::BatchFault(text)) => {
-                Ok(Found::Fault(text.as_str()))
+            None => Ok(Finding::of_one_load(Found::Missing)),
+            Some(Outcome::Rows(friends)) => {
+                let all = of_friends(alloc, memory, wants, friends)?;
+                Ok(Finding {
+                    found: all.found,
+                    loads: all.loads.saturating_add(1),
+                })
             }
+            Some(Outcome::KeyFault(text) | Outcome::BatchFault(text)) => Ok(Finding::of_one_load(
+                Found::Fault(text.as_str()),
+            )),
         }
     }
 }
@@ -164,11 +196,19 @@ impl Execute<Anew> for FriendsTotal {
         alloc: Global,
         memory: &Memory,
         wants: &mut Wants,
-    ) -> Result<Poll<String>, AllocError> {
-        match self.find_total(alloc, memory, wants)? {
+    ) -> Result<Poll<ExecutionResult>, AllocError> {
+        let total = self.find_total(alloc, memory, wants)?;
+        let loads = total.loads;
+        match total.found {
             Found::Missing => Ok(Poll::Pending),
-            Found::Number(total) => Ok(Poll::Ready(format!(in alloc; "{total}")?)),
-            Found::Fault(text) => Ok(Poll::Ready(String::from_str(alloc, text)?)),
+            Found::Number(sum) => {
+                let text = format!(in alloc; "{sum}")?;
+                Ok(Poll::Ready(ExecutionResult { text, loads }))
+            }
+            Found::Fault(text) => {
+                let text = String::from_str(alloc, text)?;
+                Ok(Poll::Ready(ExecutionResult { text, loads }))
+            }
         }
     }
 }

@@ -101,6 +101,23 @@ mutual
       let b : (is_open (tree p R) ≡ false) × (any_open (trees rest R) ≡ false) = or-false (is_open (tree p R)) (any_open (trees rest R)) h in
       rw (tree-stays p R Q more b.0, trees-stay rest R Q more b.1) refl
 
+needs-read : (load : Load) (next : OutcomeOf → Program) (R Q : Reader) → AnswersMore R Q → (r : Option OutcomeOf) → R load ≡ r → is_open (tree (Read load next) R) ≡ false → ((o : OutcomeOf) → is_open (tree (next o) R) ≡ false → needs (next o) Q ≡ needs (next o) R) → needs (Read load next) Q ≡ needs (Read load next) R
+needs-read load next R Q more None e h ih = let f : true ≡ false = rw e at h in absurd (cc f)
+needs-read load next R Q more (Some o) e h ih = let f : Q load ≡ Some o = more load o e in rw (e, f) (ap (λ ls. load ∷ ls) (ih o (rw e at h)))
+
+mutual
+  -- what is needed stays where nothing is open
+  pub needs-stay : (p : Program) (R Q : Reader) → AnswersMore R Q → is_open (tree p R) ≡ false → needs p Q ≡ needs p R
+  needs-stay (Is own) R Q more h = refl
+  needs-stay (Read load next) R Q more h = needs-read load next R Q more (R load) refl h (λ o. needs-stay (next o) R Q more)
+  needs-stay (Under kind below) R Q more h = all-needs-stay below R Q more h
+
+  all-needs-stay : (ps : Programs) (R Q : Reader) → AnswersMore R Q → any_open (trees ps R) ≡ false → all_needs ps Q ≡ all_needs ps R
+  all-needs-stay End R Q more h = refl
+  all-needs-stay (With position p rest) R Q more h =
+      let b : (is_open (tree p R) ≡ false) × (any_open (trees rest R) ≡ false) = or-false (is_open (tree p R)) (any_open (trees rest R)) h in
+      rw (needs-stay p R Q more b.0, all-needs-stay rest R Q more b.1) refl
+
 -- exec, where it is defined, stays
 pub exec-stays : (p : Program) (R Q : Reader) → AnswersMore R Q → is_open (tree p R) ≡ false → exec p Q ≡ exec p R
 exec-stays p R Q more h = rw (tree-stays p R Q more h) refl

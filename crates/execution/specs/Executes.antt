@@ -1,5 +1,5 @@
 -- Definitions of what an execution over a memory answers.
-use Rattle.std.specs.Prelude.{◌≡◌, ◌≢◌, ◌≤◌, ℕ, List, [], length, Some, String, string_bytes}
+use Rattle.std.specs.Prelude.{◌≡◌, ◌≢◌, ◌≤◌, ℕ, List, [], length, Some, string_bytes}
 use Rattle.load_memory.specs.Pairs.{MemoryOf, look}
 use Rattle.load_queue.specs.Wanted.{WantedOf}
 use Rattle.execution.specs.Loads.{Reader, read, Extends}
@@ -7,9 +7,10 @@ use Rattle.execution.specs.Program.{Program}
 use Rattle.execution.specs.Completion.{AnsweredOf}
 use Rattle.execution.specs.Executed.{exec}
 use Rattle.execution.specs.Front.{front, wanting, modes_wanted}
+use Rattle.execution.specs.Reads.{count_read, counted}
+use Rattle.execution.specs.declared.execution_result.ExecutionResult.{ExecutionResult}
 use Rattle.futures.specs.declared.task.Poll.{Poll}
 use Rattle.futures.specs.declared.task.Poll.TheVariants.{Ready, Pending}
-use Rattle.std.specs.declared.alloc.Global.{Global}
 
 -- the text is that of recursive execution, with one load after another answered by the reader
 pub record IsTextOf (text_of : AnsweredOf → List ℕ) (p : Program) (R : Reader)
@@ -23,11 +24,13 @@ pub record CanExecute (loaders : ℕ) (m : MemoryOf) (wants : List WantedOf) : T
   pub enough : loaders ≤ length m.modes
   pub lined_up : modes_wanted wants ≡ m.modes
 
--- Ready with the text of the execution exactly where the front is empty, and the wants are as they were. Else the front was added.
+-- Ready with the text of the execution and the count of its loads exactly where the front is empty, and the wants are as they
+-- were. Else the front was added.
 abbrev pub IsExecuted : (AnsweredOf → List ℕ) → List WantedOf
-    → List WantedOf → Program → MemoryOf → Poll (String Global) → Type 0
-IsExecuted text_of old new p m (Ready text) = (front m.modes p (look m.pairs) ≡ [])
-    × IsTextOf text_of p (read m.modes (look m.pairs)) (string_bytes text) × (new ≡ old)
+    → List WantedOf → Program → MemoryOf → Poll ExecutionResult → Type 0
+IsExecuted text_of old new p m (Ready result) = (front m.modes p (look m.pairs) ≡ [])
+    × IsTextOf text_of p (read m.modes (look m.pairs)) (string_bytes result.text)
+    × (result.loads ≡ counted (count_read p (read m.modes (look m.pairs)))) × (new ≡ old)
 IsExecuted text_of old new p m Pending = (front m.modes p (look m.pairs) ≢ [])
     × (new ≡ wanting old (front m.modes p (look m.pairs)))
 

@@ -9,4 +9,5 @@ pub mod Residual
 pub mod Examples
 pub mod Sessions
 pub mod Logs
+pub mod Reads
 pub mod Executes

@@ -6,12 +6,13 @@ ghost use Rattle.execution.specs.Completion.{AnsweredOf};
 ghost use Rattle.execution.specs.Rounds.{HasLoaders};
 ghost use Rattle.execution.specs.Executes.{CanExecute, IsExecuted, FitsFrom};
 
+use crate::execution_result::ExecutionResult;
 use futures::task::Poll;
 use load_memory::Memory;
 use load_queue::Wants;
 use std::alloc::{AllocError, Global};
 
-/// Something that loads keys and returns a text, as a GraphQL plan does. It is ready over a memory that has everything
+/// Something that loads keys and returns a text, as a GraphQL plan does, and tells how many loads that took. It is ready over a memory that has everything
 /// it needs, and otherwise says exactly which loads are missing.
 ///
 /// `E` is how far an execution of it is. An execution is kept from one memory to the next, if that one has at least the
@@ -49,7 +50,7 @@ pub trait Execute<E> {
         alloc: Global,
         memory: &Memory,
         wants: &mut Wants,
-    ) -> Result<Poll<String>, AllocError>
+    ) -> Result<Poll<ExecutionResult>, AllocError>
         requires can { CanExecute
             (loaders self.now) memory.now wants.old }
         requires fits { fits self.now

@@ -13,7 +13,9 @@
 pub mod count_work;
 pub mod examples;
 pub mod execute;
+pub mod execution_result;
 pub mod law;
 
 pub use count_work::CountWork;
 pub use execute::Execute;
+pub use execution_result::ExecutionResult;

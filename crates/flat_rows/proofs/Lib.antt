@@ -4,3 +4,4 @@ pub mod KeyedItems
 pub mod KeyedLaws
 pub mod PlaceLaws
 pub mod ReplyLaws
+pub mod FirstTexts

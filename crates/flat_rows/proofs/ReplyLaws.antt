@@ -1,10 +1,7 @@
--- Numbers of rows, one key after another, and rows that lie one after another.
-use Rattle.std.proofs.Common.{◌≡◌, ◌≢◌, ◌≤◌, ◌<◌, ◌+◌, ◌*◌, ℕ, zero, suc, get_or, List, [], ◌∷◌, ◌++◌, take, drop, map, length, length-drop, refl, sym, ap, ◌∙◌, arith}
+-- Numbers of rows, one key after another.
+use Rattle.std.proofs.Common.{◌≡◌, ◌≢◌, ◌≤◌, ◌<◌, ◌+◌, ℕ, get_or, List, [], ◌∷◌, ◌++◌, take, drop, map, length, length-drop, refl, sym, ap, ◌∙◌, arith}
 use Rattle.std.proofs.lemmas.List.{drop_more, drop_all, drop-drop, get_or-drop, map_more, append_assoc, append-nil}
-use Rattle.std.proofs.Math.Nat.{mul-le-mul_left, mul_comm, suc-mul, zero-mul}
 use Rattle.std.proofs.lemmas.Bool.{ne_eqb}
-use Rattle.load_memory.specs.Cells.{pieces, beyond}
-use Rattle.load_memory.proofs.PieceLaws.{pieces-more}
 use Rattle.load_memory.specs.Outcomes.{ItemOf}
 use Rattle.flat_rows.specs.Replies.{fault_mark, rows_in, faults_in, total_rows, total_faults, item_said, items_of}
 
@@ -42,47 +39,12 @@ module _ (counts : List ℕ) (i : ℕ) where
     unfolding total_faults
     faults-none = rw (drop_all i counts past) refl
 
--- ---- rows of one width, one after another
-module _ (width : ℕ) where
-  pub times-none : 0 * width ≡ 0
-  times-none = zero-mul width
-
-  pub times-more : (n : ℕ) → (n + 1) * width ≡ n * width + width
-  times-more n =
-      let on : n + 1 ≡ suc n = omega arith in
-      ap (λ k. k * width) on ∙ suc-mul n width
-
-  -- says what n rows take, and what they leave for one more of m
-  pub one-more : (n : ℕ) (m : ℕ) → n < m → n * width + width ≤ m * width
-  one-more n m lt =
-      let low : n + 1 ≤ m = omega (arith, lt) in let most = mul-le-mul_left width low in
-      let left = mul_comm width (n + 1) in let right = mul_comm width m in let more = times-more n in
-      omega (arith, most, left, right, more)
-
-  pub beyond-drop : (n : ℕ) (cells : List (List ℕ)) → beyond width n cells ≡ drop (n * width) cells
-  unfolding beyond
-  beyond-drop zero cells = let none : zero * width ≡ 0 = zero-mul width in rw none refl
-  beyond-drop (suc n) cells =
-      let more : suc n * width ≡ width + n * width = let e = suc-mul n width in omega (arith, e) in
-      beyond-drop n (drop width cells) ∙ drop-drop (n * width) width cells ∙ ap (λ k. drop k cells) (sym more)
-
-  -- the next row of texts
-  pub row-more : (n : ℕ) (texts : List (List ℕ)) → pieces width n (drop width texts) ++ take width (drop (width + n * width) texts) ∷ [] ≡ pieces width (n + 1) (drop width texts)
-  row-more n texts =
-      let on : n + 1 ≡ suc n = omega arith in
-      let at : beyond width n (drop width texts) ≡ drop (width + n * width) texts = beyond-drop n (drop width texts) ∙ drop-drop (n * width) width texts in
-      sym (ap (λ k. pieces width k (drop width texts)) on ∙ pieces-more width n (drop width texts) ∙ ap (λ rest. pieces width n (drop width texts) ++ take width rest ∷ []) at)
-
 -- the next of the rows from a place on
 pub map-next : {X Y : Type 0} (f : X → Y) (at i : ℕ) (xs : List X) (d : X) → at + i < length xs → map f (take i (drop at xs)) ++ f (get_or xs (at + i) d) ∷ [] ≡ map f (take (i + 1) (drop at xs))
 map-next f at i xs d lt =
     let size = length-drop at xs in
     let here : get_or (drop at xs) i d ≡ get_or xs (at + i) d = get_or-drop at xs i d in
     sym (map_more f (drop at xs) i d (omega (arith, size, lt)) ∙ ap (λ x. map f (take i (drop at xs)) ++ f x ∷ []) here)
-
-pub no-piece : (width : ℕ) (cells : List (List ℕ)) → pieces width 0 cells ≡ []
-unfolding pieces
-no-piece width cells = refl
 
 -- ---- the items of the keys, one after another
 module _ (counts : List ℕ) (i : ℕ) (lt : i < length counts) where

@@ -8,7 +8,7 @@ ghost use Rattle.flat_rows.specs.Keyed.{AreAsked, ArePlaces, AreRows, CellsFault
 ghost use Rattle.flat_rows.specs.Keyed.{by_of, cells_wanted, keyed_items, laid_rows, replied_items, rows_in_sheet, rows_laid, texts_laid, with_faults};
 
 use crate::fault::FlatFault;
-use crate::reply::{Totals, lacks_column, share_sheet, sheet_of, wanted};
+use crate::reply::{Totals, lacks_column, share_sheet, wanted};
 use crate::texts::FlatTexts;
 use load_memory::{CacheKey, Item, Key, KeyMode, KeyRef, Row, Rows, Sheet, cache_key};
 use std::alloc::{AllocError, Global};
@@ -360,7 +360,7 @@ impl<'h> KeyedReply<'h> {
         ensures fault { IfErr result (KeyedReplyFault
             (by_of by.now) (map key_of keys.now) (laid_rows self.now)) }
     {
-        let sheet = sheet_of(alloc, self.columns, self.rows, texts)?;
+        let sheet = texts.sheet(alloc, self.columns, self.rows)?;
         let Some(places) = key_places(&sheet, by.columns) else {
             return Err(KeyedFault::NoKeyColumn);
         };

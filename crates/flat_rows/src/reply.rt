@@ -8,7 +8,7 @@ ghost use Rattle.flat_rows.specs.Replies.{LacksColumn, faults_in, item_said, ite
 
 use crate::fault::FlatFault;
 use crate::texts::FlatTexts;
-use load_memory::{Item, Row, Rows, Sheet, SheetBuilder};
+use load_memory::{Item, Row, Rows, Sheet};
 use std::alloc::{AllocError, Global};
 use std::sync::Arc;
 
@@ -55,61 +55,6 @@ fn totals_of(counts: &[u32]) -> Option<Totals>
         }
     }
     Some(Totals { rows, faults })
-}
-
-// A sheet with the first texts as its columns.
-fn with_columns(
-    alloc: Global,
-    columns: usize,
-    texts: &FlatTexts<'_>,
-) -> Result<SheetBuilder, AllocError>
-    requires { columns ≤ length texts.now }
-    ensures { IfOk result (λ b.
-        b ≡ draft_with_names (take columns texts.now)) }
-{
-    let mut sheet = SheetBuilder::new(alloc);
-    for i in 0..columns {
-        sheet.add_column(texts.get(i))?;
-    }
-    Ok(sheet)
-}
-
-// Adds a row of the texts from a place on.
-fn add_row(sheet: &mut SheetBuilder, texts: &FlatTexts<'_>, at: usize) -> Result<(), AllocError>
-    requires none { sheet.old.begun ≡ [] }
-    requires within { at + length sheet.old.names
-        ≤ length texts.now }
-    requires room { length sheet.old.rows + 1 < 2 ^ 32 }
-    ensures { OnOk result
-        (sheet.new ≡ draft_with_row sheet.old (take (length sheet.old.names) (drop at texts.now))) }
-{
-    let (width, _texts) = (sheet.width(), texts.len());
-    for i in 0..width {
-        sheet.add_field(texts.get(at + i))?;
-    }
-    sheet.end_row();
-    Ok(())
-}
-
-// The sheet of `columns` columns and `rows` rows.
-pub(crate) fn sheet_of(
-    alloc: Global,
-    columns: usize,
-    rows: u32,
-    texts: &FlatTexts<'_>,
-) -> Result<Sheet, AllocError>
-    requires { columns + rows * columns ≤ length texts.now }
-    ensures { IfOk result
-        (λ s. s ≡ sheet_said columns rows texts.now) }
-{
-    let _texts = texts.len();
-    let mut sheet = with_columns(alloc, columns, texts)?;
-    let mut at = columns;
-    for _ in 0..rows {
-        add_row(&mut sheet, texts, at)?;
-        at += columns;
-    }
-    Ok(sheet.finish())
 }
 
 // The sheet, to be shared by its rows.
@@ -261,7 +206,7 @@ impl FlatReply<'_> {
     {
         let texts = FlatTexts::new(self.bytes, self.ends)?;
         let totals = check_counts(self.columns, self.rows, texts.len())?;
-        let sheet = sheet_of(alloc, self.columns, totals.rows, &texts)?;
+        let sheet = texts.sheet(alloc, self.columns, totals.rows)?;
         let sheet = share_sheet(alloc, sheet)?;
         let faults = texts.len() - totals.faults;
         Ok(items(alloc, self.rows, &sheet, &texts, faults)?)

@@ -1,9 +1,12 @@
 //! Texts in one buffer.
-ghost use Rattle.std.specs.Prelude.{◌≡◌, ◌<◌, ◌↔◌, IfOk, IfErr, IsTrue, IsUtf8, get_or, length, []};
+ghost use Rattle.std.specs.Prelude.{◌≡◌, ◌<◌, ◌≤◌, ◌+◌, ◌*◌, ◌↔◌, IfOk, IfErr, IsTrue, IsUtf8, get_or, length, []};
 ghost use Rattle.load_memory.specs.Cells.{IsCut, cut, start_at};
 ghost use Rattle.flat_rows.specs.Faults.{TextFault};
+ghost use Rattle.flat_rows.specs.Replies.{sheet_said};
 
 use crate::fault::FlatFault;
+use load_memory::Sheet;
+use std::alloc::{AllocError, Global};
 use std::marker::Model;
 use std::str;
 
@@ -24,7 +27,7 @@ fn rises(text: &str, ends: &[u32]) -> bool
 
 // Returns where the text with this index starts.
 fn start_of(ends: &[u32], i: usize) -> usize
-    requires { i < length ends.now }
+    requires { i ≤ length ends.now }
     ensures { result ≡ start_at 0 ends.now i }
 {
     if i == 0 { 0 } else { ends[i - 1] as usize }
@@ -36,6 +39,25 @@ fn end_of(ends: &[u32], i: usize) -> usize
     ensures { result ≡ get_or ends.now i 0 }
 {
     ends[i] as usize
+}
+
+// The sheet of the first texts that end in a text at these places.
+fn sheet_of(
+    alloc: Global,
+    columns: usize,
+    rows: u32,
+    text: &str,
+    ends: &[u32],
+) -> Result<Sheet, AllocError>
+    requires cut { IsCut text.now 0 ends.now }
+    requires enough { columns + rows * columns ≤ length ends.now }
+    ensures { IfOk result
+        (λ s. s ≡ sheet_said columns rows (cut text.now 0 ends.now)) }
+{
+    let _texts = ends.len();
+    let count = columns + rows as usize * columns;
+    let end = start_of(ends, count);
+    Sheet::of_texts(alloc, columns, rows, &text[..end], &ends[..count])
 }
 
 /// Texts in one buffer, each from where the one before it ends.
@@ -99,5 +121,13 @@ impl<'h> FlatTexts<'h> {
         let start = start_of(self.ends, i);
         let end = end_of(self.ends, i);
         &self.text[start..end]
+    }
+
+    /// The sheet of the first texts: the names of `columns` columns, then the fields of `rows` rows, row by row.
+    pub fn sheet(&self, alloc: Global, columns: usize, rows: u32) -> Result<Sheet, AllocError>
+        requires { columns + rows * columns ≤ length self.now }
+        ensures { IfOk result (λ s. s ≡ sheet_said columns rows self.now) }
+    {
+        sheet_of(alloc, columns, rows, self.text, self.ends)
     }
 }

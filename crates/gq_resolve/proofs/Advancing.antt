@@ -1,11 +1,12 @@
 -- Lemmas on how far an execution comes: what waits is what the plan still asks.
 use Rattle.std.specs.Arc.{arc_value}
-use Rattle.std.proofs.Common.{◌≡◌, ℕ, ◌<◌, true, false, List, [], ◌∷◌, ◌++◌, Vec, Global, length, refl, sym, ap, subst, ◌∙◌, arith, append_assoc, append-nil, length-append, codes}
-use Rattle.std.specs.List.{flat_map}
+use Rattle.std.proofs.Common.{◌≡◌, ◌≢◌, ℕ, ◌<◌, ◌+◌, true, false, List, [], ◌∷◌, ◌++◌, Vec, Global, length, refl, sym, ap, subst, ◌∙◌, arith, append_assoc, append-nil, length-append, codes}
+use Rattle.std.specs.List.{flat_map, sum_by}
 use Rattle.std.proofs.lemmas.Bool.{and_parts}
 use Rattle.std.proofs.lemmas.Grind.{flat_map-append}
 use Rattle.std.proofs.lemmas.List.{flat_map_more}
 use Rattle.std.proofs.lemmas.List.Folds.{list_all-append}
+use Rattle.std.proofs.lemmas.List.Sums.{sum_by-append}
 use Rattle.std.proofs.Math.Seq.{get_or-append_seam}
 use Rattle.json.specs.Token.{begin_object, end_object, key}
 use Rattle.json.specs.Json.{object, member, no_members}
@@ -16,6 +17,7 @@ use Rattle.execution.specs.Loads.{Load, Reader, AnswersMore}
 use Rattle.execution.specs.Program.{ObjectOf, Key, FieldPosition, Program, Under, Programs, Tree, tree}
 use Rattle.execution.specs.Completion.{ErrorOf, top_position}
 use Rattle.execution.specs.Executed.{response, completed}
+use Rattle.execution.specs.Reads.{count_read, counted}
 use Rattle.execution.specs.Residual.{unanswered}
 use Rattle.execution.proofs.Fitting.{more-self}
 use Rattle.gq_check.specs.Plans.{PlanOf}
@@ -25,10 +27,10 @@ use Rattle.plan_walk.specs.Groups.{AreKnown, members_seen, Makes, AreMade, AreRi
 use Rattle.plan_walk.specs.Puts.{Put, Begins, Ends, Enters, View, puts}
 use Rattle.plan_walk.specs.Positions.{onward_of}
 use Rattle.plan_walk.specs.Reading.{lookup}
-use Rattle.gq_resolve.specs.Suspended.{IsRooted, MayGoOn, load_of, loads_of, GoesOver, Advanced}
+use Rattle.gq_resolve.specs.Suspended.{IsRooted, MayGoOn, load_of, loads_of, GoesOver, Searched, Advanced}
 use Rattle.plan_walk.specs.Walks.{Goes}
 use Rattle.gq_resolve.specs.Composing.{puts-more, within-rises, asks-narrow}
-use Rattle.gq_resolve.specs.Written.{is_plain, put_tokens, asks, put_asks, thinned, left_of, all_asks, AreWithin, IsWithin, IsWriting, Puts}
+use Rattle.gq_resolve.specs.Written.{is_plain, put_tokens, put_reads, asks, put_asks, thinned, left_of, all_asks, AreWithin, IsWithin, IsWriting, Puts}
 use Rattle.plan_walk.specs.declared.loading_fields.LoadingField.{LoadingField}
 use Rattle.plan_walk.specs.declared.loading_fields.Member.{Member}
 use Rattle.plan_walk.specs.declared.waiting.BlockedPosition.{BlockedPosition}
@@ -38,7 +40,7 @@ use Rattle.gq_resolve.specs.declared.advance.FinishedWalk.{FinishedWalk}
 use Rattle.plan_walk.specs.declared.walk.Progress.{Progress}
 use Rattle.plan_walk.proofs.Grouping.{covers-view, makes-more}
 use Rattle.plan_walk.proofs.Touring.{Putting, Below, Laws, goes-then, goes-as}
-use Rattle.gq_resolve.proofs.Putting.{puts_ask, puts_tokens, asks-puts, waits-puts, IsPlain, plain-puts}
+use Rattle.gq_resolve.proofs.Putting.{puts_ask, puts_tokens, asks-puts, waits-puts, puts-read, IsPlain, plain-puts}
 
 -- ---- roots
 
@@ -80,8 +82,8 @@ loads-asked v (b ∷ bs) = ap (λ ls. load_of b ∷ ls) (loads-asked v bs)
 -- nothing waited, and what is put asks what the plan asks, over a larger memory too
 left-over : (plan : PlanOf) (m : MemoryOf) (r : RootObject) (ps : List Put) (a b : Output) → IsRooted plan r → a.blocked ≡ [] → Puts (view_of plan r.groups.items) ps a b
     → ((Q : Reader) → AnswersMore (lookup m) Q → thinned [] (puts_ask Q ps) ≡ thinned [] (asks (plan_program plan) Q)) → thinned [] (puts_ask unanswered ps) ≡ thinned [] (asks (plan_program plan) (lookup m))
-    → (IsWriting b → b.writer.tokens ≡ json_tokens (answered_json (completed (tree (plan_program plan) (lookup m))))) → Advanced plan m (record { rooted = r; out = b })
-left-over plan m r ps a b rooted none put later now written =
+    → Searched plan m (record { rooted = r; out = b })
+left-over plan m r ps a b rooted none put later now =
     let v : View = view_of plan r.groups.items in
     let asked : (Q : Reader) → thinned [] (all_asks v b.blocked Q) ≡ thinned [] (puts_ask Q ps) = λ Q. put.asked Q ∙ ap (λ xs. thinned (thinned [] (all_asks v xs Q)) (puts_ask Q ps)) none in
     record {
@@ -91,8 +93,11 @@ left-over plan m r ps a b rooted none put later now written =
         ask = λ Q more. asked Q ∙ later Q more;
       };
       lacks = ap (thinned []) (sym (loads-asked v b.blocked)) ∙ asked unanswered ∙ now;
-      written = written;
     }
+
+-- something waits after a search
+pub still-waits : (plan : PlanOf) (m : MemoryOf) (w : FinishedWalk Output) → w.out.blocked ≢ [] → Searched plan m w → Advanced plan m w
+still-waits plan m w some s = record { searched = s; loads = λ none. absurd (some none); written = λ writing. absurd (some writing.whole) }
 
 -- ---- from the root
 
@@ -106,6 +111,14 @@ answer_puts plan m = Begins ObjectOf ∷ Enters ObjectOf data_position ∷ (puts
 
 answer-asks : (plan : PlanOf) (m : MemoryOf) (Q : Reader) → puts_ask Q (answer_puts plan m) ≡ puts_ask Q (puts false (plan_program plan) (lookup m))
 answer-asks plan m Q = flat_map-append (put_asks Q) (puts false (plan_program plan) (lookup m)) (Ends ObjectOf ∷ []) ∙ append-nil (puts_ask Q (puts false (plan_program plan) (lookup m)))
+
+-- the loads of an answer were counted
+answer-reads : (plan : PlanOf) (m : MemoryOf) (v : View) (a b : Output) → a.loads ≡ 0 → Puts v (answer_puts plan m) a b → counted b.loads ≡ counted (count_read (plan_program plan) (lookup m))
+answer-reads plan m v a b none put =
+    let inner : List Put = puts false (plan_program plan) (lookup m) in
+    let all : sum_by put_reads (answer_puts plan m) ≡ count_read (plan_program plan) (lookup m) + 0 =
+    sum_by-append put_reads inner (Ends ObjectOf ∷ []) ∙ ap (λ n. n + 0) (puts-read false (plan_program plan) (lookup m)) in
+    put.loads ∙ ap counted (omega (arith, none, all))
 
 -- the tokens of an answer that was written
 answer-tokens : (plan : PlanOf) (m : MemoryOf) (v : View) (a b : Output) → a.writer.tokens ≡ [] → Puts v (answer_puts plan m) a b → IsWriting b → b.writer.tokens ≡ json_tokens (answered_json (completed (tree (plan_program plan) (lookup m))))
@@ -121,9 +134,9 @@ answer-tokens plan m v a b none put writing =
     ∙ ap (λ ts. begin_object ∷ key (codes "data") ∷ (ts ++ end_object ∷ [])) here.tokens)
 
 -- the whole answer was put, one thing after another
-pub answer-written : (plan : PlanOf) (m : MemoryOf) (old : RootObject) (w : FinishedWalk Output) (a b c d : Output) → a.blocked ≡ [] → a.writer.tokens ≡ [] → ((v : View) → Puts v (Begins ObjectOf ∷ []) a b) → ((v : View) → Puts v (Enters ObjectOf data_position ∷ []) b c)
+pub answer-written : (plan : PlanOf) (m : MemoryOf) (old : RootObject) (w : FinishedWalk Output) (a b c d : Output) → a.blocked ≡ [] → a.writer.tokens ≡ [] → a.loads ≡ 0 → ((v : View) → Puts v (Begins ObjectOf ∷ []) a b) → ((v : View) → Puts v (Enters ObjectOf data_position ∷ []) b c)
     → (IsWithin (length old.groups.items) c → GoesOver Puts plan m c w) → ((v : View) → Puts v (Ends ObjectOf ∷ []) w.out d) → Advanced plan m (record { rooted = w.rooted; out = d })
-answer-written plan m old w a b c d none empty begun entered over ended =
+answer-written plan m old w a b c d none empty zero begun entered over ended =
     let v : View = view_of plan w.rooted.groups.items in
     let at : View = view_of plan old.groups.items in
     let over' : GoesOver Puts plan m c w = over ((entered at).within ((begun at).within (subst (AreWithin at.count) (sym none) (λ k d lt. absurd (omega (arith, lt)))))) in
@@ -131,19 +144,22 @@ answer-written plan m old w a b c d none empty begun entered over ended =
     let put : Puts v (answer_puts plan m) a d =
     puts-more v (Begins ObjectOf ∷ []) (Enters ObjectOf data_position ∷ (inner ++ Ends ObjectOf ∷ [])) a b d (begun v)
     (puts-more v (Enters ObjectOf data_position ∷ []) (inner ++ Ends ObjectOf ∷ []) b c d (entered v) (puts-more v inner (Ends ObjectOf ∷ []) c w.out d over'.put (ended v))) in
-    left-over plan m w.rooted (answer_puts plan m) a d over'.rooted none put (λ Q more. ap (thinned []) (answer-asks plan m Q ∙ asks-puts false (plan_program plan) (lookup m) Q more))
-    (ap (thinned []) (answer-asks plan m unanswered ∙ waits-puts false (plan_program plan) (lookup m))) (answer-tokens plan m v a d empty put)
+    record {
+      searched = left-over plan m w.rooted (answer_puts plan m) a d over'.rooted none put (λ Q more. ap (thinned []) (answer-asks plan m Q ∙ asks-puts false (plan_program plan) (lookup m) Q more))
+          (ap (thinned []) (answer-asks plan m unanswered ∙ waits-puts false (plan_program plan) (lookup m)));
+      loads = λ whole. answer-reads plan m v a d zero put;
+      written = answer-tokens plan m v a d empty put;
+    }
 
 -- where nothing waits, nothing waits at a later group
 pub none-waits : (n : ℕ) (a : Output) → a.blocked ≡ [] → IsWithin n a
 none-waits n a none = subst (AreWithin n) (sym none) (λ k d lt. absurd (omega (arith, lt)))
 
--- the whole plan was put, and nothing was written
-pub root-searched : (plan : PlanOf) (m : MemoryOf) (w : FinishedWalk Output) (a : Output) → a.blocked ≡ [] → a.is_plain ≡ false → GoesOver Puts plan m a w → Advanced plan m w
-root-searched plan m w a none blind over =
+-- the whole plan was put
+pub root-searched : (plan : PlanOf) (m : MemoryOf) (w : FinishedWalk Output) (a : Output) → a.blocked ≡ [] → GoesOver Puts plan m a w → Searched plan m w
+root-searched plan m w a none over =
     left-over plan m w.rooted (puts false (plan_program plan) (lookup m)) a w.out over.rooted none over.put
     (λ Q more. ap (thinned []) (asks-puts false (plan_program plan) (lookup m) Q more)) (ap (thinned []) (waits-puts false (plan_program plan) (lookup m)))
-    (λ w. let seen : false ≡ true = sym blind ∙ (over.put.written w).0.plain in absurd (cc seen))
 
 -- ---- positions that go on
 
@@ -188,10 +204,10 @@ resumed-one {m = m} {all = all} {after = after} {start = start} {now = now} b as
           ∙ flat_map_more (λ (x : BlockedPosition). puts false (left_of v x) (lookup m)) [] h.before b);
     }
 
--- all of them went on, and nothing was written
-pub all-resumed : {most : ℕ} {plan : PlanOf} {m : MemoryOf} {all left : List BlockedPosition} {start now : Progress Output} (r : RootObject) → r.groups ≡ start.groups → start.out.blocked ≡ [] → start.out.is_plain ≡ false → left ≡ []
-    → AreResumed most plan m all left start now → MayGoOn plan m r all → Advanced plan m (record { rooted = record { members = r.members; row = r.row; groups = now.groups }; out = now.out })
-all-resumed {plan = plan} {m = m} {all = all} {start = start} {now = now} r same none blind ended h may =
+-- all of them went on
+pub all-resumed : {most : ℕ} {plan : PlanOf} {m : MemoryOf} {all left : List BlockedPosition} {start now : Progress Output} (r : RootObject) → r.groups ≡ start.groups → start.out.blocked ≡ [] → left ≡ []
+    → AreResumed most plan m all left start now → MayGoOn plan m r all → Searched plan m (record { rooted = record { members = r.members; row = r.row; groups = now.groups }; out = now.out })
+all-resumed {plan = plan} {m = m} {all = all} {start = start} {now = now} r same none ended h may =
     let v : View = view_of plan now.groups.items in
     let old : View = view_of plan r.groups.items in
     let R : Reader = lookup m in
@@ -206,4 +222,3 @@ all-resumed {plan = plan} {m = m} {all = all} {start = start} {now = now} r same
     left-over plan m (record { members = r.members; row = r.row; groups = now.groups }) (resumed v R all) start.out now.out (rooted-more plan r now.groups grows may.rooted) none put
     (λ Q more. ap (thinned []) (resumed-asked (λ p. asks p Q) v R Q all (λ p. asks-puts false p R Q more) ∙ alike Q) ∙ may.ask Q more)
     (ap (thinned []) (resumed-asked (λ p. asks p R) v R unanswered all (λ p. waits-puts false p R) ∙ alike R) ∙ may.ask R (more-self R))
-    (λ w. let seen : false ≡ true = sym blind ∙ (put.written w).0.plain in absurd (cc seen))

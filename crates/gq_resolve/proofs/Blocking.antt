@@ -51,14 +51,15 @@ again v R b (x ∷ xs) noted h =
     ap (λ ls. thinned ls (asks (left_of v b) R)) (thinned-append noted first others) ∙ step ∙ sym (thinned-append noted first others)
 
 -- a position that is noted waits, and nothing else is put
-waits-noted : (v : View) (b : BlockedPosition) (old new : Output) → b.onward.group < v.count → new.blocked ≡ with_position old.blocked b → Puts v (Waits (left_of v b) ∷ []) old new
-waits-noted v b old new lt is = record {
+waits-noted : (v : View) (b : BlockedPosition) (old new : Output) → b.onward.group < v.count → new.loads ≡ old.loads → new.blocked ≡ with_position old.blocked b → Puts v (Waits (left_of v b) ∷ []) old new
+waits-noted v b old new lt read is = record {
   first = noted (λ bs. (rest : List BlockedPosition) × (bs ≡ ks ++ rest)) (λ e. ([], sym (append-nil ks))) (b ∷ [], refl);
   within = λ h. noted (AreWithin v.count) (λ e. h) (All-push (λ (x : BlockedPosition). x.onward.group < v.count) ks b h lt);
   asked = λ R. noted (λ bs. thinned [] (all_asks v bs R) ≡ thinned (thinned [] (all_asks v ks R)) (asks (left_of v b) R ++ []))
       (λ e. sym (again v R b ks [] e) ∙ ap (thinned (thinned [] (all_asks v ks R))) (sym (append-nil (asks (left_of v b) R))))
       (ap (thinned []) (sym (flat_map_more (λ (x : BlockedPosition). asks (left_of v x) R) [] ks b)) ∙ thinned-append [] (all_asks v ks R) (asks (left_of v b) R)
       ∙ ap (thinned (thinned [] (all_asks v ks R))) (sym (append-nil (asks (left_of v b) R))));
+  loads = omega (arith, read);
   written = λ w. absurd (noted (λ bs. bs ≡ [] → ⊥) (λ e none. let f : false ≡ true = sym (ap (list_any (is_position b)) none) ∙ e in cc f) (λ none. omega (arith, length-append ks (b ∷ []), ap length none)) w.whole);
 }
   where
@@ -69,13 +70,13 @@ waits-noted v b old new lt is = record {
     noted P here more = subst P (sym is) (cond_both (list_any (is_position b) ks) ks (ks ++ b ∷ []) P here (λ e. more))
 
 -- by its load
-waits-put : (v : View) (b : BlockedPosition) (key : KeyOf) (old new : Output) → b.onward.group < v.count → key_of b.key ≡ key → new.blocked ≡ with_position old.blocked b → Puts v (Waits (waiting v (onward_of b.onward) b.loader key) ∷ []) old new
-waits-put v b key old new lt same is = subst (λ (k : KeyOf). Puts v (Waits (waiting v (onward_of b.onward) b.loader k) ∷ []) old new) same (waits-noted v b old new lt is)
+waits-put : (v : View) (b : BlockedPosition) (key : KeyOf) (old new : Output) → b.onward.group < v.count → key_of b.key ≡ key → new.loads ≡ old.loads → new.blocked ≡ with_position old.blocked b → Puts v (Waits (waiting v (onward_of b.onward) b.loader key) ∷ []) old new
+waits-put v b key old new lt same read is = subst (λ (k : KeyOf). Puts v (Waits (waiting v (onward_of b.onward) b.loader k) ∷ []) old new) same (waits-noted v b old new lt read is)
 
 -- a position that waits and was noted
-pub noted-put : (v : View) (onward : Onward) (loader : ℕ) (key : KeyOf) (old new : Output) → onward.group < v.count → IsNoted onward loader key old.blocked new.blocked
+pub noted-put : (v : View) (onward : Onward) (loader : ℕ) (key : KeyOf) (old new : Output) → onward.group < v.count → new.loads ≡ old.loads → IsNoted onward loader key old.blocked new.blocked
     → Puts v (Waits (waiting v (onward_of onward) loader key) ∷ []) old new
-noted-put v onward loader key old new lt n =
+noted-put v onward loader key old new lt read n =
     subst (λ (o : Onward). Puts v (Waits (waiting v (onward_of o) loader key) ∷ []) old new) n.goes_on
     (subst (λ (l : ℕ). Puts v (Waits (waiting v (onward_of n.position.onward) l key) ∷ []) old new) n.loads.0
-    (waits-put v n.position key old new (subst (λ (o : Onward). o.group < v.count) (sym n.goes_on) lt) n.loads.1 n.noted))
+    (waits-put v n.position key old new (subst (λ (o : Onward). o.group < v.count) (sym n.goes_on) lt) n.loads.1 read n.noted))

@@ -4,6 +4,7 @@ use Rattle.std.proofs.lemmas.List.{map-append, length-map}
 use Rattle.load_memory.specs.Outcomes.{OutcomeOf}
 use Rattle.execution.specs.Loads.{Load, Reader, AnswersMore}
 use Rattle.execution.specs.Program.{Program, Is, Read, Under, Programs, End, With, Tree, Trees, Over, And, tree, trees, needs, all_needs}
+use Rattle.execution.specs.Reads.{count_read}
 use Rattle.execution.specs.Completion.{is_open, any_open}
 use Rattle.execution.proofs.Monotone.{front-open}
 use Rattle.load_memory.specs.Pairs.{MemoryOf, look}
@@ -11,7 +12,6 @@ use Rattle.gq_check.specs.Plans.{PlanOf}
 use Rattle.plan_program.specs.PlanPrograms.{plan_program}
 use Rattle.gq_resolve.specs.Evaluated.{front_over}
 use Rattle.plan_walk.specs.Reading.{reader}
-use Rattle.gq_resolve.specs.Counting.{count_read, plan_read}
 use Rattle.gq_resolve.specs.KeyByKey.{KeyCall, called_loads, IsKeyByKey, AreKeyByKey, AreGivenBy, MakesCalls}
 
 given-parts : (R : Reader) (xs ys : List KeyCall) → AreGivenBy R (xs ++ ys) → AreGivenBy R xs × AreGivenBy R ys
@@ -100,5 +100,5 @@ as-many p R Q more whole =
     ∙ read-so-often p R some.0 (calls-read p R some.0 (tree p R) some.1 some.2).0
 
 -- of a plan of which the memory lacks nothing
-pub plan-makes-calls : (plan : PlanOf) (m : MemoryOf) → front_over m (plan_program plan) ≡ [] → MakesCalls (plan_program plan) (reader m) (plan_read plan m)
+pub plan-makes-calls : (plan : PlanOf) (m : MemoryOf) → front_over m (plan_program plan) ≡ [] → MakesCalls (plan_program plan) (reader m) (count_read (plan_program plan) (reader m))
 plan-makes-calls plan m none = makes-calls (plan_program plan) (reader m) ((front-open m.modes (plan_program plan) (look m.pairs)).0 none)

@@ -14,7 +14,6 @@ pub mod Rooms
 pub mod Completing
 pub mod Limiting
 pub mod KeyByKey
-pub mod ReadingOn
 pub mod Working
 pub mod PlanCrossing
 pub mod Crossing

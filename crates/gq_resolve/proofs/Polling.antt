@@ -1,5 +1,5 @@
 -- Lemmas on what a poll answers, and that it may go on over each larger memory.
-use Rattle.std.proofs.Common.{◌≡◌, ◌≢◌, ◌⊎◌, ◌≤◌, false, List, [], ◌∷◌, length, inl, inr, refl, sym, ap, ◌∙◌, subst, Some}
+use Rattle.std.proofs.Common.{◌≡◌, ◌≢◌, ◌⊎◌, ◌<◌, ◌≤◌, ◌^◌, ℕ, arith, false, List, [], ◌∷◌, length, inl, inr, refl, sym, ap, ◌∙◌, subst, Some}
 use Rattle.load_memory.specs.Pairs.{MemoryOf}
 use Rattle.load_queue.specs.Wanted.{WantedOf}
 use Rattle.execution.specs.Loads.{Load}
@@ -8,6 +8,7 @@ use Rattle.execution.specs.Completion.{AnsweredOf, is_open}
 use Rattle.execution.specs.Executed.{completed, exec}
 use Rattle.execution.specs.Executes.{CanExecute, GrowsTo}
 use Rattle.execution.specs.Front.{wanting}
+use Rattle.execution.specs.Reads.{count_read, counted}
 use Rattle.execution.specs.Residual.{unanswered}
 use Rattle.execution.proofs.Fitting.{held-rest}
 use Rattle.execution.proofs.Monotone.{exec-whole}
@@ -31,12 +32,12 @@ use Rattle.plan_walk.proofs.Lookups.{lookup-more}
 -- positions that are kept fit each larger memory, and so does a root
 pub still-fits : (plan : PlanOf) (m n : MemoryOf) (w : FinishedWalk Output) (waiting : List BlockedPosition) → Advanced plan m w → (waiting ≡ []) ⊎ (waiting ≡ w.out.blocked) → GrowsTo m n
     → FitsWaiting plan n w.rooted waiting
-still-fits plan m n w [] a h grown = a.goes_on.rooted
+still-fits plan m n w [] a h grown = a.searched.goes_on.rooted
 still-fits plan m n w (b ∷ bs) a (inl none) grown = absurd (cc none)
 still-fits plan m n w (b ∷ bs) a (inr all) grown = rw all (record {
-  rooted = a.goes_on.rooted;
-  within = a.goes_on.within;
-  ask = λ R more. a.goes_on.ask R (λ load outcome e. more load outcome (lookup-more m n grown load outcome e));
+  rooted = a.searched.goes_on.rooted;
+  within = a.searched.goes_on.within;
+  ask = λ R more. a.searched.goes_on.ask R (λ load outcome e. more load outcome (lookup-more m n grown load outcome e));
 })
 
 -- where none is kept, an execution begins at its root
@@ -61,10 +62,14 @@ lookup-asks plan m le = sym (needs-rest (plan_program plan) (lookup m)) ∙ ap (
 pub lookup-tree : (plan : PlanOf) (m : MemoryOf) → length plan.bindings.loaders ≤ length m.modes → tree (plan_program plan) (lookup m) ≡ tree (plan_program plan) (reader m)
 lookup-tree plan m le = sym (held-rest (plan_program plan) (lookup m)) ∙ ap (λ q. tree q unanswered) (plan-same plan m le).1 ∙ held-rest (plan_program plan) (reader m)
 
+-- the loads that are read are counted as over the memory
+pub loads-counted : (plan : PlanOf) (m : MemoryOf) (loads : ℕ) → length plan.bindings.loaders ≤ length m.modes → loads < 2 ^ 64 → counted loads ≡ counted (count_read (plan_program plan) (lookup m)) → loads ≡ counted (count_read (plan_program plan) (reader m))
+loads-counted plan m loads enough small is = let same : count_read (plan_program plan) (lookup m) ≡ count_read (plan_program plan) (reader m) = ap (λ (ls : List Load). length ls) (plan-same plan m enough).0 in omega (arith, small, is, same)
+
 module _ (plan : PlanOf) (m : MemoryOf) (old : List WantedOf) (w : FinishedWalk Output) (can : CanExecute (length plan.bindings.loaders) m old) (a : Advanced plan m w) where
   -- the loads of what waits are those that are missing, each once
   same-loads : thinned [] (loads_of w.out.blocked) ≡ thinned [] (lacking plan m)
-  same-loads = a.lacks ∙ ap (thinned []) (lookup-asks plan m can.enough)
+  same-loads = a.searched.lacks ∙ ap (thinned []) (lookup-asks plan m can.enough)
 
   -- something waits, and the front was added
   pub front-added : (new : List WantedOf) → (w.out.blocked ≡ [] → ⊥) → new ≡ wanting old (loads_of w.out.blocked) → (front_over m (plan_program plan) ≢ []) × (new ≡ wanting old (front_over m (plan_program plan)))

@@ -1,10 +1,11 @@
 -- Lemmas on what a program puts over a memory: what it asks over larger ones, and its text.
-use Rattle.std.proofs.Common.{◌≡◌, Bool, true, false, ◌&&◌, if◌then◌else◌, List, [], ◌∷◌, ◌++◌, refl, sym, ap, ◌∙◌, subst, append_assoc, append-nil, decimal, Option, Some, None}
-use Rattle.std.specs.List.{list_all, flat_map}
+use Rattle.std.proofs.Common.{◌≡◌, ◌+◌, ℕ, zero, suc, Bool, true, false, ◌&&◌, if◌then◌else◌, List, [], ◌∷◌, ◌++◌, length, length-append, refl, sym, ap, ◌∙◌, subst, arith, append_assoc, append-nil, decimal, Option, Some, None}
+use Rattle.std.specs.List.{list_all, flat_map, sum_by}
 use Rattle.std.proofs.Math.Bool.{and-false}
 use Rattle.std.proofs.lemmas.Bool.{and_parts}
 use Rattle.std.proofs.lemmas.Grind.{flat_map-append}
 use Rattle.std.proofs.lemmas.List.Folds.{list_all-append}
+use Rattle.std.proofs.lemmas.List.Sums.{sum_by-append}
 use Rattle.json.specs.Token.{Token, begin_object, begin_array, key}
 use Rattle.json.specs.Tree.{json_tokens, items_tokens, members_tokens}
 use Rattle.text_place.specs.declared.place.Place.{Place}
@@ -14,11 +15,15 @@ use Rattle.execution.specs.Program.{Value, Null, Fault, Kind, ListOf, ObjectOf, 
 use Rattle.execution.specs.Completion.{ResponseOf, ResponsesOf, Responding, NullResponse, Holding, ErrorOf}
 use Rattle.execution.specs.Executed.{nulls, pulls_down, response, responses, errors as errors_at, all_errors}
 use Rattle.execution.specs.Front.{missing}
+use Rattle.execution.specs.Reads.{count_read}
 use Rattle.execution.specs.Residual.{rest, all_rest, unanswered}
 use Rattle.execution.proofs.Fitting.{missing-append, asks-rest}
 use Rattle.gq_resolve.specs.Answered.{json_of, items_json, members_json}
-use Rattle.plan_walk.specs.Puts.{Put, Ends, puts, all_puts}
-use Rattle.gq_resolve.specs.Written.{is_plain, opening, closing, leaf_value_tokens, part_tokens, put_tokens, asks, put_asks}
+use Rattle.plan_walk.specs.Puts.{Put, Ends, Reads, View, reads, puts, all_puts}
+use Rattle.gq_resolve.specs.Written.{is_plain, opening, closing, leaf_value_tokens, part_tokens, put_tokens, put_reads, IsCounted, asks, put_asks, thinned, all_asks, AreWithin, Puts}
+use Rattle.gq_resolve.specs.Texted.{WrittenOf, put_all}
+use Rattle.gq_resolve.specs.WorkLeft.{TakesWork, takes-none}
+use Rattle.gq_resolve.specs.declared.output.Output.{Output}
 use Rattle.gq_resolve.proofs.Evaluating.{needs-rest}
 
 -- ---- loads
@@ -59,6 +64,66 @@ all-missing (l ∷ ls) = ap (λ ks. l ∷ ks) (all-missing ls)
 -- the loads that it waits for are those that it asks
 pub waits-puts : (non_null : Bool) (p : Program) (R : Reader) → puts_ask unanswered (puts non_null p R) ≡ asks p R
 waits-puts non_null p R = asked-rest non_null p R unanswered ∙ all-missing (needs (rest p R) unanswered) ∙ needs-rest p R
+
+-- one load more
+one-read : (ps : List Put) → sum_by put_reads (Reads ∷ ps) ≡ suc (sum_by put_reads ps)
+one-read ps = let split : sum_by put_reads (Reads ∷ ps) ≡ 1 + sum_by put_reads ps = sum_by-append put_reads (Reads ∷ []) ps in split ∙ omega arith
+
+read-counted : (non_null : Bool) (load : Load) (next : OutcomeOf → Program) (R : Reader) (r : Option OutcomeOf) → R load ≡ r
+    → ((o : OutcomeOf) → sum_by put_reads (puts non_null (next o) R) ≡ count_read (next o) R) → sum_by put_reads (puts non_null (Read load next) R) ≡ count_read (Read load next) R
+read-counted non_null load next R None e ih = rw e refl
+read-counted non_null load next R (Some o) e ih = rw e (one-read (puts non_null (next o) R) ∙ ap suc (ih o))
+
+mutual
+  -- as many loads are read as the program reads
+  pub puts-read : (non_null : Bool) (p : Program) (R : Reader) → sum_by put_reads (puts non_null p R) ≡ count_read p R
+  puts-read non_null (Is leaf_value) R = refl
+  puts-read non_null (Read load next) R = read-counted non_null load next R (R load) refl (λ o. puts-read non_null (next o) R)
+  puts-read non_null (Under kind below) R =
+      let ended : sum_by put_reads (all_puts kind below R ++ Ends kind ∷ []) ≡ sum_by put_reads (all_puts kind below R) + 0 = sum_by-append put_reads (all_puts kind below R) (Ends kind ∷ []) in
+      omega (arith, ended, all-puts-read kind below R)
+
+  all-puts-read : (kind : Kind) (ps : Programs) (R : Reader) → sum_by put_reads (all_puts kind ps R) ≡ length (all_needs ps R)
+  all-puts-read kind End R = refl
+  all-puts-read kind (With position p ps) R =
+      sum_by-append put_reads (puts position.non_null p R) (all_puts kind ps R) ∙ rw (puts-read position.non_null p R, all-puts-read kind ps R) (sym (length-append (needs p R) (all_needs ps R)))
+
+-- ---- loads that are read
+
+pub reads-counted : (n : ℕ) → sum_by put_reads (reads n) ≡ n
+reads-counted zero = refl
+reads-counted (suc n) = one-read (reads n) ∙ ap suc (reads-counted n)
+
+-- they say nothing else
+reads-silent : {A : Type 0} (says : Put → List A) (n : ℕ) → says Reads ≡ [] → flat_map says (reads n) ≡ []
+reads-silent says zero none = refl
+reads-silent says (suc n) none = rw none (reads-silent says n none)
+
+reads-plain : (n : ℕ) → list_all is_plain (reads n) ≡ true
+reads-plain zero = refl
+reads-plain (suc n) = reads-plain n
+
+-- they were counted
+pub reads-put : (v : View) (n : ℕ) (old new : Output) → new.blocked ≡ old.blocked → new.is_plain ≡ old.is_plain → new.writer ≡ old.writer → IsCounted n old.loads new.loads → Puts v (reads n) old new
+reads-put v n old new blocked plain writer counted = record {
+  first = ([], blocked ∙ sym (append-nil old.blocked));
+  within = λ h. subst (AreWithin v.count) (sym blocked) h;
+  asked = λ R. ap (λ bs. thinned [] (all_asks v bs R)) blocked ∙ ap (thinned (thinned [] (all_asks v old.blocked R))) (sym (reads-silent (put_asks R) n refl));
+  loads = rw (reads-counted n) counted;
+  written = λ w. (
+    record { plain = sym plain ∙ w.plain; whole = sym blocked ∙ w.whole },
+    reads-plain n,
+    ap (λ x. x.tokens) writer ∙ sym (ap (λ ts. old.writer.tokens ++ ts) (reads-silent put_tokens n refl) ∙ append-nil old.writer.tokens),
+  );
+}
+
+pub reads-taken : (n : ℕ) (left : Option ℕ) → TakesWork (reads n) left left
+reads-taken zero left = takes-none left
+reads-taken (suc n) left = reads-taken n left
+
+pub reads-written : (n : ℕ) (w : WrittenOf) → put_all (reads n) w ≡ w
+reads-written zero w = refl
+reads-written (suc n) w = reads-written n w
 
 -- ---- text
 

@@ -1,9 +1,10 @@
 -- Definitions of what is put into an output, one part after another. These are proofs, which the laws of its
 -- sink need here.
-use Rattle.std.proofs.Common.{◌≡◌, ◌<◌, ◌≤◌, ℕ, List, [], ◌∷◌, ◌++◌, refl, sym, ap, ◌∙◌, subst, append_assoc, append-nil, length, take}
-use Rattle.std.specs.List.{list_all, flat_map}
+use Rattle.std.proofs.Common.{◌≡◌, ◌<◌, ◌≤◌, ◌+◌, ℕ, List, [], ◌∷◌, ◌++◌, refl, sym, ap, ◌∙◌, subst, arith, append_assoc, append-nil, length, take}
+use Rattle.std.specs.List.{list_all, flat_map, sum_by}
 use Rattle.std.proofs.lemmas.Grind.{flat_map-append}
 use Rattle.std.proofs.lemmas.List.Folds.{list_all-append}
+use Rattle.std.proofs.lemmas.List.Sums.{sum_by-append}
 use Rattle.std.proofs.lemmas.Bool.{and_from}
 use Rattle.std.proofs.lemmas.List.{take_all, take_at}
 use Rattle.std.proofs.lemmas.List.Elements.{All-head, All-tail}
@@ -12,10 +13,11 @@ use Rattle.load_memory.specs.Keys.{key_of}
 use Rattle.load_memory.specs.Rows.{RowOf}
 use Rattle.execution.specs.Loads.{Load, Reader}
 use Rattle.execution.specs.Program.{Program}
+use Rattle.execution.specs.Reads.{counted}
 use Rattle.plan_program.specs.PlanPrograms.{read_key}
 use Rattle.plan_walk.specs.Puts.{Put, OnwardOf, View}
 use Rattle.plan_walk.specs.Positions.{onward_of}
-use Rattle.gq_resolve.specs.Written.{is_plain, put_tokens, asks, put_asks, thinned, with_load, left_of, all_asks, AreWithin, IsWithin, count_waiting, Puts}
+use Rattle.gq_resolve.specs.Written.{is_plain, put_tokens, put_reads, IsCounted, asks, put_asks, thinned, with_load, left_of, all_asks, AreWithin, IsWithin, count_waiting, Puts}
 use Rattle.plan_walk.specs.declared.waiting.BlockedPosition.{BlockedPosition}
 use Rattle.gq_resolve.specs.declared.output.Output.{Output}
 
@@ -24,11 +26,16 @@ pub thinned-append : (noted xs ys : List Load)
 thinned-append noted [] ys = refl
 thinned-append noted (x ∷ xs) ys = thinned-append (with_load noted x) xs ys
 
+-- two counts, one after another
+counted-more : (n m a b c : ℕ) → IsCounted n a b → IsCounted m b c → IsCounted (n + m) a c
+counted-more n m a b c p q = omega (arith, p, q)
+
 pub puts-none : (v : View) (o : Output) → Puts v [] o o
 puts-none v o = record {
   first = ([], sym (append-nil o.blocked));
   within = λ h. h;
   asked = λ R. refl;
+  loads = ap counted (omega arith);
   written = λ w. (w, refl, sym (append-nil o.writer.tokens));
 }
 
@@ -45,6 +52,8 @@ puts-more v ps qs a b c p q = record {
       (flat_map (put_asks R) qs))
       ∙ ap (thinned (thinned [] (all_asks v a.blocked R)))
       (sym (flat_map-append (put_asks R) ps qs));
+  loads = counted-more (sum_by put_reads ps) (sum_by put_reads qs) a.loads b.loads c.loads p.loads q.loads
+      ∙ ap (λ n. counted (a.loads + n)) (sym (sum_by-append put_reads ps qs));
   written = λ w.
       let u = q.written w in
       let t = p.written u.0 in (
@@ -98,5 +107,6 @@ puts-narrow v w n ps a b le same within count p =
           ap (λ bs. thinned [] (all_asks v bs R)) keys ∙ ap (thinned []) alike
           ∙ ap (λ bs. thinned [] (all_asks w bs R)) (sym keys)
           ∙ p.asked R ∙ ap (λ ls. thinned (thinned [] ls) (flat_map (put_asks R) ps)) (sym alike);
+      loads = p.loads;
       written = p.written;
     }

@@ -7,8 +7,6 @@ pub mod PreparedPlans
 pub mod Texted
 pub mod Limited
 pub mod Within
-pub mod Counting
 pub mod KeyByKey
-pub mod Adding
 pub mod WorkLeft
 pub mod NewKeys

@@ -9,6 +9,7 @@ use Rattle.execution.specs.Loads.{Load, Reader, AnswersMore}
 use Rattle.execution.specs.Program.{tree}
 use Rattle.execution.specs.Executed.{completed}
 use Rattle.execution.specs.Front.{wanting}
+use Rattle.execution.specs.Reads.{count_read, counted}
 use Rattle.gq_check.specs.Plans.{PlanOf, plan_of}
 use Rattle.plan_program.specs.PlanPrograms.{root_prepared, plan_program}
 use Rattle.gq_resolve.specs.Answered.{answered_json}
@@ -99,11 +100,16 @@ abbrev pub GoesOverTour : {S : Type 0} → (View → List Put → S → S → Ty
     → Walk → S → FinishedWalk S → Type 0
 GoesOverTour goes walk old w = GoesOver goes (plan_on walk) walk.memory.now old w
 
--- The positions that wait are what the plan still asks: now the loads that it lacks, and later what it then lacks. Where nothing
--- waits and no error was met, the answer was written.
-pub record Advanced (plan : PlanOf) (m : MemoryOf) (w : FinishedWalk Output) : Type 0 where
+-- The positions that wait are what the plan still asks: now the loads that it lacks, and later what it then lacks.
+pub record Searched (plan : PlanOf) (m : MemoryOf) (w : FinishedWalk Output) : Type 0 where
   pub goes_on : MayGoOn plan m w.rooted w.out.blocked
   pub lacks : thinned [] (loads_of w.out.blocked) ≡ thinned [] (asks (plan_program plan) (lookup m))
+
+-- Where nothing waits, the loads that are read were counted; and where no error was met either, the answer was written.
+pub record Advanced (plan : PlanOf) (m : MemoryOf) (w : FinishedWalk Output) : Type 0 where
+  pub searched : Searched plan m w
+  pub loads : w.out.blocked ≡ []
+      → counted w.out.loads ≡ counted (count_read (plan_program plan) (lookup m))
   pub written : IsWriting w.out → w.out.writer.tokens
       ≡ json_tokens (answered_json (completed (tree (plan_program plan) (lookup m))))
 

@@ -11,7 +11,7 @@ use Rattle.execution.specs.Program.{LeafValue, Value, Null, Fault, Text, Int, Bo
 use Rattle.execution.specs.Completion.{ErrorOf, own_errors}
 use Rattle.answer_json.specs.Answer.{part_of, errors_of}
 use Rattle.gq_resolve.specs.Written.{opening, closing, part_tokens}
-use Rattle.plan_walk.specs.Puts.{Put, Begins, Ends, Enters, Has, Waits}
+use Rattle.plan_walk.specs.Puts.{Put, Begins, Ends, Enters, Has, Reads, Waits}
 use Rattle.plan_walk.specs.Positions.{is_non_null}
 use Rattle.gq_resolve.specs.declared.bounded.BoundedText.{BoundedText}
 use Rattle.gq_resolve.specs.declared.bounded.BoundedErrors.{BoundedErrors}
@@ -183,6 +183,7 @@ put_one (Ends kind) w = ended_in w.levels kind w
 put_one (Enters kind position) w = written (part_tokens kind position.part)
     (entered_at position.part position.non_null position.place w)
 put_one (Has non_null leaf_value) w = given_leaf_value non_null leaf_value w
+put_one Reads w = w
 put_one (Waits p) w = w
 
 -- ---- all puts

@@ -6,7 +6,7 @@ use Rattle.load_memory.specs.Pairs.{MemoryOf}
 use Rattle.execution.specs.Work.{work, IsLeft}
 use Rattle.gq_check.specs.Plans.{PlanOf}
 use Rattle.plan_program.specs.PlanPrograms.{plan_program}
-use Rattle.plan_walk.specs.Puts.{Put, Begins, Ends, Enters, Has, Waits}
+use Rattle.plan_walk.specs.Puts.{Put, Begins, Ends, Enters, Has, Reads, Waits}
 use Rattle.plan_walk.specs.Reading.{reader}
 
 -- of a plan over a memory
@@ -19,6 +19,7 @@ put_work (Begins kind) = 1
 put_work (Ends kind) = 0
 put_work (Enters kind position) = 0
 put_work (Has non_null leaf_value) = 1
+put_work Reads = 0
 put_work (Waits program) = 1
 
 -- says the same of what was left; where nothing was, nothing is

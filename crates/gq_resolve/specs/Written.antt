@@ -1,14 +1,15 @@
 -- Definitions of what an output holds: the text of an answer while it is plain, and the positions that wait.
-use Rattle.std.specs.Prelude.{◌≡◌, ◌<◌, ◌==◌, ℕ, Bool, true, false, not, ◌&&◌, is_some, Option, Some, None, if◌then◌else◌, List, [], ◌∷◌, ◌++◌, decimal, length}
-use Rattle.std.specs.List.{All, list_any, list_all, flat_map}
+use Rattle.std.specs.Prelude.{◌≡◌, ◌<◌, ◌==◌, ◌+◌, ℕ, Bool, true, false, not, ◌&&◌, is_some, Option, Some, None, if◌then◌else◌, List, [], ◌∷◌, ◌++◌, decimal, length}
+use Rattle.std.specs.List.{All, list_any, list_all, flat_map, sum_by}
 use Rattle.json.specs.Token.{Token, begin_object, end_object, begin_array, end_array, key, null}
 use Rattle.json.specs.Tree.{json_tokens}
 use Rattle.load_memory.specs.Keys.{key_of, same_key}
 use Rattle.execution.specs.Loads.{Load, Reader}
 use Rattle.execution.specs.Program.{Leaf, LeafValue, Value, Null, Fault, Kind, ListOf, ObjectOf, Part, Key, Item, Program, needs}
 use Rattle.execution.specs.Front.{missing}
+use Rattle.execution.specs.Reads.{counted}
 use Rattle.gq_resolve.specs.Answered.{leaf_json}
-use Rattle.plan_walk.specs.Puts.{Put, Begins, Ends, Enters, Has, Waits, View, waiting}
+use Rattle.plan_walk.specs.Puts.{Put, Begins, Ends, Enters, Has, Reads, Waits, View, waiting}
 use Rattle.plan_walk.specs.Positions.{onward_of}
 use Rattle.plan_walk.specs.declared.waiting.BlockedPosition.{BlockedPosition}
 use Rattle.gq_resolve.specs.declared.output.Output.{Output}
@@ -26,6 +27,7 @@ is_plain (Begins kind) = true
 is_plain (Ends kind) = true
 is_plain (Enters kind position) = true
 is_plain (Has non_null leaf_value) = leaf_value_plain non_null leaf_value
+is_plain Reads = true
 is_plain (Waits program) = false
 
 abbrev pub opening : Kind → Token
@@ -52,6 +54,7 @@ put_tokens (Begins kind) = opening kind ∷ []
 put_tokens (Ends kind) = closing kind ∷ []
 put_tokens (Enters kind position) = part_tokens kind position.part
 put_tokens (Has non_null leaf_value) = leaf_value_tokens leaf_value
+put_tokens Reads = []
 put_tokens (Waits program) = []
 
 -- ---- loads
@@ -65,7 +68,21 @@ put_asks R (Begins kind) = []
 put_asks R (Ends kind) = []
 put_asks R (Enters kind position) = []
 put_asks R (Has non_null leaf_value) = []
+put_asks R Reads = []
 put_asks R (Waits program) = asks program R
+
+-- gives how many loads are read
+abbrev pub put_reads : Put → ℕ
+put_reads (Begins kind) = 0
+put_reads (Ends kind) = 0
+put_reads (Enters kind position) = 0
+put_reads (Has non_null leaf_value) = 0
+put_reads Reads = 1
+put_reads (Waits program) = 0
+
+-- so many more were counted, where a count stays at its limit
+abbrev pub IsCounted : ℕ → ℕ → ℕ → Type 0
+IsCounted n old new = counted new ≡ counted (old + n)
 
 -- both are of one loader and have exactly equal keys
 abbrev pub is_load : Load → Load → Bool
@@ -105,19 +122,21 @@ pub record IsWriting (o : Output) : Type 0 where
   pub plain : o.is_plain ≡ true
   pub whole : o.blocked ≡ []
 
--- Over each memory the positions that wait ask what they asked, and what is put, each load once. Where the output is still
--- written, all was plain, and its tokens were written.
+-- Over each memory the positions that wait ask what they asked, and what is put, each load once. The loads that are read were
+-- counted. Where the output is still written, all was plain, and its tokens were written.
 pub record Puts (v : View) (ps : List Put) (old new : Output) : Type 0 where
   pub first : (rest : List BlockedPosition) × (new.blocked ≡ old.blocked ++ rest)
   pub within : AreWithin v.count old.blocked → AreWithin v.count new.blocked
   pub asked : (R : Reader) → thinned [] (all_asks v new.blocked R)
       ≡ thinned (thinned [] (all_asks v old.blocked R)) (flat_map (put_asks R) ps)
+  pub loads : IsCounted (sum_by put_reads ps) old.loads new.loads
   pub written : IsWriting new → IsWriting old × (list_all is_plain ps ≡ true)
       × (new.writer.tokens ≡ old.writer.tokens ++ flat_map put_tokens ps)
 
 -- These tokens and nothing else are put, which are plain or not.
 pub record Adds (plain : Bool) (ts : List Token) (old new : Output) : Type 0 where
   pub blocked : new.blocked ≡ old.blocked
+  pub loads : new.loads ≡ old.loads
   pub written : IsWriting new
       → IsWriting old × (plain ≡ true) × (new.writer.tokens ≡ old.writer.tokens ++ ts)
 

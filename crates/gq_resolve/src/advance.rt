@@ -8,18 +8,18 @@ ghost use Rattle.gq_check.specs.Plans.{PlanOf, plan_of};
 ghost use Rattle.plan_program.specs.PlanPrograms.{root_prepared};
 ghost use Rattle.plan_walk.specs.Groups.{AreMade};
 ghost use Rattle.gq_resolve.specs.Evaluated.{AddsPart};
-ghost use Rattle.gq_resolve.specs.Suspended.{plan_on, IsAlike, IsReusable, IsRooted, WaitsBelow, GoesOverTour, MayGoOn, Advanced, FitsStopped, FitsTour, IsAdvanced, lacking};
+ghost use Rattle.gq_resolve.specs.Suspended.{plan_on, IsAlike, IsReusable, IsRooted, WaitsBelow, GoesOverTour, MayGoOn, Searched, Advanced, FitsStopped, FitsTour, IsAdvanced, lacking};
 
 use crate::output::Output;
 use crate::wanting::add_wants;
 use gq_check::Plan;
 use gq_lexer::Place;
-use load_memory::{Probe, Row};
+use load_memory::{Probe, Row, Text};
 use load_queue::Wants;
 use plan_program::{ObjectType, collect};
 use plan_walk::again::members_again;
 use plan_walk::loading_fields::{LoadingField, Member, copy_of, members_of};
-use plan_walk::positions::{FieldPosition, Nullability, PositionKind};
+use plan_walk::positions::{MemberPosition, Nullability, PositionKind};
 use plan_walk::sink::Sink;
 use plan_walk::waiting::Waiting;
 use plan_walk::walk::{LoadingPosition, Progress, Walk};
@@ -131,7 +131,7 @@ pub fn go_over<S: Sink + Drop>(
 // Looks for the loads of the whole plan alone, and writes nothing.
 fn search_root(walk: &Walk<'_>, rooted: RootObject) -> Result<FinishedWalk<Output>, AllocError>
     ensures { IsRooted (plan_on walk.now) rooted
-        → IfOk result (Advanced (plan_on walk.now) walk.now.memory.now) }
+        → IfOk result (Searched (plan_on walk.now) walk.now.memory.now) }
 {
     go_over(walk, rooted, Output::waiting_only(walk.alloc))
 }
@@ -156,8 +156,8 @@ fn begin(
     }
     let mut out = Output::new(walk.alloc, most)?;
     out.begin(PositionKind::Object)?;
-    out.field(FieldPosition {
-        key: "data",
+    out.field(&MemberPosition {
+        key: Text::from_str(walk.alloc, "data")?,
         nullability: Nullability::Nullable,
         place: Place { line: 1, column: 1 },
     })?;
@@ -184,7 +184,7 @@ fn search_waiting(
     waiting: Waiting,
 ) -> Result<FinishedWalk<Output>, AllocError>
     ensures { MayGoOn (plan_on walk.now) walk.now.memory.now rooted waiting
-        → IfOk result (Advanced (plan_on walk.now) walk.now.memory.now) }
+        → IfOk result (Searched (plan_on walk.now) walk.now.memory.now) }
 {
     let mut at = Progress {
         groups: rooted.groups,

@@ -22,7 +22,7 @@ use json::{Token, Writer};
 use load_memory::{Cell, KeyRef};
 use plan_program::LeafValue;
 use plan_walk::cells::{CellValue, cell_value, leaf_of};
-use plan_walk::positions::{FieldPosition, Items, Leaf, Nullability, Onward, PositionKind};
+use plan_walk::positions::{Items, Leaf, MemberPosition, Nullability, Onward, PositionKind};
 use plan_walk::sink::Sink;
 use std::alloc::{AllocError, Global};
 use std::mem;
@@ -296,10 +296,10 @@ impl Sink for CompletedText {
         self.end_null(level.muted, level.before)
     }
 
-    fn field(&mut self, position: FieldPosition<'_>) -> Result<(), AllocError> {
-        let key = String::from_str(self.alloc, position.key)?;
+    fn field(&mut self, position: &MemberPosition) -> Result<(), AllocError> {
+        let key = String::from_str(self.alloc, position.key.as_str())?;
         self.enter(PathSegment::Key(key), position.nullability, position.place)?;
-        self.put(Token::Key(position.key))
+        self.put(Token::Key(position.key.as_str()))
     }
 
     fn item(&mut self, items: Items, number: usize) -> Result<(), AllocError> {
@@ -324,6 +324,8 @@ impl Sink for CompletedText {
         let leaf_value = cell_value(self.alloc, leaf.schema, leaf.column, leaf.ty, leaf.row)?;
         self.put_leaf_value(&leaf_value, nullability)
     }
+
+    fn loads(&mut self, _count: usize) {}
 
     fn waiting(&self) -> usize {
         0

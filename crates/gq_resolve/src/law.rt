@@ -5,8 +5,8 @@ ghost use Rattle.load_memory.specs.Pairs.{MemoryOf};
 ghost use Rattle.execution.specs.Completion.{is_open};
 ghost use Rattle.execution.specs.Loads.{Reader, AnswersMore};
 ghost use Rattle.execution.specs.Program.{Program, needs, tree};
+ghost use Rattle.execution.specs.Reads.{count_read};
 ghost use Rattle.gq_check.specs.Plans.{PlanOf};
-ghost use Rattle.gq_resolve.specs.Counting.{count_read, plan_read};
 ghost use Rattle.gq_resolve.specs.Evaluated.{front_over};
 ghost use Rattle.plan_walk.specs.Reading.{reader};
 ghost use Rattle.gq_resolve.specs.KeyByKey.{IsKeyByKey, AreGivenBy, MakesCalls, called_loads};
@@ -26,5 +26,5 @@ pub fn loads_are_calls()
     ensures more { (p : Program) (R Q : Reader) → AnswersMore R Q
         → is_open (tree p R) ≡ false → count_read p Q ≡ count_read p R }
     ensures plans { (plan : PlanOf) (m : MemoryOf) → front_over m (plan_program plan) ≡ []
-        → MakesCalls (plan_program plan) (reader m) (plan_read plan m) }
+        → MakesCalls (plan_program plan) (reader m) (count_read (plan_program plan) (reader m)) }
 {}

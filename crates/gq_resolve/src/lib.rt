@@ -2,7 +2,7 @@
 //! plan is ready with its answer, or waits for exactly the loads that it needs and the memory lacks.
 //!
 //! The layer above may rely on this: a [`RootState`] is ready with the text of the execution of the plan's program
-//! (`plan_program::specs::PlanPrograms`) where nothing is missing, and else adds the front to the wants. It goes on over a memory
+//! (`plan_program::specs::PlanPrograms`), and the count of the loads that it reads, where nothing is missing, and else adds the front to the wants. It goes on over a memory
 //! that grows from poll to poll, and keeps what is done.
 //!
 //! A plan is what can be executed (`execution::Execute`), and so is a plan with a limit ([`LimitedPlan`]): an answer whose text is
@@ -12,7 +12,6 @@
 mod advance;
 mod bounded;
 mod completed_text;
-mod counting;
 pub mod law;
 mod limited;
 pub mod limited_plan;
@@ -25,8 +24,6 @@ mod threads;
 mod wanting;
 mod work;
 
-pub use counting::loads_read;
 pub use limited_plan::LimitedPlan;
 pub use prepared_plan::PreparedPlan;
 pub use root_state::RootState;
-pub use work::work_left;

@@ -9,8 +9,7 @@ ghost use Rattle.plan_program.specs.PlanPrograms.{plan_program};
 
 use crate::prepared_plan::PreparedPlan;
 use crate::root_state::RootState;
-use crate::work::work_left;
-use execution::{CountWork, Execute};
+use execution::{CountWork, Execute, ExecutionResult};
 use futures::task::Poll;
 use gq_check::Plan;
 use load_memory::Memory;
@@ -106,7 +105,7 @@ impl Execute<RootState> for LimitedPlan {
         alloc: Global,
         memory: &Memory,
         wants: &mut Wants,
-    ) -> Result<Poll<String>, AllocError> {
+    ) -> Result<Poll<ExecutionResult>, AllocError> {
         self.plan.begin(progress)?;
         let plan = self.plan.plan();
         progress.poll_text(alloc, plan, memory, wants, self.most)
@@ -120,6 +119,6 @@ impl CountWork<RootState> for LimitedPlan {
         memory: &Memory,
         most: usize,
     ) -> Result<Option<usize>, AllocError> {
-        work_left(alloc, self.plan.plan(), memory, most)
+        self.plan.work_left(alloc, memory, most)
     }
 }

@@ -18,7 +18,7 @@ use json::{Token, Writer};
 use load_memory::{Cell, KeyRef};
 use plan_program::LeafValue;
 use plan_walk::cells::{CellValue, leaf_of};
-use plan_walk::positions::{FieldPosition, Items, Leaf, Nullability, Onward, PositionKind};
+use plan_walk::positions::{Items, Leaf, MemberPosition, Nullability, Onward, PositionKind};
 use plan_walk::sink::Sink;
 use plan_walk::waiting::Waiting;
 use std::alloc::{AllocError, Global};
@@ -36,6 +36,8 @@ pub struct Output {
     pub alloc: Global,
     pub writer: Writer,
     pub blocked: Waiting,
+    /// Says how many loads were read. It stays at `u64::MAX`.
+    pub loads: u64,
     /// Tells whether no error was met, and the limit wasn't passed.
     pub is_plain: bool,
     /// Says how many bytes the text may grow. An escape in it counts as the character that it stands for.
@@ -73,11 +75,13 @@ impl Output {
             (λ out. out.writer.tokens ≡ []) }
         ensures blocked { IfOk result
             (λ out. out.blocked ≡ []) }
+        ensures loads { IfOk result (λ out. out.loads ≡ 0) }
     {
         Ok(Output {
             alloc,
             writer: Writer::new(Vec::with_capacity(alloc, FIRST_ROOM)?),
             blocked: Waiting::new(alloc),
+            loads: 0,
             is_plain: true,
             left: most,
         })
@@ -92,6 +96,7 @@ impl Output {
             alloc,
             writer: Writer::new(Vec::new(alloc)),
             blocked: Waiting::new(alloc),
+            loads: 0,
             is_plain: false,
             left: 0,
         }
@@ -207,8 +212,8 @@ impl Sink for Output {
         }
     }
 
-    fn field(&mut self, position: FieldPosition<'_>) -> Result<(), AllocError> {
-        self.put(Token::Key(position.key))
+    fn field(&mut self, position: &MemberPosition) -> Result<(), AllocError> {
+        self.put(Token::Key(position.key.as_str()))
     }
 
     fn item(&mut self, _items: Items, _number: usize) -> Result<(), AllocError> {
@@ -245,6 +250,10 @@ impl Sink for Output {
             Cell::Null => self.put_null(nullability),
             Cell::Text(text) => self.put_leaf(leaf_of(leaf.schema, leaf.ty, text)),
         }
+    }
+
+    fn loads(&mut self, count: usize) {
+        self.loads = self.loads.saturating_add(count as u64);
     }
 
     fn waiting(&self) -> usize {

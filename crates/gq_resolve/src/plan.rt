@@ -6,7 +6,7 @@ ghost use Rattle.gq_resolve.specs.Suspended.{FitsMemory};
 ghost use Rattle.plan_program.specs.PlanPrograms.{plan_program};
 
 use crate::root_state::RootState;
-use execution::Execute;
+use execution::{Execute, ExecutionResult};
 use futures::task::Poll;
 use gq_check::Plan;
 use load_memory::Memory;
@@ -32,7 +32,7 @@ impl Execute<RootState> for Plan {
         alloc: Global,
         memory: &Memory,
         wants: &mut Wants,
-    ) -> Result<Poll<String>, AllocError> {
+    ) -> Result<Poll<ExecutionResult>, AllocError> {
         progress.poll_text(alloc, self, memory, wants, None)
     }
 }

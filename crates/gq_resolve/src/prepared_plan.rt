@@ -1,13 +1,16 @@
 //! Plans that are prepared ahead, for requests that come again.
 
-ghost use Rattle.std.specs.Prelude.{◌≡◌, IfOk, IfSome, OnOk};
+ghost use Rattle.std.specs.Prelude.{◌≡◌, ◌≤◌, IfOk, IfSome, OnOk, length};
 ghost use Rattle.load_memory.specs.Pairs.{MemoryOf};
+ghost use Rattle.execution.specs.Work.{IsLeft};
 ghost use Rattle.gq_check.specs.Plans.{IsSameBut, plan_of};
 ghost use Rattle.gq_resolve.specs.Suspended.{FitsMemory};
+ghost use Rattle.gq_resolve.specs.WorkLeft.{plan_work};
 
 use crate::advance::{RootObject, prepare_root};
 use crate::most_groups::{most_ahead_of, most_groups_of};
 use crate::root_state::RootState;
+use crate::work::work_left;
 use gq_check::Plan;
 use load_memory::Memory;
 use plan_program::agrees_on_directives;
@@ -121,6 +124,29 @@ impl PreparedPlan {
         ensures { result.now ≡ self.now }
     {
         &self.plan
+    }
+
+    /// Returns what the work of the plan leaves of `most`, or `None` where it is more. It begins with a copy of what was prepared.
+    pub(crate) fn work_left(
+        &self,
+        alloc: Global,
+        memory: &Memory,
+        most: usize,
+    ) -> Result<Option<usize>, AllocError>
+        requires { length (plan_of self.now).bindings.loaders ≤ length memory.now.modes }
+        ensures { IfOk result (IsLeft most (plan_work (plan_of self.now) memory.now)) }
+    {
+        let walk = Walk {
+            alloc,
+            plan: &self.plan,
+            memory,
+            most: most_groups_of(&self.plan),
+        };
+        let rooted = match &self.rooted {
+            Some(rooted) => rooted.copy()?,
+            None => prepare_root(&walk)?,
+        };
+        work_left(&walk, rooted, most)
     }
 
     // Begins an execution with a copy of what was prepared, where nothing of it is done yet.

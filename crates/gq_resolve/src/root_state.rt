@@ -13,6 +13,7 @@ use crate::advance::{RootObject, Suspension, advance};
 use crate::limited::whole_text;
 use crate::most_groups::most_groups_of;
 use crate::output::NO_LIMIT;
+use execution::ExecutionResult;
 use futures::task::Poll;
 use gq_check::Plan;
 use load_memory::Memory;
@@ -71,8 +72,8 @@ impl RootState {
         Ok(())
     }
 
-    /// Goes on with each load that the memory has. It is ready with the text of the answer (section 7.1) where nothing is missing, and
-    /// else adds what is needed and missing to the wants, depth first. An answer without errors is written straight from the rows.
+    /// Goes on with each load that the memory has. It is ready with the text of the answer (section 7.1) and the count of the loads
+    /// that it reads where nothing is missing, and else adds what is needed and missing to the wants, depth first. An answer without errors is written straight from the rows.
     ///
     /// With a limit the text may have `most` bytes and no more: a longer one is refused, and the text is that of its refusal. What it
     /// holds of the answer at any time is in proportion to that limit.
@@ -88,7 +89,7 @@ impl RootState {
         memory: &Memory,
         wants: &mut Wants,
         most: Option<usize>,
-    ) -> Result<Poll<String>, AllocError>
+    ) -> Result<Poll<ExecutionResult>, AllocError>
         requires { CanExecute (length (plan_of plan.now).bindings.loaders) memory.now wants.old }
         ensures ok { FitsMemory (plan_of plan.now) self.old memory.now → IfOk result (IsExecuted (text_within most)
             wants.old wants.new (plan_program (plan_of plan.now)) memory.now) }
@@ -104,7 +105,11 @@ impl RootState {
             most: self.most,
         };
         match advance(&walk, most.unwrap_or(NO_LIMIT), &mut self.stopped, wants)? {
-            Some(walked) => Ok(Poll::Ready(whole_text(&walk, walked, most)?)),
+            Some(walked) => {
+                let loads = walked.out.loads;
+                let text = whole_text(&walk, walked, most)?;
+                Ok(Poll::Ready(ExecutionResult { text, loads }))
+            }
             None => Ok(Poll::Pending),
         }
     }

@@ -1,19 +1,17 @@
 //! The work of an answer, counted until it is more than a limit.
 
 ghost use Rattle.std.specs.Prelude.{◌≤◌, IfOk, length};
-ghost use Rattle.gq_check.specs.Plans.{plan_of};
 ghost use Rattle.execution.specs.Work.{IsLeft};
+ghost use Rattle.gq_resolve.specs.Suspended.{plan_on, IsRooted};
 ghost use Rattle.gq_resolve.specs.WorkLeft.{plan_work, IsLeftOf};
 
-use crate::advance::{go_over, prepare_root};
-use crate::most_groups::most_groups_of;
-use gq_check::Plan;
-use load_memory::{KeyRef, Memory};
+use crate::advance::{RootObject, go_over};
+use load_memory::KeyRef;
 use plan_program::LeafValue;
-use plan_walk::positions::{FieldPosition, Items, Leaf, Nullability, Onward, PositionKind};
+use plan_walk::positions::{Items, Leaf, MemberPosition, Nullability, Onward, PositionKind};
 use plan_walk::sink::Sink;
 use plan_walk::walk::Walk;
-use std::alloc::{AllocError, Global};
+use std::alloc::AllocError;
 
 /// What the positions of a walk leave of a limit. It is full once there was one too many.
 #[derive(Drop)]
@@ -61,7 +59,7 @@ impl Sink for WorkLeft {
         Ok(())
     }
 
-    fn field(&mut self, _position: FieldPosition<'_>) -> Result<(), AllocError> {
+    fn field(&mut self, _position: &MemberPosition) -> Result<(), AllocError> {
         Ok(())
     }
 
@@ -82,6 +80,8 @@ impl Sink for WorkLeft {
         self.count();
         Ok(())
     }
+
+    fn loads(&mut self, _count: usize) {}
 
     fn waiting(&self) -> usize {
         0
@@ -112,23 +112,14 @@ impl Sink for WorkLeft {
 ///
 /// Only when out of memory.
 pub fn work_left(
-    alloc: Global,
-    plan: &Plan,
-    memory: &Memory,
+    walk: &Walk<'_>,
+    rooted: RootObject,
     most: usize,
 ) -> Result<Option<usize>, AllocError>
-    requires { length (plan_of plan.now).bindings.loaders
-        ≤ length memory.now.modes }
-    ensures { IfOk result
-        (IsLeft most (plan_work (plan_of plan.now) memory.now)) }
+    requires { length (plan_on walk.now).bindings.loaders ≤ length walk.now.memory.now.modes }
+    ensures { IsRooted (plan_on walk.now) rooted
+        → IfOk result (IsLeft most (plan_work (plan_on walk.now) walk.now.memory.now)) }
 {
-    let walk = Walk {
-        alloc,
-        plan,
-        memory,
-        most: most_groups_of(plan),
-    };
-    let limit = WorkLeft { left: Some(most) };
-    let walked = go_over(&walk, prepare_root(&walk)?, limit)?;
+    let walked = go_over(walk, rooted, WorkLeft { left: Some(most) })?;
     Ok(walked.out.left)
 }

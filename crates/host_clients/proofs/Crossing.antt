@@ -16,6 +16,8 @@ use Rattle.flat_outcomes.proofs.outcomes.FlatOutcomes.TheSendSync as outcomes_cr
 use Rattle.host_clients.specs.contracts.answered.AnsweredClient as answered
 use Rattle.host_clients.specs.contracts.answered.AnsweredClient.TheInside as answered_inside
 use Rattle.host_clients.specs.contracts.client.HostClient as client
+use Rattle.host_clients.specs.contracts.idle.IdleClient as idle
+use Rattle.host_clients.specs.contracts.idle.IdleClient.TheInside as idle_inside
 use Rattle.host_clients.specs.contracts.loaded.LoadedClient as loaded
 use Rattle.host_clients.specs.contracts.loaded.LoadedClient.TheInside as loaded_inside
 use Rattle.host_clients.specs.contracts.loading.LoadUnderWay as loading
@@ -28,8 +30,14 @@ use Rattle.host_clients.specs.contracts.under_way.UnderWay.TheInside as under_wa
 session_send : IsSend (session.the_row handed_in.the_row)
 session_send = client_send handed_in.the_row handed_in_crosses.the_send
 
+idle_inside_send : IsSend idle_inside.the_row
+idle_inside_send = declared_send idle_inside.the_type (session_send, (orders_cross.the_send, tt))
+
+idle_send : IsSend idle.the_row
+idle_send = let i = idle_inside_send in record { owned = λ d vs x. (i.owned x.0 vs, tt); leaving = λ k d w. tt }
+
 answered_inside_send : IsSend answered_inside.the_row
-answered_inside_send = declared_send answered_inside.the_type (session_send, (search (over.crosses, sendable) depth 20, (search sendable depth 20, (note_crosses.the_send, (search (over.crosses, sendable) depth 20, tt)))))
+answered_inside_send = declared_send answered_inside.the_type (idle_send, (search (over.crosses, sendable) depth 20, (search sendable depth 20, (note_crosses.the_send, (search (over.crosses, sendable) depth 20, tt)))))
 
 answered_send : IsSend answered.the_row
 answered_send = let i = answered_inside_send in record { owned = λ d vs x. (i.owned x.0 vs, tt); leaving = λ k d w. tt }
@@ -55,13 +63,13 @@ loading_send : IsSend loading.the_row
 loading_send = let i = loading_inside_send in record { owned = λ d vs x. (i.owned x.0 vs, tt); leaving = λ k d w. tt }
 
 loaded_inside_send : IsSend loaded_inside.the_row
-loaded_inside_send = declared_send loaded_inside.the_type (session_send, (outcomes_cross.the_send, (search (over.crosses, sendable) depth 20, tt)))
+loaded_inside_send = declared_send loaded_inside.the_type (idle_send, (outcomes_cross.the_send, (search (over.crosses, sendable) depth 20, tt)))
 
 loaded_send : IsSend loaded.the_row
 loaded_send = let i = loaded_inside_send in record { owned = λ d vs x. (i.owned x.0 vs, tt); leaving = λ k d w. tt }
 
 held_client_send : IsSend client.the_row
-held_client_send = search (over.crosses, sendable, session_send, under_way_send, answered_send, loading_send, loaded_send) depth 20
+held_client_send = search (over.crosses, sendable, idle_send, under_way_send, answered_send, loading_send, loaded_send) depth 20
 
 variants : VariantsHave IsSend object.the_type.parts
 variants = ((server_send, tt), ((held_client_send, tt), ((search queries_send, tt), tt)))

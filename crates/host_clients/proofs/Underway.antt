@@ -5,6 +5,7 @@ use Rattle.std.proofs.Math.Nat.{lt_of_not-le}
 use Rattle.std.proofs.lemmas.Bool.{false_from_ne_true}
 use Rattle.std.specs.List.{slice_set}
 use Rattle.std.specs.Global.{Vec}
+use Rattle.std.specs.declared.alloc.AllocError.{AllocError}
 use Rattle.load_memory.specs.Keys.{KeyOf}
 use Rattle.load_memory.specs.Outcomes.{OutcomeOf, outcome_of}
 use Rattle.load_memory.specs.declared.outcome.Item.{Item}
@@ -26,17 +27,19 @@ use Rattle.rounds_by_hand.specs.declared.fault.TakeFault.TheVariants as take
 use Rattle.rounds_by_hand.specs.declared.handed_in.HandedIn.{HandedIn}
 use Rattle.rounds_by_hand.specs.declared.pending.Pending.{Pending}
 use Rattle.rounds_by_hand.specs.declared.pending.Pending.TheVariants.{In, Out}
-use Rattle.rounds_by_hand.specs.declared.progress.Progress.TheVariants.{Done}
+use Rattle.rounds_by_hand.specs.declared.progress.Progress.{Progress}
+use Rattle.rounds_by_hand.specs.declared.progress.Progress.TheVariants.{Done, Round, Waiting, Over}
 use Rattle.server.specs.Clients.{ClientOf, IsClientCall, IsSameClient, client_of}
 use Rattle.server.specs.Hands.{ByHandOf, GivesUp, GoesOn, IsUnderway, Responds, StoresReplies, by_hand_of}
 use Rattle.server.specs.LoadsByHand.{LoadByHandOf, ClientLoads, ClientStopsLoad, ClientStores, LoadGoesOn, load_by_hand_of}
 use Rattle.server.specs.Planned.{PlannedOf, PlansAsked}
 use Rattle.host_clients.specs.Asked.{HostAsked, PlansHost, AnswersHost}
-use Rattle.host_clients.specs.Clients.{GoesOnWith, IsBegunWith, IsGivenUp, IsSameWork, IsStopped, Takes, WaitsAt, client_in, orders_after, pending_of}
+use Rattle.host_clients.specs.Clients.{CanEnd, Ends, GoesOnWith, IsBegunWith, IsGivenUp, IsSameRequest, IsSameWork, IsStopped, Settles, StepsOn, Takes, WaitsAt, client_in, orders_after, pending_of}
 use Rattle.host_clients.specs.Loads.{AreOutcomesOf, HoldsLoading, load_orders}
 use Rattle.host_clients.specs.UnderWay.{HoldsUnderWay, HoldsWork, IsAnswerOf, UnderWayOf, orders_out}
 use Rattle.host_clients.specs.declared.client.HostClient.{HostClient}
 use Rattle.host_clients.specs.declared.client.HostClient.TheVariants.{Idle, Asked, Answered, Loading, Loaded}
+use Rattle.host_clients.specs.declared.fault.Fault.{Fault}
 
 -- what holds of what is on its way holds after a call that goes on with it, of the orders that are out then
 module _ {P E : Type 0} {gone goes planned plans : ClientOf HandedIn → Type 0} where
@@ -54,6 +57,12 @@ pub holds-under-way : (server : ServerOf) (old new : ByHandOf HandedIn) (asked :
     → HoldsUnderWay server old asked before → HoldsUnderWay server new asked orders
 holds-under-way server old new asked before orders goes same are h =
     holds-after server server old.far new.far before orders refl goes (λ c plans. subst (PlansHost c.server c.most asked) (sym same) plans) are h
+
+-- says the same where it is given up after a step
+pub holds-given-up : (server : ServerOf) (old mid new : ByHandOf HandedIn) (asked : HostAsked) (before orders : List OrderOf) → GoesOn any_tell old mid → mid.planned ≡ old.planned → GoesOn any_tell mid new
+    → new.planned ≡ mid.planned → orders ≡ orders_out new → HoldsUnderWay server old asked before → HoldsUnderWay server new asked orders
+holds-given-up server old mid new asked before orders goes same ends kept are =
+    holds-under-way server old new asked before orders (λ c underway. ends c (goes c underway)) (kept ∙ same) are
 
 pub holds-loading : (old new : LoadByHandOf HandedIn) (before orders : List OrderOf) → LoadGoesOn any_tell old new → IsSameClient old.client new.client → orders ≡ load_orders new
     → HoldsLoading old before → HoldsLoading new orders
@@ -96,6 +105,7 @@ answer-of server old new asked orders answer h responds same c is = record {
   later = new.client.session;
   of_server = h.of_server;
   limits_are = limits-kept h.begun c old new h.underway same is;
+  loads = answer.loads;
   answers = answers-host old new answer responds h.begun asked h.underway h.planned;
 }
 
@@ -117,7 +127,7 @@ module _ (u : UnderWayOf) (new : ByHandOf HandedIn) (same : IsSameClient u.hand.
   pub answers-it : (answer : Answer) → StoresReplies u.hand new.client → Responds any_tell u.hand new (Done answer)
       → GoesOnWith (Asked u) (Answered (record { client = c; server = u.server; asked = u.asked; text = string_bytes answer.text; rounds = answer.rounds })) (Ok (Done tt))
   answers-it answer stored responds =
-      rw is (record { same = same; stored = stored }, record { server_is = refl; asked_is = refl; answers = λ d underway plans. answers-host u.hand new answer responds d u.asked underway plans })
+      rw is (record { same = same; stored = stored }, record { server_is = refl; asked_is = refl; answers = λ d underway plans. (answer.loads, answers-host u.hand new answer responds d u.asked underway plans) })
 
   pub gives-up : GoesOn any_tell u.hand new → new.planned ≡ u.hand.planned → GivesUp any_tell new c → IsGivenUp (Asked u) (Idle c)
   gives-up goes planned gives = (
@@ -136,6 +146,35 @@ module _ (l new : LoadByHandOf HandedIn) (keys : new.keys ≡ l.keys) (same : Is
     λ begun underway.
         subst (λ (k : KeysOf). (c.session ≡ begun.session) ⊎ IsClientCall any_tell (StoppedLoading k.loader k.keys) begun c) keys (stops begun (goes begun.session underway)),
   )
+
+-- what is given up after a step is the same request
+pub given-up-after : (u v : UnderWayOf) (mid : ByHandOf HandedIn) → v.server ≡ u.server → v.asked ≡ u.asked → GoesOn any_tell u.hand mid → mid.planned ≡ u.hand.planned → IsSameClient u.hand.client mid.client
+    → GoesOn any_tell mid v.hand → v.hand.planned ≡ mid.planned → v.hand.client ≡ mid.client → IsSameRequest u v × IsSameClient u.hand.client v.hand.client
+given-up-after u v mid server asked goes planned same ends kept is = (
+  record { server_is = server; asked_is = asked; planned_is = kept ∙ planned; goes_on = λ c underway. ends c (goes c underway) },
+  subst (IsSameClient u.hand.client) (sym is) same,
+)
+
+-- a step of a request, and what is left of its client, make a call to go on
+stops : (u v : UnderWayOf) (new : HostClient) → IsSameRequest u v → IsSameClient u.hand.client v.hand.client → Settles (Asked v) new → IsGivenUp (Asked u) new
+stops u v new same kept left =
+    let gone : IsGivenUp (Asked v) (Idle v.hand.client) = subst (IsGivenUp (Asked v)) left.0 (left.1 refl) in
+    subst (IsGivenUp (Asked u)) (sym left.0) (gives-up u v.hand kept v.hand.client refl same.goes_on same.planned_is gone.1)
+
+pub can-end : (u v : UnderWayOf) (did : Result (Progress Answer) AllocError) → StepsOn u v did → CanEnd did (Asked v)
+can-end u v (Ok (Done answer)) steps = steps.0
+can-end u v (Ok Round) steps = tt
+can-end u v (Ok Waiting) steps = tt
+can-end u v (Ok Over) steps = tt
+can-end u v (Err e) steps = tt
+
+pub steps-on : (u v : UnderWayOf) (did : Result (Progress Answer) AllocError) (new : HostClient) (result : Result (Progress (Unit {0})) Fault) → StepsOn u v did → Ends did (Asked v) new result
+    → GoesOnWith (Asked u) new result
+steps-on u v (Ok (Done answer)) new result steps ends = rw (ends.0, ends.1) steps.1
+steps-on u v (Ok Round) new result steps ends = rw (ends.0, ends.1) steps
+steps-on u v (Ok Waiting) new result steps ends = rw (ends.0, ends.1) steps
+steps-on u v (Ok Over) new result steps ends = let gone = stops u v new steps.0 steps.1 ends.0 in rw ends.1 (gone, steps.2)
+steps-on u v (Err e) new result steps ends = let gone = stops u v new steps.0 steps.1 ends.0 in rw ends.1 (gone, refl)
 
 -- ---- an order gets a reply
 

@@ -1,6 +1,7 @@
 -- Definitions of what the calls of a client make of it.
 use Rattle.std.specs.Prelude.{ℕ, ◌≡◌, ◌≢◌, ◌<◌, ◌≤◌, ◌⊎◌, List, [], Bool, true, false, Some, Result, Ok, Err, map, length, slice_get, option_map, String, string_bytes}
 use Rattle.std.specs.Global.{Vec, Global}
+use Rattle.std.specs.declared.alloc.AllocError.{AllocError}
 use Rattle.load_memory.specs.Outcomes.{ItemOf, item_of}
 use Rattle.load_memory.specs.declared.outcome.Item.{Item}
 use Rattle.load_queue.specs.declared.source.FetchFault.{FetchFault}
@@ -9,6 +10,7 @@ use Rattle.load_queue.specs.Orders.{OrderOf}
 use Rattle.flat_orders.specs.Orders.{keys_of}
 use Rattle.load_rounds.specs.Histories.{Loading as LoadingCall, any_tell}
 use Rattle.load_rounds.specs.Reading.{KeysOf}
+use Rattle.load_rounds.specs.declared.answer.Answer.{Answer}
 use Rattle.rounds_by_hand.specs.Hands.{handed, can_advance, pending_in, IsNewRound, IsWaiting, IsOver}
 use Rattle.rounds_by_hand.specs.Pending.{TakesReply as TakesReplyAt, is_in_at, order_in}
 use Rattle.rounds_by_hand.specs.declared.fault.TakeFault.{TakeFault}
@@ -24,7 +26,7 @@ use Rattle.rounds_by_hand.specs.declared.handed_in.HandedIn.{HandedIn}
 use Rattle.host_clients.specs.Asked.{HostAsked, PlansHost, AnswersHost}
 use Rattle.host_clients.specs.Lines.{width_at}
 use Rattle.host_clients.specs.Loads.{LoadedOf}
-use Rattle.host_clients.specs.UnderWay.{UnderWayOf, AnsweredOf, report_in}
+use Rattle.host_clients.specs.UnderWay.{UnderWayOf, AnsweredOf, IsAnswerOf, report_in}
 use Rattle.host_clients.specs.declared.fault.Fault.{Fault}
 use Rattle.host_clients.specs.declared.fault.Fault.TheVariants as fault
 use Rattle.host_clients.specs.declared.client.HostClient.{HostClient}
@@ -141,7 +143,7 @@ pub record AnswersIt (u : UnderWayOf) (a : AnsweredOf) : Type 0 where
   pub asked_is : a.asked ≡ u.asked
   pub answers : (c : ClientOf HandedIn) → IsUnderway any_tell c u.hand
       → PlansHost c.server c.most u.asked u.hand.planned
-      → AnswersHost any_tell c u.asked (report_in a) a.client.session
+      → (loads : ℕ) × AnswersHost any_tell c u.asked (report_in a loads) a.client.session
 
 -- Each order of its round had a reply, if it had a round. From whichever client it was begun: all that was done in its session is a call
 -- that loads these keys, and these are its outcomes.
@@ -186,6 +188,64 @@ Advances old new result = GoesOnWith old new result
 abbrev pub Cancels : HostClient → HostClient → Result (Unit {0}) Fault → Type 0
 Cancels old new (Ok done) = IsGivenUp old new
 Cancels old new (Err e) = (is_busy old ≡ false) × (new ≡ old) × (e ≡ fault.Idle)
+
+-- ---- a request in steps
+
+-- the client with this answer to its request
+abbrev pub answered_by : UnderWayOf → Answer → AnsweredOf
+answered_by u answer = record {
+  client = u.hand.client;
+  server = u.server;
+  asked = u.asked;
+  text = string_bytes answer.text;
+  rounds = answer.rounds;
+}
+
+abbrev pub answered_with : HostClient → Answer → HostClient
+answered_with (Asked u) answer = Answered (answered_by u answer)
+answered_with client answer = client
+
+-- this is the answer to a request
+abbrev pub IsAnswered : UnderWayOf → Answer → Type 0
+IsAnswered u answer =
+    IsAnswerOf u.server u.hand.client.limits u.asked (string_bytes answer.text) answer.rounds
+
+abbrev pub CanAnswer : HostClient → Answer → Type 0
+CanAnswer (Asked u) answer = IsAnswered u answer
+CanAnswer client answer = Unit {0}
+
+-- says what a step makes of a request: where it is answered or has ended, its client is still to be left
+abbrev pub StepsOn : UnderWayOf → UnderWayOf → Result (Progress Answer) AllocError → Type 0
+StepsOn u v (Ok (Done answer)) = IsAnswered v answer
+    × GoesOnWith (Asked u) (Answered (answered_by v answer)) (Ok (Done tt))
+StepsOn u v (Ok Round) = GoesOnWith (Asked u) (Asked v) (Ok Round)
+StepsOn u v (Ok Waiting) = GoesOnWith (Asked u) (Asked v) (Ok Waiting)
+StepsOn u v (Ok Over) = IsSameRequest u v × IsSameClient u.hand.client v.hand.client
+    × IsStopped (Asked u)
+StepsOn u v (Err e) = IsSameRequest u v × IsSameClient u.hand.client v.hand.client
+
+-- the answer that a step gave can be left with the client
+abbrev pub CanEnd : Result (Progress Answer) AllocError → HostClient → Type 0
+CanEnd (Ok (Done answer)) client = CanAnswer client answer
+CanEnd did client = Unit {0}
+
+-- a client that was busy is left alone
+abbrev pub Settles : HostClient → HostClient → Type 0
+Settles old new = (new ≡ Idle (client_in old)) × (is_busy old ≡ true → IsGivenUp old new)
+
+-- says what is left of a client by what came of a step of its request
+abbrev pub Ends : Result (Progress Answer) AllocError → HostClient
+    → HostClient → Result (Progress (Unit {0})) Fault → Type 0
+Ends (Ok (Done answer)) old new result = (new ≡ answered_with old answer) × (result ≡ Ok (Done tt))
+Ends (Ok Round) old new result = (new ≡ old) × (result ≡ Ok Round)
+Ends (Ok Waiting) old new result = (new ≡ old) × (result ≡ Ok Waiting)
+Ends (Ok Over) old new result = Settles old new × (result ≡ Ok Over)
+Ends (Err e) old new result = Settles old new × (result ≡ Err fault.NoMemory)
+
+-- says what a call to go on makes of a client that loads keys
+abbrev pub LoadsOn : HostClient → HostClient → Result (Progress (Unit {0})) Fault → Type 0
+LoadsOn (Loading l) new result = Advances (Loading l) new result
+LoadsOn old new result = Unit {0}
 
 -- ---- replies
 

@@ -47,8 +47,9 @@ pub record AnsweredOf : Type 0 where
   pub text : List ℕ
   pub rounds : ℕ
 
-abbrev pub report_in : AnsweredOf → ReportOf
-report_in a = record { text = a.text; rounds = a.rounds }
+-- the report of it, with how many loads it read, which the client doesn't keep
+abbrev pub report_in : AnsweredOf → ℕ → ReportOf
+report_in a loads = record { text = a.text; rounds = a.rounds; loads = loads }
 
 -- The text answers what was asked, by the definitions of serving: in the session of some client of this server, with these limits, from one
 -- state to a later one, in which the loaders were asked exactly the batches of a lawful log.
@@ -58,4 +59,6 @@ pub record IsAnswerOf (server : ServerOf) (limits : Limits) (asked : HostAsked)
   pub later : SessionOf HandedIn
   pub of_server : begun.server ≡ server
   pub limits_are : begun.limits ≡ limits
-  pub answers : AnswersHost any_tell begun asked (record { text = text; rounds = rounds }) later
+  pub loads : ℕ
+  pub answers : AnswersHost any_tell begun asked
+      (record { text = text; rounds = rounds; loads = loads }) later

@@ -2,9 +2,9 @@
 ghost use Rattle.std.specs.Prelude.{◌≡◌, string_bytes};
 ghost use Rattle.host_clients.specs.UnderWay.{IsAnswerOf};
 
+use crate::idle::IdleClient;
 use crate::note::AskedNote;
-use rounds_by_hand::HandedIn;
-use server::{ClientSession, Queries};
+use server::Queries;
 use std::marker::Model;
 use std::snapshot::Snapshot;
 
@@ -13,7 +13,7 @@ use std::snapshot::Snapshot;
 /// A contract sees the client, the server that it was planned by, what was asked, the text and how many rounds it took. The text is the
 /// answer of that, within the client's limits (`IsAnswerOf`).
 pub struct AnsweredClient {
-    pub(crate) client: ClientSession<HandedIn>,
+    pub(crate) idle: IdleClient,
     pub(crate) text: String,
     pub(crate) rounds: u32,
     pub(crate) note: AskedNote,
@@ -33,15 +33,15 @@ impl Model for AnsweredClient {
 
     ghost coded = { Prim.hlevel (codes, type_ref.the_row.coded, literal.the_row.coded, handed.the_row.coded) };
 
-    ghost view = { λ a. record { client = a.client; server = a.queries.value; asked = a.note.asked; text = string_bytes a.text; rounds = a.rounds } };
+    ghost view = { λ a. record { client = a.idle; server = a.queries.value; asked = a.note.asked; text = string_bytes a.text; rounds = a.rounds } };
 
-    ghost invariant = { λ a. IsAnswerOf a.queries.value a.client.limits (a.note.asked) (string_bytes a.text) a.rounds };
+    ghost invariant = { λ a. IsAnswerOf a.queries.value a.idle.limits a.note.asked (string_bytes a.text) a.rounds };
 }
 
 impl Drop for AnsweredClient {
     fn drop(self) {
         let AnsweredClient {
-            client: _client,
+            idle: _idle,
             text: _text,
             rounds: _,
             note: _note,
@@ -68,16 +68,16 @@ impl AnsweredClient {
     }
 
     /// The client, without the answer.
-    pub fn into_client(self) -> ClientSession<HandedIn>
+    pub(crate) fn into_idle(self) -> IdleClient
         ensures { result ≡ self.client }
     {
         let AnsweredClient {
-            client,
+            idle,
             text: _text,
             rounds: _,
             note: _note,
             queries: _queries,
         } = self;
-        client
+        idle
     }
 }

@@ -4,7 +4,8 @@ ghost use Rattle.std.specs.Prelude.{option_map, slice_get, IsUtf8};
 ghost use Rattle.std.specs.Borrow.{sem};
 ghost use Rattle.flat_orders.specs.Orders.{keys_of};
 ghost use Rattle.host_clients.specs.AskedKeys.{flat_keys};
-ghost use Rattle.host_clients.specs.Clients.{Advances, Cancels, HasCount, HasLoader, IsBegun, IsBegunLoad, IsGivenUp, LacksLoader, TakesFailure, TakesReply, TakesReplyTo};
+ghost use Rattle.host_clients.specs.Clients.{Advances, CanAnswer, CanEnd, Cancels, Ends, LoadsOn, answered_with};
+ghost use Rattle.host_clients.specs.Clients.{HasCount, HasLoader, IsBegun, IsBegunLoad, IsGivenUp, LacksLoader, TakesFailure, TakesReply, TakesReplyTo};
 ghost use Rattle.host_clients.specs.Clients.{KeepsOrStops, StopsAt, client_in, is_busy, orders_in, pending_of, width_in};
 ghost use Rattle.host_clients.specs.Known.{items_in};
 ghost use Rattle.host_clients.specs.Laid.{AreKeys, laid_keys, laid_reply};
@@ -16,6 +17,7 @@ use crate::answered::AnsweredClient;
 use crate::asked::FlatAsked;
 use crate::asked_keys::FlatKeys;
 use crate::fault::Fault;
+use crate::idle::IdleClient;
 use crate::loaded::LoadedClient;
 use crate::loaders::key_width;
 use crate::loading::LoadUnderWay;
@@ -26,8 +28,8 @@ use flat_rows::FlatReply;
 use load_memory::Item;
 use load_queue::FetchFault;
 use rounds_by_hand::{HandedIn, Pending, Progress};
-use server::{ClientSession, PlannedLoad, Queries, Server};
-use std::alloc::Global;
+use server::{Answer, ClientSession, PlannedLoad, Queries, Server};
+use std::alloc::{AllocError, Global};
 use std::snapshot::Snapshot;
 use std::str;
 
@@ -35,7 +37,7 @@ use std::str;
 #[derive(Drop)]
 pub enum HostClient {
     /// Nothing is asked.
-    Idle(ClientSession<HandedIn>),
+    Idle(IdleClient),
     /// A request is on its way to its answer.
     Asked(UnderWay),
     /// The last request is answered.
@@ -48,16 +50,16 @@ pub enum HostClient {
 
 impl HostClient {
     // The client alone: what is on its way is given up, and an answer or outcomes are let go.
-    fn into_client(self) -> ClientSession<HandedIn>
+    fn into_idle(self) -> IdleClient
         ensures client { result ≡ client_in self }
         ensures stopped { is_busy self ≡ true → IsGivenUp self (HostClient.Idle result) }
     {
         match self {
-            HostClient::Idle(client) => client,
-            HostClient::Asked(under_way) => under_way.into_client(),
-            HostClient::Answered(answered) => answered.into_client(),
-            HostClient::Loading(loading) => loading.into_client(),
-            HostClient::Loaded(loaded) => loaded.into_client(),
+            HostClient::Idle(idle) => idle,
+            HostClient::Asked(under_way) => under_way.into_idle(),
+            HostClient::Answered(answered) => answered.into_idle(),
+            HostClient::Loading(loading) => loading.into_idle(),
+            HostClient::Loaded(loaded) => loaded.into_idle(),
         }
     }
 
@@ -66,11 +68,7 @@ impl HostClient {
         ensures client { self.new ≡ HostClient.Idle (client_in self.old) }
         ensures stopped { is_busy self.old ≡ true → IsGivenUp self.old self.new }
     {
-        replace_with(
-            self,
-            (),
-            |old, ()| (HostClient::Idle(old.into_client()), ()),
-        );
+        replace_with(self, (), |old, ()| (HostClient::Idle(old.into_idle()), ()));
     }
 
     /// The client, unless it is busy.
@@ -81,9 +79,9 @@ impl HostClient {
         ensures fault { IfErr result (λ fault. fault ≡ Fault.Busy) }
     {
         match self {
-            HostClient::Idle(client) => Ok(client),
-            HostClient::Answered(answered) => Ok(&answered.client),
-            HostClient::Loaded(loaded) => Ok(&loaded.client),
+            HostClient::Idle(idle) => Ok(&idle.client),
+            HostClient::Answered(answered) => Ok(&answered.idle.client),
+            HostClient::Loaded(loaded) => Ok(&loaded.idle.client),
             HostClient::Asked(_) | HostClient::Loading(_) => Err(Fault::Busy),
         }
     }
@@ -101,7 +99,7 @@ impl HostClient {
         }
         self.settle();
         match self {
-            HostClient::Idle(client) => Ok(client),
+            HostClient::Idle(idle) => Ok(&mut idle.client),
             _ => Err(Fault::Busy),
         }
     }
@@ -138,11 +136,11 @@ impl HostClient {
         ensures { result.now ≡ (client_in self.now).server }
     {
         match self {
-            HostClient::Idle(client) => client.server(),
+            HostClient::Idle(idle) => idle.client.server(),
             HostClient::Asked(under_way) => under_way.hand.server(),
-            HostClient::Answered(answered) => answered.client.server(),
+            HostClient::Answered(answered) => answered.idle.client.server(),
             HostClient::Loading(loading) => loading.hand.server(),
-            HostClient::Loaded(loaded) => loaded.client.server(),
+            HostClient::Loaded(loaded) => loaded.idle.client.server(),
         }
     }
 
@@ -177,8 +175,7 @@ impl HostClient {
         let note = AskedNote::of(asked);
         let planned_by = Snapshot::of(&*queries);
         replace_with(self, (), |old, ()| {
-            let client = old.into_client();
-            let under_way = UnderWay::begin(alloc, client, planned, note, planned_by);
+            let under_way = UnderWay::begin(old.into_idle(), planned, note, planned_by);
             (HostClient::Asked(under_way), ())
         });
         Ok(())
@@ -207,27 +204,73 @@ impl HostClient {
         let read = keys.read(alloc, key_width(client.server(), keys.loader))?;
         let planned = PlannedLoad::new(keys.loader, read)?;
         replace_with(self, (), |old, ()| {
-            let loading = LoadUnderWay::begin(alloc, old.into_client(), planned);
+            let loading = LoadUnderWay::begin(old.into_idle(), planned);
             (HostClient::Loading(loading), ())
         });
         Ok(())
     }
 
-    /// The client after a call to go on, and what came of that: it stores the round that is out, if each of its orders has a reply, and
-    /// answers, gives the outcomes or makes the next round. It is over where memory ran out before: then it is given up, and the finished
-    /// rounds stay known.
+    /// Goes on: stores the round that is out, if each of its orders has a reply, and answers, gives the outcomes or makes the next round. It is
+    /// over where memory ran out before: then it is given up, and the finished rounds stay known.
     ///
     /// # Errors
     ///
     /// [`Idle`](Fault::Idle) where nothing is asked; [`NoMemory`](Fault::NoMemory): it is given up, as where it is over.
-    pub fn advance(self, alloc: Global) -> (HostClient, Result<Progress<()>, Fault>)
-        ensures { Advances self result.0 result.1 }
+    pub fn advance(&mut self, alloc: Global) -> Result<Progress<()>, Fault>
+        ensures { Advances self.old self.new result }
     {
         match self {
-            HostClient::Idle(client) => (HostClient::Idle(client), Err(Fault::Idle)),
-            HostClient::Asked(under_way) => under_way.advance(),
+            HostClient::Idle(_) => Err(Fault::Idle),
+            HostClient::Asked(under_way) => {
+                let did = under_way.advance();
+                self.end(did)
+            }
+            HostClient::Loading(_) => replace_with(self, alloc, HostClient::load),
+            HostClient::Answered(_) | HostClient::Loaded(_) => Ok(Progress::Done(())),
+        }
+    }
+
+    // Ends the request if this came of a step of it: it is answered, or given up where memory ran out.
+    fn end(&mut self, did: Result<Progress<Answer>, AllocError>) -> Result<Progress<()>, Fault>
+        requires { CanEnd did self.old }
+        ensures { Ends did self.old self.new result }
+    {
+        match did {
+            Ok(Progress::Done(answer)) => {
+                replace_with(self, answer, HostClient::answered);
+                Ok(Progress::Done(()))
+            }
+            Ok(Progress::Round) => Ok(Progress::Round),
+            Ok(Progress::Waiting) => Ok(Progress::Waiting),
+            Ok(Progress::Over) => {
+                self.settle();
+                Ok(Progress::Over)
+            }
+            Err(_) => {
+                self.settle();
+                Err(Fault::NoMemory)
+            }
+        }
+    }
+
+    // The client with the answer to its request, if it has one.
+    fn answered(self, answer: Answer) -> (HostClient, ())
+        requires { CanAnswer self answer }
+        ensures { result.0 ≡ answered_with self answer }
+    {
+        match self {
+            HostClient::Asked(under_way) => (HostClient::Answered(under_way.answered(answer)), ()),
+            other => (other, ()),
+        }
+    }
+
+    // The client after a call to go on with the keys that it loads, if it does, and what came of that.
+    fn load(self, alloc: Global) -> (HostClient, Result<Progress<()>, Fault>)
+        ensures { LoadsOn self result.0 result.1 }
+    {
+        match self {
             HostClient::Loading(loading) => loading.advance(alloc),
-            HostClient::Answered(_) | HostClient::Loaded(_) => (self, Ok(Progress::Done(()))),
+            other => (other, Err(Fault::Idle)),
         }
     }
 

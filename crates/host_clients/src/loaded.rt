@@ -5,9 +5,10 @@
 ghost use Rattle.std.specs.Prelude.{◌≡◌};
 ghost use Rattle.host_clients.specs.Loads.{AreOutcomesOf};
 
+use crate::idle::IdleClient;
 use flat_outcomes::FlatOutcomes;
 use rounds_by_hand::HandedIn;
-use server::{ClientSession, LoadByHand};
+use server::LoadByHand;
 use std::marker::Model;
 use std::snapshot::Snapshot;
 
@@ -15,7 +16,7 @@ use std::snapshot::Snapshot;
 ///
 /// A contract sees the client, what was asked, and the outcomes. They are those of the keys (`AreOutcomesOf`).
 pub struct LoadedClient {
-    pub(crate) client: ClientSession<HandedIn>,
+    pub(crate) idle: IdleClient,
     pub(crate) outcomes: FlatOutcomes,
     // what loaded them, for contracts alone: it takes no memory
     pub(crate) loaded: Snapshot<LoadByHand<HandedIn>>,
@@ -32,15 +33,15 @@ impl Model for LoadedClient {
 
     ghost coded = { Prim.hlevel (codes, type_ref.the_row.coded, literal.the_row.coded, handed.the_row.coded) };
 
-    ghost view = { λ d. record { client = d.client; asked = d.loaded.value.keys; outcomes = d.outcomes } };
+    ghost view = { λ d. record { client = d.idle; asked = d.loaded.value.keys; outcomes = d.outcomes } };
 
-    ghost invariant = { λ d. AreOutcomesOf d.client.server d.loaded.value.keys d.outcomes };
+    ghost invariant = { λ d. AreOutcomesOf d.idle.server d.loaded.value.keys d.outcomes };
 }
 
 impl Drop for LoadedClient {
     fn drop(self) {
         let LoadedClient {
-            client: _client,
+            idle: _idle,
             outcomes: _outcomes,
             loaded: _loaded,
         } = self;
@@ -57,14 +58,14 @@ impl LoadedClient {
     }
 
     /// The client, without the outcomes.
-    pub fn into_client(self) -> ClientSession<HandedIn>
+    pub(crate) fn into_idle(self) -> IdleClient
         ensures { result ≡ self.client }
     {
         let LoadedClient {
-            client,
+            idle,
             outcomes: _outcomes,
             loaded: _loaded,
         } = self;
-        client
+        idle
     }
 }

@@ -2,13 +2,15 @@
 //!
 //! A load goes on in the turns of a request, so that a host has one loop for both.
 ghost use Rattle.std.specs.Prelude.{◌≡◌, ◌<◌, length};
+ghost use Rattle.load_rounds.specs.Histories.{any_tell};
 ghost use Rattle.rounds_by_hand.specs.Hands.{handed};
-ghost use Rattle.server.specs.LoadsByHand.{load_by_hand_of};
+ghost use Rattle.server.specs.LoadsByHand.{ClientStopsLoad, load_by_hand_of};
 ghost use Rattle.host_clients.specs.Clients.{Advances, IsGivenUp, Takes};
 ghost use Rattle.host_clients.specs.Loads.{load_orders};
 
 use crate::client::HostClient;
 use crate::fault::Fault;
+use crate::idle::IdleClient;
 use crate::loaded::LoadedClient;
 use crate::under_way::{stepped, taken};
 use flat_orders::FlatOrders;
@@ -16,7 +18,7 @@ use flat_outcomes::FlatOutcomes;
 use load_memory::Item;
 use load_queue::FetchFault;
 use rounds_by_hand::{HandedIn, Progress, TakeFault};
-use server::{ClientSession, LoadByHand, PlannedLoad};
+use server::{LoadByHand, PlannedLoad};
 use std::alloc::Global;
 use std::marker::Model;
 use std::snapshot::Snapshot;
@@ -56,19 +58,25 @@ impl Drop for LoadUnderWay {
     }
 }
 
+// The client that loaded by hand, with the room of its orders.
+fn idle_of(hand: LoadByHand<HandedIn>, orders: FlatOrders) -> IdleClient
+    ensures client { result ≡ hand.client }
+    ensures stopped { ClientStopsLoad any_tell hand result }
+{
+    let client = hand.into_client();
+    IdleClient { client, orders }
+}
+
 impl LoadUnderWay {
     /// A load of these keys in the session of a client. Nothing is done of it yet.
-    pub(crate) fn begin(
-        alloc: Global,
-        client: ClientSession<HandedIn>,
-        planned: PlannedLoad,
-    ) -> LoadUnderWay
-        requires { planned.loader < length client.session.loaders }
-        ensures { result ≡ load_by_hand_of client planned handed }
+    pub(crate) fn begin(idle: IdleClient, planned: PlannedLoad) -> LoadUnderWay
+        requires { planned.loader < length idle.session.loaders }
+        ensures { result ≡ load_by_hand_of idle planned handed }
     {
+        let (client, orders) = idle.into_parts();
         LoadUnderWay {
             hand: client.load_by_hand(planned),
-            orders: FlatOrders::new(alloc),
+            orders,
         }
     }
 
@@ -90,13 +98,16 @@ impl LoadUnderWay {
                 Ok(outcomes) => {
                     let snapshot = Snapshot::of(&hand);
                     let loaded = LoadedClient {
-                        client: hand.into_client(),
+                        idle: idle_of(hand, orders),
                         outcomes,
                         loaded: snapshot,
                     };
                     (HostClient::Loaded(loaded), Ok(Progress::Done(())))
                 }
-                Err(_) => (HostClient::Idle(hand.into_client()), Err(Fault::NoMemory)),
+                Err(_) => (
+                    HostClient::Idle(idle_of(hand, orders)),
+                    Err(Fault::NoMemory),
+                ),
             },
             Ok(Progress::Round) => {
                 let loading = LoadUnderWay { hand, orders };
@@ -106,8 +117,11 @@ impl LoadUnderWay {
                 let loading = LoadUnderWay { hand, orders };
                 (HostClient::Loading(loading), Ok(Progress::Waiting))
             }
-            Ok(Progress::Over) => (HostClient::Idle(hand.into_client()), Ok(Progress::Over)),
-            Err(_) => (HostClient::Idle(hand.into_client()), Err(Fault::NoMemory)),
+            Ok(Progress::Over) => (HostClient::Idle(idle_of(hand, orders)), Ok(Progress::Over)),
+            Err(_) => (
+                HostClient::Idle(idle_of(hand, orders)),
+                Err(Fault::NoMemory),
+            ),
         }
     }
 
@@ -130,14 +144,11 @@ impl LoadUnderWay {
     }
 
     /// Gives it up.
-    pub(crate) fn into_client(self) -> ClientSession<HandedIn>
+    pub(crate) fn into_idle(self) -> IdleClient
         ensures client { result ≡ self.client }
         ensures stopped { IsGivenUp (HostClient.Loading self) (HostClient.Idle result) }
     {
-        let LoadUnderWay {
-            hand,
-            orders: _orders,
-        } = self;
-        hand.into_client()
+        let LoadUnderWay { hand, orders } = self;
+        idle_of(hand, orders)
     }
 }

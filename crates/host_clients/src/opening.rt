@@ -7,6 +7,7 @@ ghost use Rattle.host_clients.specs.Opening.{AreLimitsFor, AreNewLoaders, Client
 
 use crate::client::HostClient;
 use crate::fault::Fault;
+use crate::idle::IdleClient;
 use gq_bindings::{By, LoaderLine};
 use gq_lexer::Place;
 use load_memory::KeyMode;
@@ -180,5 +181,5 @@ pub fn open_client(alloc: Global, server: &Server, limits: &[u32]) -> Result<Hos
     let loaders = new_loaders(alloc, lines, limits)?;
     let session = Session::new(alloc, loaders)?;
     let client = ClientSession::new(alloc, server.clone()?, session);
-    Ok(HostClient::Idle(client))
+    Ok(HostClient::Idle(IdleClient::new(alloc, client)))
 }

@@ -2,19 +2,21 @@
 ghost use Rattle.std.specs.Prelude.{◌≡◌, ◌≤◌, ◌++◌, ◌∷◌, [], Ok, IfOk, OnOk, OnErr, length, map};
 ghost use Rattle.rounds_by_hand.specs.Pending.{order_in};
 ghost use Rattle.host_clients.specs.Asked.{PlansHost};
-ghost use Rattle.host_clients.specs.Clients.{Advances, IsBegunWith, IsGivenUp, Takes, orders_after, orders_then};
+ghost use Rattle.load_rounds.specs.Histories.{any_tell};
+ghost use Rattle.server.specs.Hands.{GoesOn};
+ghost use Rattle.host_clients.specs.Clients.{IsAnswered, IsBegunWith, IsGivenUp, StepsOn, Takes, answered_by, orders_after, orders_then};
 ghost use Rattle.host_clients.specs.UnderWay.{orders_out};
 
 use crate::answered::AnsweredClient;
 use crate::client::HostClient;
-use crate::fault::Fault;
+use crate::idle::IdleClient;
 use crate::note::AskedNote;
 use flat_orders::FlatOrders;
 use load_memory::Item;
 use load_queue::FetchFault;
 use rounds_by_hand::{HandedIn, Pending, Progress, TakeFault};
-use server::{Answer, ByHand, ClientSession, PlannedRequest, Queries};
-use std::alloc::{AllocError, Global};
+use server::{Answer, ByHand, PlannedRequest, Queries};
+use std::alloc::AllocError;
 use std::marker::Model;
 use std::snapshot::Snapshot;
 
@@ -117,23 +119,34 @@ pub(crate) fn taken(orders: &mut FlatOrders, reply: Result<(), TakeFault>) -> Re
     reply
 }
 
+// Gives up what is answered by hand, if a round is out: then no orders are.
+fn give_up(hand: &mut ByHand<HandedIn>, orders: &mut FlatOrders)
+    ensures none { orders.new ≡ orders_out hand.new }
+    ensures underway { GoesOn any_tell hand.old hand.new }
+    ensures client { hand.new.client ≡ hand.old.client }
+    ensures planned { hand.new.planned ≡ hand.old.planned }
+{
+    hand.give_up();
+    orders.clear();
+}
+
 impl UnderWay {
     /// A request of a client, as it is planned. Nothing is done of it yet.
     pub(crate) fn begin(
-        alloc: Global,
-        client: ClientSession<HandedIn>,
+        idle: IdleClient,
         planned: PlannedRequest,
         note: AskedNote,
         queries: Snapshot<Queries>,
     ) -> UnderWay
-        requires fits { planned.loaders ≤ length client.session.loaders }
-        requires plans { PlansHost queries.value client.most note.asked planned }
-        ensures client { result.hand.client ≡ client }
+        requires fits { planned.loaders ≤ length idle.session.loaders }
+        requires plans { PlansHost queries.value idle.most note.asked planned }
+        ensures client { result.hand.client ≡ idle }
         ensures begun { IsBegunWith queries.value note.asked result }
     {
+        let (client, orders) = idle.into_parts();
         UnderWay {
             hand: client.by_hand(planned),
-            orders: FlatOrders::new(alloc),
+            orders,
             note,
             queries,
         }
@@ -143,48 +156,47 @@ impl UnderWay {
     ///
     /// # Errors
     ///
-    /// [`NoMemory`](Fault::NoMemory): it is given up, as it is where memory ran out before.
-    pub(crate) fn advance(self) -> (HostClient, Result<Progress<()>, Fault>)
-        ensures { Advances (HostClient.Asked self) result.0 result.1 }
+    /// When out of memory: it is given up, as it is where memory ran out before.
+    pub(crate) fn advance(&mut self) -> Result<Progress<Answer>, AllocError>
+        ensures { StepsOn self.old self.new result }
+    {
+        match stepped(self.hand.advance(), &mut self.orders, self.hand.orders()) {
+            Ok(Progress::Round) => Ok(Progress::Round),
+            Ok(Progress::Waiting) => Ok(Progress::Waiting),
+            Ok(Progress::Done(answer)) => {
+                give_up(&mut self.hand, &mut self.orders);
+                Ok(Progress::Done(answer))
+            }
+            Ok(Progress::Over) => {
+                give_up(&mut self.hand, &mut self.orders);
+                Ok(Progress::Over)
+            }
+            Err(fault) => {
+                give_up(&mut self.hand, &mut self.orders);
+                Err(fault)
+            }
+        }
+    }
+
+    /// The client, with the answer to its request.
+    pub(crate) fn answered(self, answer: Answer) -> AnsweredClient
+        requires { IsAnswered self answer }
+        ensures { result ≡ answered_by self answer }
     {
         let UnderWay {
-            mut hand,
-            mut orders,
+            hand,
+            orders,
             note,
             queries,
         } = self;
-        match stepped(hand.advance(), &mut orders, hand.orders()) {
-            Ok(Progress::Done(answer)) => {
-                let Answer { text, rounds } = answer;
-                let answered = AnsweredClient {
-                    client: hand.into_client(),
-                    text,
-                    rounds,
-                    note,
-                    queries,
-                };
-                (HostClient::Answered(answered), Ok(Progress::Done(())))
-            }
-            Ok(Progress::Round) => {
-                let under_way = UnderWay {
-                    hand,
-                    orders,
-                    note,
-                    queries,
-                };
-                (HostClient::Asked(under_way), Ok(Progress::Round))
-            }
-            Ok(Progress::Waiting) => {
-                let under_way = UnderWay {
-                    hand,
-                    orders,
-                    note,
-                    queries,
-                };
-                (HostClient::Asked(under_way), Ok(Progress::Waiting))
-            }
-            Ok(Progress::Over) => (HostClient::Idle(hand.into_client()), Ok(Progress::Over)),
-            Err(_) => (HostClient::Idle(hand.into_client()), Err(Fault::NoMemory)),
+        let Answer { text, rounds, .. } = answer;
+        let client = hand.into_client();
+        AnsweredClient {
+            idle: IdleClient { client, orders },
+            text,
+            rounds,
+            note,
+            queries,
         }
     }
 
@@ -207,16 +219,17 @@ impl UnderWay {
     }
 
     /// Gives it up.
-    pub(crate) fn into_client(self) -> ClientSession<HandedIn>
+    pub(crate) fn into_idle(self) -> IdleClient
         ensures client { result ≡ self.hand.client }
         ensures stopped { IsGivenUp (HostClient.Asked self) (HostClient.Idle result) }
     {
         let UnderWay {
             hand,
-            orders: _orders,
+            orders,
             note: _note,
             queries: _queries,
         } = self;
-        hand.into_client()
+        let client = hand.into_client();
+        IdleClient { client, orders }
     }
 }

@@ -1,5 +1,5 @@
 -- Cutting one text into cells.
-use Rattle.std.proofs.Common.{◌≡◌, ◌≤◌, ◌<◌, ◌-◌, ◌+◌, ℕ, zero, suc, get_or, List, [], ◌∷◌, ◌++◌, take, drop, length, refl, sym, ap, arith, length-append, length-drop, false, inl, inr}
+use Rattle.std.proofs.Common.{◌≡◌, ◌≤◌, ◌<◌, ◌-◌, ◌+◌, ◌*◌, ℕ, zero, suc, get_or, List, [], ◌∷◌, ◌++◌, take, drop, length, refl, sym, ap, arith, length-append, length-drop, false, inl, inr}
 use Rattle.std.proofs.lemmas.List.{drop-append-le, take-append-le, drop_all, take_all, drop_at, length-take-le}
 use Rattle.std.proofs.lemmas.Str.{IsUtf8-append, IsUtf8-nil}
 use Rattle.std.proofs.lemmas.Str.{IsCharBoundary-from_drop}
@@ -7,7 +7,7 @@ use Rattle.std.proofs.lemmas.Bool.{cases_eq, false_from_ne_true}
 use Rattle.std.proofs.lemmas.Slice.Eq.{bytes_eq-Decides}
 use Rattle.std.specs.Prelude.{IsUtf8, slice_range, bytes_eq}
 use Rattle.std.specs.Str.{IsCharBoundary}
-use Rattle.load_memory.specs.Cells.{cut, IsCut, start_at}
+use Rattle.load_memory.specs.Cells.{cut, IsCut, HasPieces, start_at}
 
 -- no start lies past the end of the text
 pub start-within : (text : List ℕ) (start : ℕ) (ends : List ℕ) → IsCut text start ends → start ≤ length text
@@ -103,3 +103,9 @@ none-next cells text i before here k le = elim (cases_eq k i) [
   | inl e ↦ rw e here
   | inr ne ↦ before k (omega arith)
 ]
+
+-- as many cells as the pieces have are enough for them
+pub pieces-there : (width n : ℕ) (cells : List (List ℕ)) → length cells ≡ n * width → HasPieces width n cells
+unfolding HasPieces
+pieces-there width zero cells e = tt
+pieces-there width (suc n) cells e = (omega (arith, e), pieces-there width n (drop width cells) (omega (arith, e, length-drop width cells)))

@@ -37,6 +37,15 @@ impl Ends {
         }
     }
 
+    /// These places.
+    pub(crate) fn of(alloc: Global, places: &[u32]) -> Result<Ends, AllocError>
+        ensures { IfOk result (λ ends. ends ≡ places.now) }
+    {
+        Ok(Ends {
+            places: EndOffsets::Narrow(places.to_vec(alloc)?),
+        })
+    }
+
     /// Returns how many places there are.
     pub(crate) fn len(&self) -> usize
         ensures { result ≡ length self.now }

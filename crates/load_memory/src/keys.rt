@@ -1,60 +1,100 @@
 //! The keys that are asked together.
-ghost use Rattle.std.specs.Prelude.{◌≡◌, ◌==◌, ◌≤◌, [], take, drop, length, IfOk, OnOk, OnErr};
-ghost use Rattle.load_memory.specs.KeyLists.{shared};
+ghost use Rattle.std.specs.Prelude.{◌≡◌, ◌==◌, ◌≤◌, [], ◌∷◌, take, drop, length, IfOk, OnOk, OnErr, IsTrue};
+ghost use Rattle.load_memory.specs.KeyLists.{keys_held, AreFew, IsAllOf, IsPartOf};
 
 use crate::key::Key;
 use std::alloc::{AllocError, Global};
 use std::marker::Model;
 use std::sync::Arc;
+use std::{mem, slice};
 
 /// Greatest number of keys of a list that keeps its room to spare.
 const KEPT_ROOM: usize = 64;
 
-/// Keys that are asked together, in order: a range of a list that its clones and its parts share, so that none of them
-/// takes memory for keys.
-///
-/// A contract sees the list of the keys.
-///
-/// The orders of a round, their replies and the logs share the list that the wants had. So keys of a round are
-/// copied twice in all: as the memory's cache keys, and as those by which the wants find duplicates.
-#[derive(Debug)]
-pub struct Keys {
-    // none where no key is
-    list: Option<Arc<Vec<Key>>>,
+// A range of a list that is shared.
+#[derive(Debug, Drop)]
+struct KeyRange {
+    list: Arc<Vec<Key>>,
     from: usize,
     to: usize,
 }
 
+// Place of the keys.
+#[derive(Debug, Drop)]
+enum HeldKeys {
+    None,
+    // never a pair, whose copy would stand in another box
+    One(Key),
+    Range(KeyRange),
+}
+
+/// Keys that are asked together, in order: one by itself, or a range of a list that its clones and its parts share, so that none
+/// of them takes memory for keys. A pair alone stands in such a list too.
+///
+/// A contract sees the list of the keys.
+///
+/// The orders of a round, their replies and the logs share the list that the wants had. So keys of a round are
+/// copied twice in all: as the memory's cache keys, and as those by which the wants find duplicates. One by itself is copied for
+/// the log too.
+#[derive(Debug)]
+pub struct Keys {
+    held: HeldKeys,
+}
+
 impl Model for Keys {
-    ghost use Rattle.std.specs.Prelude.{List, slice_range};
-    ghost use Rattle.load_memory.specs.KeyLists.{shared, IsRange};
+    ghost use Rattle.std.specs.Prelude.{List};
+    ghost use Rattle.load_memory.specs.KeyLists.{keys_held, AreHeld};
     ghost use Rattle.load_memory.specs.declared.key.Key.{Key};
 
     ghost Value = { List Key };
 
-    ghost view = { λ k. slice_range (shared k.list) k.from k.to };
+    ghost view = { λ k. keys_held k.held };
 
-    ghost invariant = { λ k. IsRange k.from k.to (shared k.list) };
+    ghost invariant = { λ k. AreHeld k.held };
 }
 
 impl Drop for Keys {
     fn drop(self) {
-        let Keys {
-            list: _list,
-            from: _,
-            to: _,
-        } = self;
+        let Keys { held: _held } = self;
     }
 }
 
-// Returns the same list once more, in no memory.
-fn shared_again(list: &Option<Arc<Vec<Key>>>) -> Result<Option<Arc<Vec<Key>>>, AllocError>
-    ensures { IfOk result
-        (λ again. shared again ≡ shared list.now) }
+// All keys of a list. A long one gives back its room to spare.
+fn range_of(keys: Vec<Key>) -> Result<KeyRange, AllocError>
+    ensures { IfOk result (λ all. IsAllOf keys.items all) }
 {
-    match list {
-        Some(list) => Ok(Some(Arc::try_clone(list)?)),
-        None => Ok(None),
+    let mut keys = keys;
+    if keys.len() > KEPT_ROOM {
+        keys.shrink_to_fit();
+    }
+    let alloc = *keys.allocator();
+    let to = keys.len();
+    let list = Arc::new(alloc, keys)?;
+    Ok(KeyRange { list, from: 0, to })
+}
+
+impl KeyRange {
+    // The keys from one place of the list to another, in no memory.
+    fn part(&self, from: usize, to: usize) -> Result<KeyRange, AllocError>
+        ensures { IfOk result (IsPartOf self.now from to) }
+    {
+        Ok(KeyRange {
+            list: Arc::try_clone(&self.list)?,
+            from,
+            to,
+        })
+    }
+}
+
+// Tells whether there is no key, or one that is no pair.
+fn are_few(keys: &[Key]) -> bool
+    ensures { IsTrue result → AreFew keys.now }
+{
+    match keys {
+        [] => true,
+        [Key::All] => true,
+        [Key::Text(_)] => true,
+        _ => false,
     }
 }
 
@@ -64,9 +104,7 @@ impl Keys {
         ensures { result ≡ [] }
     {
         Keys {
-            list: None,
-            from: 0,
-            to: 0,
+            held: HeldKeys::None,
         }
     }
 
@@ -74,30 +112,29 @@ impl Keys {
     pub fn from_vec(keys: Vec<Key>) -> Result<Keys, AllocError>
         ensures { IfOk result (λ all. all ≡ keys.items) }
     {
-        if keys.is_empty() {
-            return Ok(Keys::new());
+        if !are_few(&keys) {
+            let range = range_of(keys)?;
+            return Ok(Keys {
+                held: HeldKeys::Range(range),
+            });
         }
         let mut keys = keys;
-        if keys.len() > KEPT_ROOM {
-            keys.shrink_to_fit();
+        match keys.pop() {
+            Some(key) => Ok(Keys {
+                held: HeldKeys::One(key),
+            }),
+            None => Ok(Keys::new()),
         }
-        let alloc = *keys.allocator();
-        let to = keys.len();
-        let list = Arc::new(alloc, keys)?;
-        Ok(Keys {
-            list: Some(list),
-            from: 0,
-            to,
-        })
     }
 
     /// The keys, in order.
     pub fn as_slice(&self) -> &[Key]
         ensures { result.now ≡ self.now }
     {
-        match &self.list {
-            Some(list) => &list[self.from..self.to],
-            None => &[],
+        match &self.held {
+            HeldKeys::None => &[],
+            HeldKeys::One(key) => slice::from_ref(key),
+            HeldKeys::Range(range) => &range.list[range.from..range.to],
         }
     }
 
@@ -105,7 +142,7 @@ impl Keys {
     pub fn len(&self) -> usize
         ensures { result ≡ length self.now }
     {
-        self.to - self.from
+        self.as_slice().len()
     }
 
     /// Tells whether there is no key.
@@ -125,25 +162,38 @@ impl Keys {
             (self.new ≡ drop at self.old) }
         ensures kept { OnErr result (self.new ≡ self.old) }
     {
-        let middle = self.from + at;
-        let first = Keys {
-            list: shared_again(&self.list)?,
-            from: self.from,
-            to: middle,
-        };
-        self.from = middle;
-        Ok(first)
+        if let HeldKeys::Range(range) = &mut self.held {
+            let middle = range.from + at;
+            let first = range.part(range.from, middle)?;
+            range.from = middle;
+            return Ok(Keys {
+                held: HeldKeys::Range(first),
+            });
+        }
+        if at == 0 {
+            return Ok(Keys::new());
+        }
+        Ok(mem::replace(self, Keys::new()))
     }
+}
+
+// The same key once more, which is no pair.
+fn copy_of(key: &Key) -> Result<Key, AllocError>
+    requires { AreFew (key.now ∷ []) }
+    ensures { IfOk result (λ copy. copy ≡ key.now) }
+{
+    Ok(key.clone()?)
 }
 
 impl Clone for Keys {
     ghost is_clone = { λ x y. y ≡ x };
 
     fn clone(&self) -> Result<Keys, AllocError> {
-        Ok(Keys {
-            list: shared_again(&self.list)?,
-            from: self.from,
-            to: self.to,
-        })
+        let held = match &self.held {
+            HeldKeys::None => HeldKeys::None,
+            HeldKeys::One(key) => HeldKeys::One(copy_of(key)?),
+            HeldKeys::Range(range) => HeldKeys::Range(range.part(range.from, range.to)?),
+        };
+        Ok(Keys { held })
     }
 }

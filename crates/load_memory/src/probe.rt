@@ -22,15 +22,18 @@ const MARKS_EACH: usize = 8;
 /// Says where the next key of a loader is looked for.
 #[derive(Clone, Copy)]
 struct NextPlaces {
-    // the place behind the furthest at which a key was found
+    // the place behind the furthest at which a key was found, and `LAST` until one was
     furthest: usize,
-    // the place behind the last that was found before the furthest
+    // the place behind the last that was found before the furthest, and 0 until one was
     earlier: usize,
 }
 
+/// Stands for the last place of a part, where a key stands that was stored alone.
+const LAST: usize = usize::MAX;
+
 /// Holds what a [`Memory`](crate::Memory) is asked by, for one key after another. It has the cache key that is set to that of
 /// each, and for a loader two places where its next key is looked for first: keys that are asked in the order in which they
-/// were stored are found without their hashes, also where others come again in between.
+/// were stored are found without their hashes, also where others come again in between, and so is the key that was stored last.
 ///
 /// There are eight such pairs of places, which loaders share by their number, so that they take no memory.
 /// Where many keys of a loader were found by their hashes, each of its keys gets a mark of 16 to 32 bytes, by
@@ -57,22 +60,30 @@ impl NextPlaces {
         ensures { IfSome result (λ o. look_in part.now.entries
             (folded mode (borrowed_of key.entry)) ≡ Some (outcome_of o.now)) }
     {
-        if let Some(outcome) = at_place(part, self.furthest, mode, key) {
-            self.furthest = self.furthest.saturating_add(1);
+        let likely = match self.furthest {
+            LAST => part.len().saturating_sub(1),
+            furthest => furthest,
+        };
+        if let Some(outcome) = at_place(part, likely, mode, key) {
+            self.furthest = likely.saturating_add(1);
             return Some(outcome);
         }
-        let outcome = at_place(part, self.earlier, mode, key)?;
-        self.earlier = self.earlier.saturating_add(1);
+        let place = self.earlier;
+        if place == 0 && self.furthest != LAST {
+            return None;
+        }
+        let outcome = at_place(part, place, mode, key)?;
+        self.note(place);
         Some(outcome)
     }
 
-    // A key was found at a place by its hash.
+    // A key was found at a place.
     fn note(&mut self, place: usize) {
         let next = place.saturating_add(1);
-        if next < self.furthest {
-            self.earlier = next;
-        } else {
+        if self.furthest == LAST || self.furthest <= next {
             self.furthest = next;
+        } else {
+            self.earlier = next;
         }
     }
 }
@@ -91,7 +102,7 @@ impl Probe {
     /// A probe that has asked for nothing yet. It takes no memory.
     pub fn new() -> Probe {
         let start = NextPlaces {
-            furthest: 0,
+            furthest: LAST,
             earlier: 0,
         };
         Probe {

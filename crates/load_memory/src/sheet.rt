@@ -2,11 +2,12 @@
 //!
 //! A [`SheetBuilder`] takes the names of the columns and then the cells row by row. The [`Sheet`]
 //! that it becomes is shared by the rows that are taken from it.
-ghost use Rattle.std.specs.Prelude.{◌≡◌, ◌<◌, ◌-◌, ◌+◌, ◌++◌, ◌∷◌, ◌^◌, ◌≤◌, [], take, OnOk, OnErr, get_or, ◌==◌, length, position, bytes_eq, ℕ};
-ghost use Rattle.load_memory.specs.Cells.{start_at};
+ghost use Rattle.std.specs.Prelude.{◌≡◌, ◌<◌, ◌-◌, ◌+◌, ◌*◌, ◌++◌, ◌∷◌, ◌^◌, ◌≤◌, [], take, IfOk, OnOk, OnErr, get_or, ◌==◌, length, position, bytes_eq, ℕ};
+ghost use Rattle.load_memory.specs.Cells.{cut, sheet_of, start_at, IsCut};
 ghost use Rattle.load_memory.specs.Rows.{IsRectangular, draft_with_names, draft_with_row};
 
 use crate::ends::Ends;
+use crate::texts::is_same_text;
 use std::alloc::{AllocError, Global};
 use std::marker::Model;
 
@@ -46,6 +47,17 @@ impl Cells {
         }
     }
 
+    // The texts that end in a text at these places.
+    fn of(alloc: Global, text: &str, ends: &[u32]) -> Result<Cells, AllocError>
+        requires { IsCut text.now 0 ends.now }
+        ensures { IfOk result (λ cells. cells ≡ cut text.now 0 ends.now) }
+    {
+        Ok(Cells {
+            text: String::from_str(alloc, text)?,
+            ends: Ends::of(alloc, ends)?,
+        })
+    }
+
     fn len(&self) -> usize
         ensures { result ≡ length self.now }
     {
@@ -77,7 +89,7 @@ impl Cells {
         let mut start = 0;
         for i in 0..count {
             let end = self.ends.get(i);
-            if end - start == text.len() && &self.text.as_str()[start..end] == text {
+            if end - start == text.len() && is_same_text(&self.text.as_str()[start..end], text) {
                 return Some(i);
             }
             start = end;
@@ -234,6 +246,24 @@ impl Drop for Sheet {
 }
 
 impl Sheet {
+    /// The sheet of texts that end in one text at these places: first the names of the columns, and then the fields, row by
+    /// row. It takes two blocks of memory.
+    pub fn of_texts(
+        alloc: Global,
+        width: usize,
+        rows: u32,
+        text: &str,
+        ends: &[u32],
+    ) -> Result<Sheet, AllocError>
+        requires cut { IsCut text.now 0 ends.now }
+        requires whole { length ends.now ≡ width + rows * width }
+        ensures { IfOk result
+            (λ s. s ≡ sheet_of width rows (cut text.now 0 ends.now)) }
+    {
+        let cells = Cells::of(alloc, text, ends)?;
+        Ok(Sheet { cells, width, rows })
+    }
+
     /// Returns how many columns there are.
     pub fn width(&self) -> usize
         ensures { result ≡ length self.now.names }

@@ -14,6 +14,9 @@ use crate::loader_memory::{LoaderMemory, StagedPair, put};
 use crate::reply::Reply;
 use std::alloc::{AllocError, Global};
 
+/// Number of pairs that are stored before their list gives back memory.
+const GIVEN_BACK: usize = 4096;
+
 /// Adds the pairs of a reply, place by place, to those that are to be stored.
 pub(crate) fn stage(
     pairs: &mut Vec<StagedPair>,
@@ -160,8 +163,17 @@ pub(crate) fn clear_loaders(parts: &mut Vec<LoaderMemory>)
     }
 }
 
+// Gives back the memory that pairs had which were taken, once there are many of them.
+fn give_back(rest: &mut Vec<StagedPair>)
+    ensures { rest.new.items ≡ rest.old.items }
+{
+    if rest.len() % GIVEN_BACK == 0 {
+        rest.shrink_to_fit();
+    }
+}
+
 /// Stores the pairs whose keys are absent, of equal keys the first, where there is room for all. Gives
-/// how many it stored.
+/// how many it stored. The list gets shorter as the parts fill, so that large ones don't stand side by side.
 pub(crate) fn put_all(parts: &mut Vec<LoaderMemory>, pairs: Vec<StagedPair>) -> usize
     requires room { HaveRoom parts.old.items pairs.items }
     requires loaders { All (λ (s : StagedPair).
@@ -174,7 +186,10 @@ pub(crate) fn put_all(parts: &mut Vec<LoaderMemory>, pairs: Vec<StagedPair>) -> 
         parts.old.items parts.new.items }
 {
     let mut added = 0;
-    for pair in pairs {
+    let mut rest = pairs;
+    rest.reverse();
+    while let Some(pair) = rest.pop() {
+        give_back(&mut rest);
         let StagedPair {
             loader,
             key,

@@ -92,3 +92,10 @@ pub saw-last : (mode : KeyMode) (old new : SeenKeys) (keys : List KeyOf) (cached
     → new.cache_keys.keys ≡ insert_key equal old.cache_keys.keys cached → new.count ≡ length keys + 1 → HaveSeen mode new (keys ++ key ∷ [])
 saw-last mode old new keys cached key saw all is inserted counted =
     saw-one mode old new (keys ++ key ∷ []) cached key (seen-before mode old keys (key ∷ []) saw) (omega (arith, all, length-append keys (key ∷ []))) (sym (get_or_push keys key key old.count (sym all))) is inserted (counted ∙ ap (λ n. n + 1) (sym all))
+
+-- where no key was seen, none of an empty list was, however keys are compared
+pub seen-none : (was mode : KeyMode) (seen : SeenKeys) (keys : List KeyOf) → HaveSeen was seen keys → seen.count ≡ 0 → HaveSeen mode seen []
+seen-none was mode seen keys saw none = record {
+  within = omega (arith, none);
+  same = λ key. rw none (rw none at saw.same key);
+}

@@ -1,10 +1,11 @@
 -- What is wanted of loaders, by the loader's number.
-use Rattle.std.proofs.Common.{◌≡◌, ℕ, zero, suc, ◌<◌, true, false, List, [], ◌∷◌, ◌++◌, map, length, get_or, refl, ap, sym, arith}
+use Rattle.std.proofs.Common.{◌≡◌, ℕ, zero, suc, ◌<◌, true, false, List, [], ◌∷◌, ◌++◌, map, length, get_or, refl, ap, sym, ◌∙◌, arith}
 use Rattle.std.proofs.Common.{◌≤◌}
 use Rattle.std.proofs.lemmas.List.{length-map}
 use Rattle.std.specs.Prelude.{slice_set}
 use Rattle.load_memory.specs.Keys.{KeyOf}
 use Rattle.load_memory.specs.declared.key.KeyMode.{KeyMode}
+use Rattle.load_memory.specs.declared.key.KeyMode.TheVariants.{Exact}
 use Rattle.load_queue.specs.Wanted.{WantedOf, nothing_wanted, wanted_in, is_wanted, with_key, mode_wanted, keys_wanted, is_key_wanted, with_wanted, taken_from}
 
 pub with-new : (w : WantedOf) (key : KeyOf) → is_wanted w key ≡ false → with_key w key ≡ record { mode = w.mode; keys = w.keys ++ key ∷ [] }
@@ -127,3 +128,11 @@ taken-in [] modes i lt inside = absurd (omega arith)
 taken-in (w ∷ ws) [] i lt inside = absurd (omega arith)
 taken-in (w ∷ ws) (m ∷ modes) zero lt inside = refl
 taken-in (w ∷ ws) (m ∷ modes) (suc i) lt inside = ap (λ vs. w ∷ vs) (taken-in ws modes i (omega arith) (omega arith))
+
+-- where nothing is wanted of the loaders with lists, nothing is wanted
+pub none-in : (ws : List WantedOf) (modes : List KeyMode) → length ws ≤ length modes → ((k : ℕ) (other : WantedOf) → k < length ws → get_or ws k other ≡ nothing_wanted (get_or modes k Exact)) → wanted_in ws modes ≡ map nothing_wanted modes
+none-in [] modes le none = refl
+none-in (w ∷ ws) [] le none = absurd (omega (arith, le))
+none-in (w ∷ ws) (m ∷ modes) le none =
+    ap (λ v. v ∷ wanted_in ws modes) (none zero w (omega arith))
+    ∙ ap (λ vs. nothing_wanted m ∷ vs) (none-in ws modes (omega (arith, le)) (λ k other lt. none (suc k) other (omega (arith, lt))))

@@ -1,6 +1,6 @@
 //! The keys that are wanted of each loader, in order, of equal cache keys only the first.
-ghost use Rattle.std.specs.Prelude.{◌≡◌, ◌<◌, [], IfOk, OnOk, OnErr, length, map, not, false};
-ghost use Rattle.load_memory.specs.Keys.{key_of};
+ghost use Rattle.std.specs.Prelude.{◌≡◌, ◌<◌, List, [], IfOk, OnOk, OnErr, length, map, not, false};
+ghost use Rattle.load_memory.specs.Keys.{KeyOf, key_of};
 ghost use Rattle.load_queue.specs.Wanted.{nothing_wanted, wanted_in, HaveSeen, is_wanted, with_key, mode_wanted, keys_wanted, is_key_wanted, with_wanted, taken_from};
 
 use indexmap::IndexSet;
@@ -56,6 +56,27 @@ fn see_rest(
     Ok(())
 }
 
+// Forgets all that was seen. Where nothing was, nothing is done.
+fn forget_seen(alloc: Global, seen: &mut SeenKeys)
+    ensures { (was mode : KeyMode) (keys : List KeyOf)
+        → HaveSeen was seen.old keys → HaveSeen mode seen.new [] }
+{
+    if seen.count > 0 {
+        *seen = SeenKeys::new(alloc);
+    }
+}
+
+impl SeenKeys {
+    fn new(alloc: Global) -> SeenKeys
+        ensures { (mode : KeyMode) (keys : List KeyOf) → HaveSeen mode result keys }
+    {
+        SeenKeys {
+            cache_keys: IndexSet::new(alloc),
+            count: 0,
+        }
+    }
+}
+
 impl WantedKeys {
     fn new(alloc: Global, mode: KeyMode) -> WantedKeys
         ensures { result ≡ nothing_wanted mode }
@@ -63,10 +84,7 @@ impl WantedKeys {
         WantedKeys {
             mode,
             keys: Vec::new(alloc),
-            seen: SeenKeys {
-                cache_keys: IndexSet::new(alloc),
-                count: 0,
-            },
+            seen: SeenKeys::new(alloc),
         }
     }
 
@@ -90,9 +108,18 @@ impl WantedKeys {
             ≡ nothing_wanted self.old.mode }
     {
         let alloc = *self.keys.allocator();
-        let all = mem::replace(self, WantedKeys::new(alloc, self.mode));
-        let WantedKeys { keys, .. } = all;
-        keys
+        forget_seen(alloc, &mut self.seen);
+        mem::replace(&mut self.keys, Vec::new(alloc))
+    }
+
+    // Nothing is wanted of the loader, which compares its keys so. The list keeps its room.
+    fn begin(&mut self, mode: KeyMode)
+        ensures { self.new ≡ nothing_wanted mode }
+    {
+        let alloc = *self.keys.allocator();
+        forget_seen(alloc, &mut self.seen);
+        self.keys.clear();
+        self.mode = mode;
     }
 
     fn add(&mut self, key: Key) -> Result<bool, AllocError>
@@ -207,9 +234,13 @@ impl Wants {
         ensures { OnOk result
             (self.new ≡ map nothing_wanted memory.now.modes) }
     {
-        self.lists.clear();
+        let modes = memory.modes();
+        self.lists.truncate(modes.len());
+        for loader in 0..self.lists.len() {
+            self.lists[loader].begin(modes[loader]);
+        }
         self.modes.clear();
-        self.modes.extend_from_slice(memory.modes())
+        self.modes.extend_from_slice(modes)
     }
 
     /// Returns how a loader compares its keys.

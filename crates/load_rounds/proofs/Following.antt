@@ -1,5 +1,5 @@
 -- Rounds that follow one another, until nothing is missing.
-use Rattle.std.proofs.Common.{true, ◌≡◌, ◌≢◌, ◌<◌, ◌≤◌, ◌+◌, ℕ, List, [], ◌∷◌, ◌++◌, map, length, refl, ap, ◌∙◌, sym, arith, length-append}
+use Rattle.std.proofs.Common.{true, ◌≡◌, ◌≢◌, ◌<◌, ◌+◌, ℕ, List, [], ◌∷◌, ◌++◌, map, length, refl, ap, ◌∙◌, sym, arith, length-append}
 use Rattle.std.proofs.Math.Path.{fun_ext}
 use Rattle.std.specs.Prelude.{slice_get}
 use Rattle.std.proofs.lemmas.List.{length-map}
@@ -12,21 +12,17 @@ use Rattle.load_queue.specs.Orders.{OrderOf}
 use Rattle.load_queue.specs.Wanted.{WantedOf, nothing_wanted, keys_wanted}
 use Rattle.execution.specs.Loads.{Load, Memory, read}
 use Rattle.execution.specs.Program.{Program, needs}
-use Rattle.execution.specs.Completion.{AnsweredOf}
 use Rattle.execution.specs.Front.{front, missing, wanting, modes_wanted, keys_for}
-use Rattle.execution.specs.Rounds.{RuleOf, rule_of, modes_of, round_orders, may_at, AreReplies, AreRounds, AreLimited, HasLoaders, after_round, without_failed}
+use Rattle.execution.specs.Rounds.{RuleOf, rule_of, modes_of, round_orders, may_at, AreReplies, AreRounds, after_round, without_failed}
 use Rattle.execution.specs.Sessions.{Forgot, AskedLoads}
-use Rattle.execution.proofs.OnceLaws.{asked-once, answered-in}
-use Rattle.execution.proofs.RoundLaws.{rounds-chain, rounds-sparing, rounds-more}
+use Rattle.execution.proofs.RoundLaws.{rounds-more}
 use Rattle.execution.proofs.Wanting.{wanting-front, wanting-firsts}
 use Rattle.load_rounds.specs.Sessions.{StateOf, rules_of, session_modes, after_step, after_steps}
 use Rattle.load_rounds.specs.Rounds.{AreWanted}
 use Rattle.load_rounds.specs.Calls.{RoundRan}
-use Rattle.load_rounds.specs.Headline.{asked_steps, MakesRounds, Headline}
-use Rattle.execution.specs.Executes.{IsTextOf}
+use Rattle.load_rounds.specs.Headline.{asked_steps, MakesRounds}
 use Rattle.load_rounds.proofs.Numbering.{source-at}
 pub use Rattle.load_rounds.proofs.Stepping.{SameSources}
-use Rattle.load_rounds.proofs.Stepping.{made-recorded}
 use Rattle.load_rounds.proofs.Stepping.{ran-rules}
 use Rattle.load_rounds.proofs.Lacking.{length-wanting}
 
@@ -111,24 +107,3 @@ module _ {S : Type 0} (may : S → List KeyOf → AnswerOf → Type 0) where
 
   pub in-loaders : (old cur : StateOf S) (p : Program) (rounds : ℕ) → InRounds old cur p rounds → length cur.loaders ≡ length old.loaders
   in-loaders old cur p rounds is = sym (length-map cur.loaders rule_of) ∙ ap length is.rules ∙ length-map old.loaders rule_of
-
-  -- nothing is missing
-  pub in-all : (old cur : StateOf S) (p : Program) (rounds loaders : ℕ) (text_of : AnsweredOf → List ℕ) (text : List ℕ) → InRounds old cur p rounds → AreLimited (rules_of old) → HasLoaders loaders p → loaders ≤ length old.loaders
-      → front (session_modes cur) p cur.memory ≡ [] → IsTextOf text_of p (read (session_modes cur) cur.memory) text → Headline may old cur p text_of text rounds
-  in-all old cur p rounds loaders text_of text is limited within enough none done =
-      let same : session_modes cur ≡ session_modes old = ap modes_of is.rules in
-      let size = length-map old.loaders rule_of in
-      let own : HasLoaders (length (rules_of old)) p = λ R l one. let below = within R l one in omega (arith, below, enough, size) in
-      let log = is.made.rounds in
-      record {
-        answered = rw same at done;
-        log = is.log;
-        made = is.made;
-        complete = rw same at none;
-        recorded = made-recorded may old cur p is.log is.made;
-        pairs = λ pair there. answered-in (may_at may old.loaders) (rules_of old) p (without_failed old.memory) is.log cur.memory pair.loader pair.key pair.outcome log there;
-        once = asked-once (may_at may old.loaders) (rules_of old) p limited (without_failed old.memory) is.log cur.memory log;
-        counted = is.counted;
-        chained = omega (arith, is.counted, rounds-chain (may_at may old.loaders) (rules_of old) p (without_failed old.memory) is.log cur.memory limited own log);
-        fewest = λ Ns run. omega (arith, is.counted, rounds-sparing (may_at may old.loaders) (rules_of old) p (without_failed old.memory) is.log cur.memory Ns limited own log run);
-      }

@@ -11,12 +11,12 @@ use Rattle.execution.specs.Program.{ListOf, Program, Under, tree, trees, needs, 
 use Rattle.execution.specs.Completion.{is_open, any_open, AnsweredOf}
 use Rattle.execution.specs.Front.{front, missing, firsts, wanting, modes_wanted}
 use Rattle.execution.specs.Rounds.{HasLoaders, IsBelow}
-use Rattle.execution.proofs.Monotone.{front-open, front-stays, exec-stays}
+use Rattle.execution.proofs.Monotone.{front-open, front-stays, exec-stays, needs-stay}
 use Rattle.execution.proofs.Same.{one-either, reads-more}
 use Rattle.execution.proofs.SharedLaws.{below-front}
 use Rattle.execution.proofs.Wanting.{wanting-firsts, with-modes}
-use Rattle.execution.specs.Executes.{GrowsTo}
-use Rattle.execution.specs.Executes.{IsTextOf}
+use Rattle.execution.specs.Executes.{GrowsTo, IsTextOf}
+use Rattle.execution.specs.Reads.{count_read, counted}
 use Rattle.load_rounds.specs.SharedRounds.{RequestOf, ReportOf, request_of, report_of, requests, needs_of_all, front_of_all, items_from, together}
 use Rattle.load_rounds.specs.Executions.{PartOf, IsDone, TellsAt, plans_in, reports_in, given_to, FitsPart, FitParts, GoesOn}
 use Rattle.load_rounds.specs.declared.answer.Answer.{Answer}
@@ -219,6 +219,7 @@ done-later loaders r m later report done grown =
         report = done.answered.report;
       };
       within = done.within;
+      loads = done.loads ∙ rw (grown.modes, needs-stay r.program (read m.modes (look m.pairs)) (read m.modes (look later.pairs)) more closed) refl;
     }
 
 pub report-is : (o : Option Answer) (b : Bool) → b ≡ is_some o → b ≡ true → is_some (option_map report_of o) ≡ true
@@ -246,12 +247,12 @@ module _ {P E : Type 0} (program : P → Program) (text_of : P → AnsweredOf �
   part-front progress (Some report) there fit = fit.complete
 
   -- nothing is missing for it any more
-  pub part-ready : (before progress : E) (old : Option ReportOf) (report : ReportOf) → old ≡ None → report.rounds ≡ rounds → front m.modes (program plan) (look m.pairs) ≡ [] → IsTextOf (text_of plan) (program plan) (read m.modes (look m.pairs)) report.text → HasLoaders (loaders plan) (program plan)
+  pub part-ready : (before progress : E) (old : Option ReportOf) (report : ReportOf) → old ≡ None → report.rounds ≡ rounds → front m.modes (program plan) (look m.pairs) ≡ [] → IsTextOf (text_of plan) (program plan) (read m.modes (look m.pairs)) report.text → report.loads ≡ counted (count_read (program plan) (read m.modes (look m.pairs))) → HasLoaders (loaders plan) (program plan)
       → GoesOn program text_of loaders fits rounds m (record { plan = plan; progress = before; report = old }) (record { plan = plan; progress = progress; report = Some report })
-  part-ready before progress old report none counted complete answered within = record {
+  part-ready before progress old report none count complete answered loads within = record {
     same = refl;
-    report = (complete, inr (none, counted));
-    fitting = λ later grown. done-later (loaders plan) (request_of (program plan) (text_of plan)) m later report (record { complete = complete; answered = answered; within = within }) grown;
+    report = (complete, inr (none, count));
+    fitting = λ later grown. done-later (loaders plan) (request_of (program plan) (text_of plan)) m later report (record { complete = complete; answered = answered; within = within; loads = loads }) grown;
     within = within;
   }
 

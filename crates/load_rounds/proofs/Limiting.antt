@@ -45,10 +45,6 @@ work-of-all-grows [] R Q more = omega arith
 work-of-all-grows (r ∷ rs) R Q more = omega (arith, work-grows r.program R Q more, work-of-all-grows rs R Q more)
 
 -- one of several, by its place
-pub only-there : {X : Type 0} (x : X) (at : ℕ) → at < 1 → x ≡ get_or (x ∷ []) at x
-only-there x zero lt = refl
-only-there x (suc at) lt = absurd (omega (arith, lt))
-
 pub plan-there : {P E : Type 0} (xs : List (PartOf P E)) (at : ℕ) (x : PartOf P E) (plan : P) → at < length xs → x ≡ get_or xs at x → plan ≡ x.plan → plan ≡ get_or (plans_in xs) at plan
 plan-there [] at x plan lt there is = absurd (omega (arith, lt))
 plan-there (y ∷ xs) zero x plan lt there is = is ∙ ap (λ (z : PartOf _ _). z.plan) there
@@ -99,9 +95,6 @@ module _ {P : Type 0} (program : P → Program) (text_of : P → AnsweredOf → 
     closed-next (suc n) next k (p ∷ ps) d is lt there was own =
         let b = or-left (is_open (tree (program p) (read modes M))) (any_open (trees (items_from (suc k) (requests program text_of (take n ps))) (read modes M))) was in
         rw (is, b.0) (closed-next n (suc n) (suc k) ps d refl (omega (arith, lt)) there b.1 own)
-
-    pub complete-none : (plans : List P) → front modes (together (requests program text_of (take 0 plans))) M ≡ []
-    complete-none plans = refl
 
     pub complete-next : (n next : ℕ) (plans : List P) (d : P) → next ≡ suc n → n < length plans → d ≡ get_or plans n d → front modes (together (requests program text_of (take n plans))) M ≡ [] → front modes (program d) M ≡ []
         → front modes (together (requests program text_of (take next plans))) M ≡ []

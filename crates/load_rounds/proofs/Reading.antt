@@ -1,5 +1,5 @@
 -- Keys of a loader as a program: what a run of it does is what a call that loads them does.
-use Rattle.std.proofs.Common.{◌≡◌, ◌≢◌, ◌<◌, ◌≤◌, ◌+◌, ℕ, suc, Bool, true, false, List, [], ◌∷◌, ◌++◌, map, length, Option, Some, None, is_none, IsSome, refl, ap, subst, ◌∙◌, sym, inl, inr, ◌⊎◌, arith, String, string_bytes}
+use Rattle.std.proofs.Common.{◌≡◌, ◌≢◌, ◌<◌, ◌≤◌, ◌+◌, ◌^◌, ℕ, suc, Bool, true, false, List, [], ◌∷◌, ◌++◌, map, length, Option, Some, None, is_none, IsSome, refl, ap, subst, ◌∙◌, sym, inl, inr, ◌⊎◌, arith, String, string_bytes}
 use Rattle.std.proofs.lemmas.Bool.{le-ltb}
 use Rattle.std.proofs.lemmas.List.{append-nil, length-map}
 use Rattle.std.proofs.lemmas.List.Elements.{All-nil, All-cons}
@@ -17,6 +17,7 @@ use Rattle.execution.specs.Program.{Null, Program, Open, At, given, tree, trees,
 use Rattle.execution.specs.Work.{count_positions, count_all_positions, work}
 use Rattle.execution.specs.Completion.{is_open}
 use Rattle.execution.specs.Executes.{IsExecuted}
+use Rattle.execution.specs.Reads.{count_read}
 use Rattle.execution.specs.Front.{missing, firsts, front, front_of_keys, wanting, modes_wanted}
 use Rattle.execution.specs.Rounds.{RuleOf, rule_of, modes_of, round_orders, orders_from, may_at, AreReplies, AreRounds, AreLimited, HasLoaders, after_round, without_failed}
 use Rattle.execution.specs.Sessions.{Forgot, AskedLoads, Lost}
@@ -96,8 +97,10 @@ module _ (loader : ℕ) (ks : List KeyOf) (m : MemoryOf) (old new : List WantedO
   reading-adds : Adds (reading loader ks) m old new
   reading-adds = so.0 ∙ ap (λ ls. wanting old (missing (reads m) ls)) (sym (reads-all 0 loader ks (reads m)))
 
-  pub reading-ready : (text : String Global) → some ≡ false → string_bytes text ≡ [] → IsExecuted no_text old new (reading loader ks) m (Ready text)
-  reading-ready text none is = ready no_text (reading loader ks) m old new reading-adds text (open-lacks ∙ sym so.1 ∙ none) is
+  pub reading-ready : (text : String Global) (loads : ℕ) → some ≡ false → string_bytes text ≡ [] → loads ≡ length ks → loads < 2 ^ 64 → IsExecuted no_text old new (reading loader ks) m (Ready (record { text = text; loads = loads }))
+  reading-ready text loads none is all bounded =
+      let read : loads ≡ count_read (reading loader ks) (reads m) = all ∙ sym (length-map ks (load_of loader)) ∙ ap length (sym (reads-all 0 loader ks (reads m))) in
+      ready no_text (reading loader ks) m old new reading-adds (record { text = text; loads = loads }) (open-lacks ∙ sym so.1 ∙ none) is (omega (arith, read, bounded))
 
   pub reading-waits : some ≡ true → modes_wanted old ≡ m.modes → IsExecuted no_text old new (reading loader ks) m Pending
   reading-waits one lined_up = waits no_text (reading loader ks) m old new reading-adds (open-lacks ∙ sym so.1 ∙ one) lined_up

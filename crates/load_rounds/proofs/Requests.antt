@@ -13,7 +13,7 @@ use Rattle.execution.specs.Sessions.{Step, Forgot, AreApart, asked_cells}
 use Rattle.load_rounds.specs.Sessions.{StateOf, rules_of, session_modes, after_steps}
 use Rattle.load_rounds.specs.Calls.{RoundLost}
 use Rattle.load_rounds.specs.Headline.{asked_steps, Headline, StopsAnswering}
-use Rattle.load_rounds.specs.SharedRounds.{RequestOf, ReportOf, items_from, together, greatest, AreShared, SharedHeadline}
+use Rattle.load_rounds.specs.SharedRounds.{RequestOf, ReportOf, items_from, together, greatest, AreShared, SharedHeadline, IsAnsweredAlone}
 
 pub front-one : (modes : List KeyMode) (r : RequestOf) (M : Memory) → front modes (together (r ∷ [])) M ≡ front modes r.program M
 front-one modes r M = ap (λ ls. firsts modes (missing (read modes M) ls)) (append-nil (needs r.program (read modes M)))
@@ -85,8 +85,8 @@ module _ {S : Type 0} (may : S → List KeyOf → AnswerOf → Type 0) (old new 
         recorded = h.recorded;
       }
 
-  pub headline-alone : (r : RequestOf) (report : ReportOf) → Headline may old new r.program r.text_of report.text report.rounds → SharedHeadline may old new (r ∷ []) (report ∷ [])
-  headline-alone r report h =
+  pub headline-alone : (r : RequestOf) (report : ReportOf) → IsAnsweredAlone may old new r report → SharedHeadline may old new (r ∷ []) (report ∷ [])
+  headline-alone r report (h, loads) =
       let rules : List RuleOf = rules_of old in
       let M0 : Memory = without_failed old.memory in
       let same = λ (M : Memory). sym (front-one (modes_of rules) r M) in
@@ -99,7 +99,7 @@ module _ {S : Type 0} (may : S → List KeyOf → AnswerOf → Type 0) (old new 
         };
         complete = sym (same new.memory) ∙ h.complete;
         recorded = h.recorded;
-        answers = (record { answered = h.answered; counted = own-all (may_at may old.loaders) rules r.program M0 h.log new.memory h.made.rounds ∙ counted; chained = h.chained; fewest = h.fewest }, tt);
+        answers = (record { answered = h.answered; counted = own-all (may_at may old.loaders) rules r.program M0 h.log new.memory h.made.rounds ∙ counted; chained = h.chained; fewest = h.fewest; loads = loads }, tt);
         pairs = h.pairs;
         once = subst AreApart (cells-same rules r.program (together (r ∷ [])) same M0 h.log) h.once;
         longest = omega (arith, counted);

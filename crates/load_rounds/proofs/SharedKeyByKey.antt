@@ -38,8 +38,8 @@ module _ {S : Type 0} (old new : StateOf S) where
   one-report log r t u h k =
       let same : Some (h.answered).answered ≡ Some (k.answered).answered = sym (h.answered).executed ∙ (k.answered).executed in
       let text : t.text ≡ u.text = (h.answered).report ∙ ap r.text_of (some-same (h.answered).answered (k.answered).answered same) ∙ sym (k.answered).report in
-      let make : List ℕ → ℕ → ReportOf = λ x n. record { text = x; rounds = n } in
-      ap (λ x. make x t.rounds) text ∙ ap (make u.text) (sym h.counted ∙ k.counted)
+      let make : List ℕ → ℕ → ℕ → ReportOf = λ x n l. record { text = x; rounds = n; loads = l } in
+      ap (λ x. make x t.rounds t.loads) text ∙ ap (λ n. make u.text n t.loads) (sym h.counted ∙ k.counted) ∙ ap (make u.text u.rounds) (h.loads ∙ sym k.loads)
 
   all-one-report : (log : List (List ReplyOf)) (rs : List RequestOf) (ts us : List ReportOf) → AreShared old new log rs ts → AreShared old new log rs us → ts ≡ us
   all-one-report log [] [] [] h k = refl

@@ -137,6 +137,7 @@ module _ {P E : Type 0} (program : P → Program) where
               counted = counted;
               chained = omega (arith, own, counted);
               fewest = λ Ns run. omega (arith, counted, own-sparing (may_at may old.loaders) rules ListOf all (program r) limited within-rules among M0 log (look s.pairs) Ns made.rounds run);
+              loads = rw same at done.loads;
             },
             tt,
           )

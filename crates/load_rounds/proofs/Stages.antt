@@ -18,8 +18,8 @@ use Rattle.execution.specs.Sessions.{Forgot, Lost}
 use Rattle.execution.specs.Executes.{GrowsTo}
 use Rattle.load_rounds.specs.Sessions.{SessionOf, StateOf, state_of, rules_of, memory_of, after_step, of_first, AreNumbered}
 use Rattle.load_rounds.specs.Calls.{RoundLost, RoundRan}
-use Rattle.load_rounds.specs.Headline.{MakesRounds, Headline, StopsAnswering}
-use Rattle.load_rounds.specs.SharedRounds.{RequestOf, ReportOf, request_of, requests, together, joint, AreTexts, SharedHeadline}
+use Rattle.load_rounds.specs.Headline.{MakesRounds, StopsAnswering}
+use Rattle.load_rounds.specs.SharedRounds.{RequestOf, ReportOf, request_of, requests, together, joint, AreTexts, SharedHeadline, IsAnsweredAlone}
 use Rattle.load_rounds.specs.Executions.{PartOf, plans_in, reports_in, first_report, given_to, CountRounds, FitsPart, FitParts, AreBegun}
 use Rattle.load_rounds.specs.ByHand.{front_in, orders_in, received, AreReceived, ReceivesReplies, IsAsked, IsRound, IsUnasked, IsOut}
 use Rattle.load_rounds.specs.Runs.{RunOf, program_of, IsReady, IsAway, IsFinished, IsRunAt, IsRun, GoesOnFrom, FitAt, Holds, Begins}
@@ -242,17 +242,17 @@ module _ {P E : Type 0} (program : P → Program) (text_of : P → AnsweredOf �
 
 -- the answer to one plan, and what stays of it after want of memory
 module _ {P E : Type 0} (program : P → Program) (text_of : P → AnsweredOf → List ℕ) (loaders : P → ℕ) (fits : P → E → MemoryOf → Type 0) {S : Type 0} (may : S → List KeyOf → AnswerOf → Type 0) (old now : StateOf S) (plan : P) (run : RunOf P E) (plans : plans_in run.parts ≡ plan ∷ []) where
-  pub answered-one : run.stage ≡ Finished → IsRun program text_of may old now run → (report : ReportOf) × (first_report run.parts ≡ Some report) × Headline may old now (program plan) (text_of plan) report.text report.rounds × (report.rounds ≡ run.rounds)
+  pub answered-one : run.stage ≡ Finished → IsRun program text_of may old now run → (report : ReportOf) × (first_report run.parts ≡ Some report) × IsAnsweredAlone may old now (request_of (program plan) (text_of plan)) report × (report.rounds ≡ run.rounds)
   answered-one finished is =
       let done : IsFinished program text_of may old now run.parts run.rounds = rw finished at is in
       go run.parts plans done
     where
       one : (t : Option ReportOf) → (h : SharedHeadline may old now (request_of (program plan) (text_of plan) ∷ []) (given_to t ++ [])) → length h.log ≡ run.rounds
-          → (report : ReportOf) × (t ≡ Some report) × Headline may old now (program plan) (text_of plan) report.text report.rounds × (report.rounds ≡ run.rounds)
+          → (report : ReportOf) × (t ≡ Some report) × IsAnsweredAlone may old now (request_of (program plan) (text_of plan)) report × (report.rounds ≡ run.rounds)
       one None h counted = absurd h.answers
-      one (Some report) h counted = let longest = h.longest in (report, refl, headline-one may old now (request_of (program plan) (text_of plan)) report h, omega (arith, longest, counted))
+      one (Some report) h counted = let longest = h.longest in (report, refl, (headline-one may old now (request_of (program plan) (text_of plan)) report h, h.answers.0.loads), omega (arith, longest, counted))
 
-      go : (xs : List (PartOf P E)) → plans_in xs ≡ plan ∷ [] → IsFinished program text_of may old now xs run.rounds → (report : ReportOf) × (first_report xs ≡ Some report) × Headline may old now (program plan) (text_of plan) report.text report.rounds × (report.rounds ≡ run.rounds)
+      go : (xs : List (PartOf P E)) → plans_in xs ≡ plan ∷ [] → IsFinished program text_of may old now xs run.rounds → (report : ReportOf) × (first_report xs ≡ Some report) × IsAnsweredAlone may old now (request_of (program plan) (text_of plan)) report × (report.rounds ≡ run.rounds)
       go (x ∷ []) e h =
           let moved = subst (λ ps. (h : SharedHeadline may old now (requests program text_of ps) (given_to x.report ++ [])) × (length h.log ≡ run.rounds)) e (h.headline, h.counted) in
           one x.report moved.0 moved.1

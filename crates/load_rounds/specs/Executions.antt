@@ -7,8 +7,8 @@ use Rattle.execution.specs.Program.{Program}
 use Rattle.execution.specs.Completion.{AnsweredOf}
 use Rattle.execution.specs.Front.{front}
 use Rattle.execution.specs.Rounds.{RuleOf, HasLoaders, own_rounds}
-use Rattle.execution.specs.Executes.{GrowsTo}
-use Rattle.execution.specs.Executes.{IsTextOf}
+use Rattle.execution.specs.Executes.{GrowsTo, IsTextOf}
+use Rattle.execution.specs.Reads.{count_read, counted}
 use Rattle.load_rounds.specs.SharedRounds.{RequestOf, ReportOf, request_of, joint}
 
 -- one of several: what is executed, its execution, and its answer once nothing that it needs is missing
@@ -22,6 +22,7 @@ pub record IsDone (loaders : ℕ) (r : RequestOf) (m : MemoryOf) (report : Repor
   pub complete : front m.modes r.program (look m.pairs) ≡ []
   pub answered : IsTextOf r.text_of r.program (read m.modes (look m.pairs)) report.text
   pub within : HasLoaders loaders r.program
+  pub loads : report.loads ≡ counted (count_read r.program (read m.modes (look m.pairs)))
 
 -- By what is missing: no answer yet, or, once nothing is, the answer that was there or one after `rounds` rounds.
 abbrev pub TellsAt : ℕ → List Load → Option ReportOf → Option ReportOf → Type 0

@@ -13,6 +13,7 @@ use Rattle.execution.specs.Front.{front}
 use Rattle.execution.specs.Rounds.{RuleOf, modes_of, may_at, AreRounds, IsSparing, after_round, without_failed}
 use Rattle.execution.specs.Sessions.{Step, Forgot, AskedLoads, AreApart, asked_cells, IsAnsweredIn}
 use Rattle.execution.specs.Executes.{IsTextOf}
+use Rattle.execution.specs.Reads.{count_read, counted}
 use Rattle.load_rounds.specs.Sessions.{StateOf, rules_of, session_modes, after_steps}
 use Rattle.load_rounds.specs.Calls.{RoundLost}
 use Rattle.load_rounds.specs.declared.answer.Answer.{Answer}
@@ -22,6 +23,10 @@ abbrev pub asked_steps : List RuleOf → Program → Memory → List (List Reply
 asked_steps rules p M [] = []
 asked_steps rules p M (round ∷ rounds) = AskedLoads (front (modes_of rules) p M) round
     ∷ asked_steps rules p (after_round rules M round) rounds
+
+-- so many loads a program reads over the memory at the return, each as often as it is read
+abbrev pub CountsLoads : {S : Type 0} → StateOf S → StateOf S → Program → ℕ → Type 0
+CountsLoads old new p loads = loads ≡ counted (count_read p (read (session_modes old) new.memory))
 
 module _ {S : Type 0} (may : S → List KeyOf → AnswerOf → Type 0) where
   -- Failed batches were forgotten. Then these rounds were made and nothing else: each asked exactly the batches of the front,
@@ -57,9 +62,10 @@ module _ {S : Type 0} (may : S → List KeyOf → AnswerOf → Type 0) where
         → IsSparing (session_modes old) p new.memory (without_failed old.memory) Ns
         → rounds ≤ length Ns
 
-  -- an answer with the headline
+  -- an answer with the headline, and the count of its loads
   abbrev pub HasHeadline : StateOf S → StateOf S → Program → (AnsweredOf → List ℕ) → Answer → Type 0
   HasHeadline old new p text_of a = Headline old new p text_of (string_bytes a.text) a.rounds
+      × CountsLoads old new p a.loads
 
   -- When memory ran out, the finished rounds stay, and perhaps one more was lost. Nothing was asked off the record.
   pub record StopsAnswering (old new : StateOf S) (p : Program) : Type 0 where

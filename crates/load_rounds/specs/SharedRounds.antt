@@ -14,7 +14,7 @@ use Rattle.execution.specs.Front.{front, missing, firsts}
 use Rattle.execution.specs.Rounds.{IsSparing, own_rounds, without_failed}
 use Rattle.execution.specs.Sessions.{AreApart, asked_cells, IsAnsweredIn}
 use Rattle.load_rounds.specs.Sessions.{StateOf, rules_of, session_modes}
-use Rattle.load_rounds.specs.Headline.{MakesRounds, Headline}
+use Rattle.load_rounds.specs.Headline.{CountsLoads, MakesRounds, Headline}
 use Rattle.execution.specs.Executes.{IsTextOf}
 use Rattle.load_rounds.specs.declared.answer.Answer.{Answer}
 
@@ -23,10 +23,11 @@ pub record RequestOf : Type 0 where
   pub program : Program
   pub text_of : AnsweredOf → List ℕ
 
--- the text of an answer, and the rounds that were made for it
+-- the text of an answer, the rounds that were made for it, and the loads that it read
 pub record ReportOf : Type 0 where
   pub text : List ℕ
   pub rounds : ℕ
+  pub loads : ℕ
 
 abbrev pub request_of : Program → (AnsweredOf → List ℕ) → RequestOf
 request_of program text_of = record { program = program; text_of = text_of }
@@ -36,7 +37,7 @@ abbrev pub requests : {P : Type 0} → (P → Program)
 requests program text_of plans = map (λ plan. request_of (program plan) (text_of plan)) plans
 
 abbrev pub report_of : Answer → ReportOf
-report_of a = record { text = string_bytes a.text; rounds = a.rounds }
+report_of a = record { text = string_bytes a.text; rounds = a.rounds; loads = a.loads }
 
 -- all loads that several programs need, in order of the programs
 abbrev pub needs_of_all : List Program → Reader → List Load
@@ -74,8 +75,9 @@ greatest [] = 0
 greatest (t ∷ ts) = max t.rounds (greatest ts)
 
 module _ {S : Type 0} where
-  -- One of the answers: its text is that of the execution over the memory at the return. Its rounds are those of the log in which
-  -- something that it needed was missing: at most its own load chain, and no more than the steps of any sparing run of it alone.
+  -- One of the answers: its text is that of the execution over the memory at the return, and its loads are those that it reads there.
+  -- Its rounds are those of the log in which something that it needed was missing: at most its own load chain, and no more than the
+  -- steps of any sparing run of it alone.
   pub record IsShared (old new : StateOf S) (log : List (List ReplyOf)) (r : RequestOf)
       (report : ReportOf) : Type 0 where
     pub answered : IsTextOf r.text_of r.program (read (session_modes old) new.memory) report.text
@@ -85,6 +87,7 @@ module _ {S : Type 0} where
     pub fewest : (Ns : List Memory)
         → IsSparing (session_modes old) r.program new.memory (without_failed old.memory) Ns
         → report.rounds ≤ length Ns
+    pub loads : CountsLoads old new r.program report.loads
 
   -- one answer to each request, in order
   abbrev pub AreShared : StateOf S → StateOf S → List (List ReplyOf)
@@ -114,11 +117,12 @@ module _ {S : Type 0} where
       → StateOf S → StateOf S → List RequestOf → Vec Answer → Type 0
   AreAnswers may old new rs answers = SharedHeadline may old new rs (map report_of answers.items)
 
-  -- the headline of one request alone
+  -- the headline of one request alone, and the count of its loads
   abbrev pub IsAnsweredAlone : (S → List KeyOf → AnswerOf → Type 0)
       → StateOf S → StateOf S → RequestOf → ReportOf → Type 0
   IsAnsweredAlone may old new r report =
       Headline may old new r.program r.text_of report.text report.rounds
+      × CountsLoads old new r.program report.loads
 
   -- the longest load chain of all requests, over the memory of a state
   abbrev pub longest_chain : List KeyMode → List RequestOf → StateOf S → ℕ

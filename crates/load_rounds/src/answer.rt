@@ -6,13 +6,16 @@ use execution::Execute;
 use load_queue::LocalSource;
 use std::alloc::AllocError;
 
-/// The text of an answer, and how many rounds it took.
+/// The text of an answer, how many rounds it took, and how many loads it read.
 #[derive(Debug, Drop)]
 pub struct Answer {
     /// The response as JSON.
     pub text: String,
     /// The rounds that were made for this answer.
     pub rounds: u32,
+    /// How many loads it read, each as often as it was read: as many calls as an executor makes that asks for one key at a time and
+    /// remembers nothing. It stays at `u64::MAX`.
+    pub loads: u64,
 }
 
 impl<S: LocalSource> Session<S> {

@@ -9,7 +9,7 @@ ghost use Rattle.load_rounds.specs.Calls.{load_of, reader_of};
 ghost use Rattle.load_rounds.specs.Reading.{keys_of, no_text, reading};
 
 use crate::session::Session;
-use execution::{CountWork, Execute};
+use execution::{CountWork, Execute, ExecutionResult};
 use futures::task::Poll;
 use load_memory::{Key, Keys, Memory, Outcome, Probe};
 use load_queue::Wants;
@@ -92,7 +92,7 @@ impl Execute<()> for KeysToLoad {
         alloc: Global,
         memory: &Memory,
         wants: &mut Wants,
-    ) -> Result<Poll<String>, AllocError> {
+    ) -> Result<Poll<ExecutionResult>, AllocError> {
         want_missing(alloc, memory, self.loader, self.keys.as_slice(), wants)
     }
 }
@@ -137,7 +137,7 @@ impl<'k> Execute<()> for LentKeys<'k> {
         alloc: Global,
         memory: &Memory,
         wants: &mut Wants,
-    ) -> Result<Poll<String>, AllocError> {
+    ) -> Result<Poll<ExecutionResult>, AllocError> {
         want_missing(alloc, memory, self.loader, self.keys, wants)
     }
 }
@@ -149,7 +149,7 @@ fn want_missing(
     loader: usize,
     keys: &[Key],
     wants: &mut Wants,
-) -> Result<Poll<String>, AllocError>
+) -> Result<Poll<ExecutionResult>, AllocError>
     requires { CanExecute (loader + 1) memory.now wants.old }
     ensures { IfOk result (IsExecuted no_text wants.old wants.new
         (reading loader (map key_of keys.now)) memory.now) }
@@ -168,7 +168,10 @@ fn want_missing(
     if is_missing {
         return Ok(Poll::Pending);
     }
-    Ok(Poll::Ready(String::new(alloc)))
+    Ok(Poll::Ready(ExecutionResult {
+        text: String::new(alloc),
+        loads: keys.len() as u64,
+    }))
 }
 
 // Copies of what is known of keys, place by place.

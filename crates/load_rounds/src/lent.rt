@@ -1,7 +1,7 @@
 //! Plans that are lent to a run.
 ghost use Rattle.std.specs.Prelude.{◌≡◌};
 
-use execution::{CountWork, Execute};
+use execution::{CountWork, Execute, ExecutionResult};
 use futures::task::Poll;
 use load_memory::Memory;
 use load_queue::Wants;
@@ -47,7 +47,7 @@ impl<'p, E, P: Execute<E>> Execute<E> for Lent<'p, P> {
         alloc: Global,
         memory: &Memory,
         wants: &mut Wants,
-    ) -> Result<Poll<String>, AllocError> {
+    ) -> Result<Poll<ExecutionResult>, AllocError> {
         self.plan.execute(progress, alloc, memory, wants)
     }
 }

@@ -6,16 +6,16 @@
 //! and nothing else changes. One call is no list of steps: [`Session::restart`] makes the session as a new one over its
 //! loaders.
 //!
-//! Every answer carries one definition, the headline (`specs::Headline`). All are answered by one type, [`Rounds`]: it is advanced until
-//! nothing is missing, in turn ([`Session::answer`]), by a future ([`Answering`]), or by the caller ([`Session::begin`]), who gets the
-//! orders of each round and gives their replies in any order. Each call's contract says what has been done since the run was
-//! begun (`specs::Runs`, `IsRun`), and in the end that is the headline.
+//! Every answer carries one definition, the headline (`specs::Headline`), and the count of the loads that it read. All are answered by one
+//! type, [`Rounds`]: it is advanced until nothing is missing, in turn ([`Session::answer`]), by a future ([`Answering`]), or by the caller
+//! ([`Session::begin`]), who gets the orders of each round and gives their replies in any order. Each call's contract says what has been
+//! done since the run was begun (`specs::Runs`, `IsRun`), and in the end that is the headline.
 //!
 //! Keys of one loader are a program too ([`KeysToLoad`]): whatever answers plans loads them, and then the session tells their outcomes
 //! ([`Session::known_outcomes`]). What a run of it does is what [`Session::load_many`] does (`law::keys_are_a_program`).
 //!
-//! Answers are given to whatever can be executed ([`Execute`]): it loads keys, and gives a text. A
-//! plan of a GraphQL document is that; nothing here knows of one.
+//! Answers are given to whatever can be executed ([`Execute`]): it loads keys, and gives a text
+//! and how many loads it read. A plan of a GraphQL document is that; nothing here knows of one.
 //!
 //! Several plans are answered in rounds that they share, in turn ([`Session::answer_all`]) or by the caller ([`Session::begin_all`]):
 //! there is one log, and each answer has a headline of its own (`specs::SharedRounds`, `SharedHeadline`).

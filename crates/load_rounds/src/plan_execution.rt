@@ -83,8 +83,12 @@ impl<E, P: Execute<E>> PlanExecution<P, E> {
             return Ok(false);
         }
         match self.plan.execute(&mut self.progress, alloc, memory, wants)? {
-            Poll::Ready(text) => {
-                self.answer = Some(Answer { text, rounds });
+            Poll::Ready(result) => {
+                self.answer = Some(Answer {
+                    text: result.text,
+                    rounds,
+                    loads: result.loads,
+                });
                 Ok(false)
             }
             Poll::Pending => Ok(true),

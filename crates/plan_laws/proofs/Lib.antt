@@ -1,5 +1,4 @@
 pub mod Each
-pub mod Totals
 pub mod Entered
 pub mod Leveled
 pub mod Expanded

@@ -3,7 +3,6 @@
 use Rattle.std.proofs.Common.{◌≡◌, ◌≢◌, ◌∙◌, sym, ap, subst, refl, ℕ, zero, suc, ◌+◌, Bool, true, false, not, ◌||◌, ◌==◌, ◌⊎◌, List, [], ◌∷◌, ◌++◌, length, Option, Some, None, inl, inr, arith}
 use Rattle.std.specs.Prelude.{slice_get, bytes_eq, codes}
 use Rattle.std.proofs.lemmas.Bool.{cond_both, or_left, or_right, and_parts, both_ways, eq-eqb, cases_eq}
-use Rattle.std.proofs.lemmas.Slice.Eq.{bytes_eq-Decides}
 use Rattle.text_place.specs.declared.place.Place.{Place}
 use Rattle.gq_parser.specs.Tree.{Argument, Directive, Condition, Selection, Field, Spread, Inline, Below, nothing_below, below, SelectionSet, set_at, Selections, no_selection, and_selection, Fragment, Document}
 use Rattle.schema_syntax.specs.Tree.{Definition, Field as DefinedField}
@@ -34,16 +33,10 @@ use Rattle.plan_program.specs.Chosen.{is_left_out, applies}
 use Rattle.plan_program.specs.Groups.{FieldOf, GroupOf, Collected, Entering, nothing_collected, with_field, chosen_field, has_entered, collect_one, collect_set, collect_all, enter_fragment, entering, collect_from, collect, collect_subfields, selections_in, selections_below}
 use Rattle.plan_program.specs.FieldValues.{sets_below}
 use Rattle.plan_laws.specs.Met.{MayStand, is_typename, IsAskedBy, CanBeMet, of_root, inside}
-use Rattle.plan_laws.proofs.Options.{by_option, got-one, none-kept}
+use Rattle.plan_laws.proofs.Options.{by_option, got-one, none-kept, same-text, own-text}
 use Rattle.plan_laws.proofs.Schemas.{IsFor, Serves, for-composite, object-alone, field-serves, may-object, may-for, may-itself, serves-type, root-object}
 use Rattle.plan_laws.proofs.Placed.{Placed, PlacedOne, PlacedSet, PlacedBelow, placed-first, placed-rest, placed-among, placed-merge, field_at, placed-field, operation-placed, fragment-placed}
 use Rattle.plan_laws.proofs.Valid.{prepared-among}
-
-text-is : (q n : List ℕ) → bytes_eq q n ≡ true → q ≡ n
-text-is q n e = (bytes_eq-Decides q n).0 e
-
-text-own : (q : List ℕ) → bytes_eq q q ≡ true
-text-own q = (bytes_eq-Decides q q).1 refl
 
 module _ (defs : List Definition) (d : Document) where
   abbrev pub D : Fields ℕ
@@ -89,7 +82,7 @@ module _ (defs : List Definition) (d : Document) where
       others = is.others ++ f ∷ [];
       some = ap (λ (fs : List FieldOf). fs ++ f ∷ []) is.some;
       members = λ x i. elim (one-of-last g.fields f x i) [ inl j ↦ is.members x j | inr s ↦ subst (IsMember ty M) (sym s) m ];
-      keys = λ x i. elim (one-of-last g.fields f x i) [ inl j ↦ is.keys x j | inr s ↦ ap (λ (y : FieldOf). y.key) s ∙ text-is f.key g.key e ];
+      keys = λ x i. elim (one-of-last g.fields f x i) [ inl j ↦ is.keys x j | inr s ↦ ap (λ (y : FieldOf). y.key) s ∙ same-text f.key g.key e ];
     }
 
     group-new : (f : FieldOf) → IsMember ty M f → IsGroup ty M (record { key = f.key; fields = f ∷ [] })
@@ -210,13 +203,13 @@ module _ (defs : List Definition) (d : Document) where
   module _ (ty : List ℕ) (M : ℕ → Type 0) (x y : FieldOf) (one_key : x.key ≡ y.key) (m : IsMember ty M x) (k : IsMember ty M y) where
     members-key : D.one_key m.number k.number ≡ true
     members-key = test-is have_one_key (parts_of defs d).fields m.number k.number m.part k.part m.there k.there
-        ∙ (ap (bytes_eq (response_key m.part)) (sym k.key ∙ sym one_key ∙ m.key) ∙ text-own (response_key m.part))
+        ∙ (ap (bytes_eq (response_key m.part)) (sym k.key ∙ sym one_key ∙ m.key) ∙ own-text (response_key m.part))
 
     module _ (kept : fault_of defs ≡ None) where
       members-meet : D.meet m.number k.number ≡ true
       members-meet =
           let alike : is_object_type defs m.parent ≡ true → is_object_type defs k.parent ≡ true → bytes_eq m.parent k.parent ≡ true =
-          λ h i. ap (λ (q : List ℕ). bytes_eq q k.parent) (object-alone defs kept m.parent ty h m.fits ∙ sym (object-alone defs kept k.parent ty i k.fits)) ∙ text-own k.parent in
+          λ h i. ap (λ (q : List ℕ). bytes_eq q k.parent) (object-alone defs kept m.parent ty h m.fits ∙ sym (object-alone defs kept k.parent ty i k.fits)) ∙ own-text k.parent in
           let meet : may_meet defs m.part k.part ≡ true = rw (m.in_parent, k.in_parent) (or-nots (bytes_eq m.parent k.parent) (is_object_type defs m.parent) (is_object_type defs k.parent) alike) in
           test-is (may_meet defs) (parts_of defs d).fields m.number k.number m.part k.part m.there k.there ∙ meet
         where
@@ -233,7 +226,7 @@ module _ (defs : List Definition) (d : Document) where
         | inr differ ↦
             let w = merged m.number k.number m.member k.member differ members-key in
             let agree : do_agree m.part k.part ≡ true = sym (test-is do_agree (parts_of defs d).fields m.number k.number m.part k.part m.there k.there) ∙ w.agree members-meet in
-            text-is m.part.name k.part.name (and_parts (bytes_eq m.part.name k.part.name) (same_arguments m.part.arguments k.part.arguments) agree).0
+            same-text m.part.name k.part.name (and_parts (bytes_eq m.part.name k.part.name) (same_arguments m.part.arguments k.part.arguments) agree).0
       ]
 
   below-merged : (kept : fault_of defs ≡ None) (ty key : List ℕ) (M : ℕ → Type 0) → AreMerged M → AreMerged (IsBelow ty key M)

@@ -1,8 +1,16 @@
 -- Lemmas on what an answer that was given came from.
 use Rattle.std.proofs.Common.{◌≡◌, refl, ℕ, zero, suc, Bool, true, false, List, [], ◌∷◌, ◌++◌, Option, Some, None, inl, inr, arith, if◌then◌else◌}
-use Rattle.std.specs.Prelude.{option_map, option_and_then, find, is_some, filter_map, slice_get}
+use Rattle.std.specs.Prelude.{option_map, option_and_then, find, is_some, filter_map, slice_get, bytes_eq}
+use Rattle.std.proofs.lemmas.Slice.Eq.{bytes_eq-Decides}
 use Rattle.gq_schema.specs.Scan.{or_else, first_in}
 use Rattle.execution.specs.Loads.{IsOneOf}
+
+-- texts are equal that are told to be
+pub same-text : (q n : List ℕ) → bytes_eq q n ≡ true → q ≡ n
+same-text q n e = (bytes_eq-Decides q n).0 e
+
+pub own-text : (q : List ℕ) → bytes_eq q q ≡ true
+own-text q = (bytes_eq-Decides q q).1 refl
 
 -- what holds of nothing, and of each value that may be there
 pub by_option : {A : Type 0} (P : Option A → Type 0) (o : Option A) → (o ≡ None → P None) → ((x : A) → o ≡ Some x → P (Some x)) → P o

@@ -6,7 +6,6 @@ use Rattle.std.specs.List.{list_any, list_all}
 use Rattle.std.specs.Option.{option_map_or}
 use Rattle.std.proofs.lemmas.Bool.{cases_Bool, or_cases, or_parts, and_parts, both_ways}
 use Rattle.std.proofs.lemmas.List.Folds.{list_any-append}
-use Rattle.std.proofs.lemmas.Slice.Eq.{bytes_eq-Decides}
 use Rattle.text_place.specs.declared.place.Place.{Place}
 use Rattle.gq_parser.specs.Tree.{TypeTree, Named, ListOf}
 use Rattle.schema_syntax.specs.Tree.{Name, Argument, Field, Definition, Schema, Object, Union}
@@ -33,14 +32,8 @@ use Rattle.execution.specs.Loads.{IsOneOf}
 use Rattle.plan_program.specs.PlanPrograms.{object_type, typename, resolved_type, type_of_row}
 use Rattle.rules_parts.specs.Parents.{composite_in}
 use Rattle.plan_laws.specs.Met.{MayStand}
-use Rattle.plan_laws.proofs.Options.{by_option, some-of, none-else, found-one, none-first}
+use Rattle.plan_laws.proofs.Options.{by_option, some-of, none-else, found-one, none-first, same-text, own-text}
 use Rattle.plan_laws.proofs.Bound.{object-of}
-
-same-text : (q n : List ℕ) → bytes_eq q n ≡ true → q ≡ n
-same-text q n e = (bytes_eq-Decides q n).0 e
-
-own-text : (q : List ℕ) → bytes_eq q q ≡ true
-own-text q = (bytes_eq-Decides q q).1 refl
 
 any-one : {A : Type 0} (test : A → Bool) (xs : List A) → list_any test xs ≡ true → (x : A) × IsOneOf x xs × (test x ≡ true)
 any-one test [] e = absurd (both_ways false refl e)

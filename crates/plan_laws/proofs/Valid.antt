@@ -1,13 +1,14 @@
 -- A plan's operation has no path of more fields than its program has levels.
-use Rattle.std.proofs.Common.{◌≡◌, ◌∙◌, sym, ap, subst, refl, ℕ, zero, suc, ◌+◌, ◌<◌, ◌≤◌, false, List, [], ◌∷◌, inl, length, Option, Some, None, Result, Ok, Err, arith}
+use Rattle.std.proofs.Common.{◌≡◌, ◌∙◌, sym, ap, subst, refl, ℕ, ◌<◌, ◌≤◌, false, List, [], ◌∷◌, inl, length, Option, Some, None, Result, Ok, Err, arith}
 use Rattle.gq_parser.specs.Tree.{Operation, Fragment, Document}
 use Rattle.schema_syntax.specs.Tree.{Definition}
 use Rattle.serde_json.specs.Data.{Data}
 use Rattle.rules_parts.specs.Listing.{parts_of}
-use Rattle.rules_spreads.specs.Graphs.{GraphOf, graph_of}
+use Rattle.rules_spreads.specs.Graphs.{graph_of}
 use Rattle.rules_spreads.specs.Reach.{is_cyclic}
 use Rattle.rules_spreads.specs.Levels.{levels_named, levels_expanded, levels_of}
-use Rattle.rules_spreads.specs.Rules.{cycles_among, deep_operation}
+use Rattle.rules_spreads.specs.Rules.{deep_operation}
+use Rattle.merging_fields.proofs.Acyclic.{free-of}
 use Rattle.gq_variables.specs.Variables.{VariableOf}
 use Rattle.gq_variables.specs.Values as values
 use Rattle.gq_check.specs.Plans.{PlanOf}
@@ -22,14 +23,6 @@ use Rattle.plan_laws.proofs.Options.{found-one, none-kept}
 use Rattle.std.proofs.lemmas.Bool.Decides.{nat_tests}
 use Rattle.plan_laws.proofs.Leveled.{AreLevels, more-levels}
 use Rattle.plan_laws.proofs.Expanded.{levels-hold}
-
--- ---- what a valid document keeps
-
--- no fragment is on a cycle
-no-cycles : (g : GraphOf) (j : ℕ) (fs : List Fragment) → cycles_among g j fs ≡ [] → (x : ℕ) → x < length fs → is_cyclic g (j + x) ≡ false
-no-cycles g j [] h x lt = absurd (omega (arith, lt))
-no-cycles g j (f ∷ fs) h zero lt = let same : j + 0 ≡ j = omega arith in rw same (grind arith)
-no-cycles g j (f ∷ fs) h (suc x) lt = let same : j + suc x ≡ (j + 1) + x = omega arith in rw same (no-cycles g (j + 1) fs (grind arith) x (omega (arith, lt)))
 
 -- ---- the operation of a plan is one of its document's
 
@@ -59,8 +52,7 @@ pub plan-levels : (plan : PlanOf) → IsPlan plan → (levels : ℕ) → most_le
 plan-levels plan is levels le =
     let d : Document = is.document in
     let keeps : KeepsRules (parts_of plan.definitions is.document) = valid-keeps (parts_of plan.definitions is.document) is.valid in
-    let free : (k : ℕ) → k < length is.document.fragments → is_cyclic (graph_of (parts_of plan.definitions is.document)) k ≡ false =
-    λ k lt. let e : 0 + k ≡ k = omega arith in ap (is_cyclic (graph_of (parts_of plan.definitions is.document))) (sym e) ∙ no-cycles (graph_of (parts_of plan.definitions is.document)) 0 is.document.fragments keeps.cycles k lt in
+    let free : (k : ℕ) → k < length is.document.fragments → is_cyclic (graph_of (parts_of plan.definitions is.document)) k ≡ false = free-of plan.definitions is.document keeps.cycles in
     let spread : List ℕ → ℕ = levels_named (levels_expanded (length is.document.fragments) is.document.fragments) is.document.fragments in
     let held : AreLevels is.document.fragments (levels_named (levels_expanded (length is.document.fragments) is.document.fragments) is.document.fragments) = levels-hold plan.definitions is.document free in
     let P : List Fragment → Type 0 = λ fs. AreLevels fs (levels_named (levels_expanded (length is.document.fragments) is.document.fragments) is.document.fragments) in

@@ -6,7 +6,7 @@ use Rattle.serde_json.specs.Data.{Data, null}
 use Rattle.gq_schema.specs.Types.{tree_of}
 use Rattle.gq_check.specs.Plans.{PlanOf, PlanParts, IsSameBut, plan_of}
 use Rattle.answer_json.specs.Answer.{json_text, refusal_json}
-use Rattle.request_line.specs.Requests.{RequestOf, IsRequest, IsNoRequest}
+use Rattle.request_line.specs.Requests.{RequestOf}
 use Rattle.plan_requests.specs.declared.fault.RequestFault.{RequestFault}
 use Rattle.plan_requests.specs.Requests.{IsPlanOf, IsRequestFault, is_want_of_memory, request_message, request_place}
 use Rattle.plan_requests.specs.Servers.{ServerOf}
@@ -92,10 +92,3 @@ PlanValues s (value ∷ values) (Some text ∷ refusals) plans = IsRefused s val
 PlanValues s (value ∷ values) (None ∷ refusals) [] = ⊥
 PlanValues s (value ∷ values) (None ∷ refusals) (plan ∷ plans) = HasPlan s value plan
     × PlanValues s values refusals plans
-
--- ---- lines
-
--- the text refuses a line, which is no request or is one that has a first fault
-pub data IsLineRefused (s : ServerOf) (line text : List ℕ) : Type 0 where
-  no_request : IsNoRequest line → text ≡ not_a_request → IsLineRefused s line text
-  request : {r : RequestOf} → IsRequest line r → IsRefusal s r text → IsLineRefused s line text

@@ -18,7 +18,7 @@ use Rattle.plan_walk.specs.Positions.{is_non_null, member_position, later_of}
 use Rattle.plan_walk.specs.Groups.{children_at, then_at, taken_by, then_rows, next_rows, steps_in, Covers, IsAsked, AreKnown, asks_seen, members_seen, Grows, IsWhole, AreOnly, IsShaped, view_of}
 use Rattle.plan_walk.specs.Steps.{last_steps}
 use Rattle.plan_walk.specs.Following.{FollowsTo, followed_puts}
-use Rattle.plan_walk.specs.declared.following.ViaRows.{ViaRows}
+use Rattle.plan_walk.specs.declared.following.FollowedVia.{FollowedVia}
 use Rattle.plan_walk.specs.Walks.{Goes, LetsGo, items_after}
 use Rattle.plan_walk.specs.declared.loading_fields.LoadingField.{LoadingField}
 use Rattle.plan_walk.specs.declared.loading_fields.Member.{Member}
@@ -80,6 +80,13 @@ module _ {S : Type 0} {goes : Putting S} {below : Below S} {most : ℕ} {plan : 
   -- a look-up changes nothing of what is put
   pub goes-probed : {known : Type 0} {ps : View → List Put} {a b : Progress S} (probe : Probe) → Goes goes below most plan known ps (record a { probe = probe }) b → Goes goes below most plan known ps a b
   goes-probed probe p = record { grows = p.grows; front = p.front; puts = p.puts }
+
+  -- loads that are read before something else
+  pub goes-read : {known : Type 0} {ps : List Put} {qs : View → List Put} {a b : Progress S} (out : S) → Laws goes below → ((v : View) → goes v ps a.out out)
+      → Goes goes below most plan known qs (record a { out = out }) b → Goes goes below most plan known (λ v. ps ++ qs v) a b
+  goes-read {known} {ps = ps} {a = a} out laws q p =
+      let here : Goes goes below most plan known (λ v. ps) a (record a { out = out }) = goes-put refl (λ k v _. q v) in
+      goes-then laws (λ k. k) here p
 
   -- a position that follows those before it
   pub goes-entered : {known here : Type 0} {before inner : View → List Put} {entered : Put} {a b c d : Progress S} → Laws goes below → (known → here) → Goes goes below most plan known before a b
@@ -292,7 +299,7 @@ module _ (plan : PlanOf) (gs : List LoadingField) (v : View) (onward : OnwardOf)
       go (Joined steps) does e = absurd (cc e)
 
   -- says where the last `left` of the later loaders came to from a row
-  pub after-followed : (left : ℕ) (non_null : Bool) (R : Reader) (steps : List StepOf) (row : RowOf) (f : ViaRows) → steps ≡ steps_in (then_at gs onward.group) → FollowsTo R steps left row f
+  pub after-followed : (left : ℕ) (non_null : Bool) (R : Reader) (steps : List StepOf) (row : RowOf) (f : FollowedVia) → steps ≡ steps_in (then_at gs onward.group) → FollowsTo R steps left row f
       → puts non_null (v.after (later_of left onward) (row ∷ [])) R ≡ followed_puts non_null R joined_by steps f
   after-followed left non_null R steps row f same is =
       ap (λ (f : List RowOf → Program). puts non_null (f (row ∷ [])) R) (after-missing left steps same) ∙ is non_null plan.definitions (object_program plan onward.levels) (children_at gs onward.group)

@@ -6,7 +6,6 @@ use Rattle.plan_walk.specs.declared.positions.PositionKind as rust-kind
 use Rattle.plan_walk.specs.declared.positions.PositionKind.TheVariants as kind
 use Rattle.plan_walk.specs.declared.positions.Nullability as rust-nullability
 use Rattle.plan_walk.specs.declared.positions.Nullability.TheVariants as nullability
-use Rattle.plan_walk.specs.declared.positions.FieldPosition as rust-position
 use Rattle.plan_walk.specs.declared.positions.MemberPosition as rust-member
 use Rattle.plan_walk.specs.declared.positions.Items as rust-items
 use Rattle.plan_walk.specs.declared.positions.Onward as rust-onward
@@ -20,11 +19,6 @@ abbrev pub is_non_null : rust-nullability.Nullability → Bool
 is_non_null nullability.Nullable = false
 is_non_null nullability.NonNull = true
 
-abbrev pub position_seen : rust-position.FieldPosition → program.FieldPosition
-position_seen s =
-    record { part = program.Key s.key.now; non_null = is_non_null s.nullability; place = s.place }
-
--- says the same of one that a plan keeps
 abbrev pub member_position : rust-member.MemberPosition → program.FieldPosition
 member_position s =
     record { part = program.Key s.key; non_null = is_non_null s.nullability; place = s.place }

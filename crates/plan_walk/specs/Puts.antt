@@ -1,5 +1,5 @@
 -- Definitions of what a walk over a program puts into a sink, one thing after another.
-use Rattle.std.specs.Prelude.{◌≡◌, ◌<◌, ℕ, Bool, List, [], ◌∷◌, ◌++◌, Option}
+use Rattle.std.specs.Prelude.{◌≡◌, ◌<◌, ℕ, zero, suc, Bool, List, [], ◌∷◌, ◌++◌, Option}
 use Rattle.load_memory.specs.Rows.{RowOf}
 use Rattle.load_memory.specs.Keys.{KeyOf}
 use Rattle.execution.specs.Loads.{Reader}
@@ -14,15 +14,22 @@ pub data Put : Type 0 where
   Enters : Kind → FieldPosition → Put
   -- a position with nothing below it, whose type is non-null or not
   Has : Bool → LeafValue → Put
-  -- a position that waits for a load, and then goes on so
+  -- a position reads a load
+  Reads : Put
+  -- it waits for that load, and then goes on so
   Waits : Program → Put
+
+-- so many loads are read
+abbrev pub reads : ℕ → List Put
+reads zero = []
+reads (suc n) = Reads ∷ reads n
 
 -- gives what is put of a position, whose type is non-null or not
 abbrev mutual
   pub puts : Bool → Program → Reader → List Put
   puts non_null (Is leaf_value) R = Has non_null leaf_value ∷ []
-  puts non_null (Read load next) R =
-      given (R load) (Waits (Read load next) ∷ []) (λ outcome. puts non_null (next outcome) R)
+  puts non_null (Read load next) R = Reads ∷ given (R load) (Waits (Read load next) ∷ [])
+      (λ outcome. puts non_null (next outcome) R)
   puts non_null (Under kind below) R = Begins kind ∷ (all_puts kind below R ++ Ends kind ∷ [])
 
   pub all_puts : Kind → Programs → Reader → List Put

@@ -18,10 +18,19 @@ use std::alloc::{AllocError, Global};
 #[derive(Drop)]
 pub enum ViaRow<'r> {
     Row(&'r Row),
-    /// Null, or a fault.
+    /// The load gives null, or a fault.
     LeafValue(LeafValue),
+    /// There is null, or a fault, in place of a key, and so no load.
+    NoKey(LeafValue),
     /// The memory lacks the load of this key.
     Missing(KeyRef<'r>),
+}
+
+/// Says how many loads the later loaders of a `via` read from a row, and where they come to.
+#[derive(Drop)]
+pub struct FollowedVia<'r> {
+    pub loads: usize,
+    pub to: ViaRows<'r>,
 }
 
 /// Says where the later loaders of a `via` come to from a row.
@@ -50,10 +59,10 @@ fn step_from<'r>(
 {
     let key = match column_over(step.column.as_str(), row) {
         KeyOver::Known(key) => key,
-        KeyOver::Null => return Ok(ViaRow::LeafValue(LeafValue::Null)),
+        KeyOver::Null => return Ok(ViaRow::NoKey(LeafValue::Null)),
         KeyOver::Lacking(column) => {
             let fault = no_column_message(alloc, column)?;
-            return Ok(ViaRow::LeafValue(LeafValue::Fault(fault)));
+            return Ok(ViaRow::NoKey(LeafValue::Fault(fault)));
         }
     };
     if knows_nothing(memory, step.loader) {
@@ -89,23 +98,42 @@ pub fn follow_steps<'r>(
     steps: &[ViaLoader],
     left: usize,
     from: &'r Row,
-) -> Result<ViaRows<'r>, AllocError>
+) -> Result<FollowedVia<'r>, AllocError>
     ensures { IfOk result (FollowsTo (lookup memory.now) (map step_of steps.now) left from.now) }
 {
+    let first = steps.len().saturating_sub(left);
     let mut row = from;
-    for number in steps.len().saturating_sub(left)..steps.len() {
+    for number in first..steps.len() {
         let step = &steps[number];
+        let loads = number - first;
         match step_from(alloc, memory, probe, step, row)? {
             ViaRow::Row(next) => row = next,
-            ViaRow::LeafValue(leaf_value) => return Ok(ViaRows::LeafValue(leaf_value)),
+            ViaRow::NoKey(leaf_value) => {
+                let to = ViaRows::LeafValue(leaf_value);
+                return Ok(FollowedVia { loads, to });
+            }
+            ViaRow::LeafValue(leaf_value) => {
+                let to = ViaRows::LeafValue(leaf_value);
+                return Ok(FollowedVia {
+                    loads: loads + 1,
+                    to,
+                });
+            }
             ViaRow::Missing(key) => {
-                return Ok(ViaRows::Missing {
+                let to = ViaRows::Missing {
                     left: steps.len() - number - 1,
                     loader: step.loader,
                     key,
+                };
+                return Ok(FollowedVia {
+                    loads: loads + 1,
+                    to,
                 });
             }
         }
     }
-    Ok(ViaRows::Row(row))
+    Ok(FollowedVia {
+        loads: steps.len() - first,
+        to: ViaRows::Row(row),
+    })
 }

@@ -3,7 +3,7 @@
 //! The layer above may rely on this: a [`Walk`](walk::Walk) puts a program over a memory
 //! (`plan_program::specs::PlanPrograms`) into a [`Sink`](sink::Sink), depth first: objects and lists begin and end, leaves have
 //! cells, and positions whose load the memory lacks wait. What a sink makes of them is its own: a text, a tree, a number. The
-//! positions that wait go on later, over a larger memory ([`Walk::go_on`](walk::Walk::go_on)); [`Waiting`](waiting::Waiting)
+//! positions that wait go on later, over a larger memory ([`Walk::read`](walk::Walk::read)); [`Waiting`](waiting::Waiting)
 //! keeps each of them once.
 #![tactic(auto)]
 

@@ -1,7 +1,7 @@
 //! Positions of an answer, and what is put at them.
 
 ghost use Rattle.std.specs.Prelude.{◌≡◌, None, IfOk};
-ghost use Rattle.plan_walk.specs.Positions.{is_non_null, position_seen, member_position};
+ghost use Rattle.plan_walk.specs.Positions.{is_non_null, member_position};
 
 use crate::leaf_type::LeafType;
 use gq_lexer::Place;
@@ -24,14 +24,6 @@ pub enum Nullability {
 }
 
 /// A field of an object: its response key, whether it may be null, and where its errors are.
-#[derive(Clone, Copy, Drop)]
-pub struct FieldPosition<'p> {
-    pub key: &'p str,
-    pub nullability: Nullability,
-    pub place: Place,
-}
-
-/// A field of an object as a plan keeps it.
 #[derive(Drop)]
 pub struct MemberPosition {
     pub key: Text,
@@ -40,17 +32,6 @@ pub struct MemberPosition {
 }
 
 impl MemberPosition {
-    /// The position, which borrows its key.
-    pub fn as_position(&self) -> FieldPosition<'_>
-        ensures { position_seen result ≡ member_position self.now }
-    {
-        FieldPosition {
-            key: self.key.as_str(),
-            nullability: self.nullability,
-            place: self.place,
-        }
-    }
-
     /// A copy, with a key of its own.
     pub fn copy(&self) -> Result<MemberPosition, AllocError>
         ensures { IfOk result (λ copy. member_position copy ≡ member_position self.now) }

@@ -5,10 +5,10 @@ ghost use Rattle.load_memory.specs.Keys.{borrowed_of};
 ghost use Rattle.execution.specs.Program.{ObjectOf, ListOf};
 ghost use Rattle.plan_program.specs.Prepared.{leaf_value_seen};
 ghost use Rattle.plan_walk.specs.Cells.{leaf_seen};
-ghost use Rattle.plan_walk.specs.Puts.{Put, Begins, Ends, Enters, Has, View, Agree, a_wait};
-ghost use Rattle.plan_walk.specs.Positions.{kind_of, is_non_null, position_seen, item_position, onward_of};
+ghost use Rattle.plan_walk.specs.Puts.{Put, Begins, Ends, Enters, Has, View, Agree, reads, a_wait};
+ghost use Rattle.plan_walk.specs.Positions.{kind_of, is_non_null, member_position, item_position, onward_of};
 
-use crate::positions::{FieldPosition, Items, Leaf, Nullability, Onward, PositionKind};
+use crate::positions::{Items, Leaf, MemberPosition, Nullability, Onward, PositionKind};
 use load_memory::KeyRef;
 use plan_program::LeafValue;
 use std::alloc::AllocError;
@@ -38,9 +38,9 @@ pub trait Sink {
         ensures { OnOk result ((v : View) → goes v (Ends (kind_of kind) ∷ []) self.old self.new) };
 
     /// A field of the object follows.
-    fn field(&mut self, position: FieldPosition<'_>) -> Result<(), AllocError>
+    fn field(&mut self, position: &MemberPosition) -> Result<(), AllocError>
         ensures { OnOk result ((v : View)
-            → goes v (Enters ObjectOf (position_seen position.entry) ∷ []) self.old self.new) };
+            → goes v (Enters ObjectOf (member_position position.now) ∷ []) self.old self.new) };
 
     /// The item of a number follows, from 0.
     fn item(&mut self, items: Items, number: usize) -> Result<(), AllocError>
@@ -61,7 +61,11 @@ pub trait Sink {
         ensures { OnOk result ((v : View) → goes v
             (Has (is_non_null nullability) (leaf_seen leaf.entry) ∷ []) self.old self.new) };
 
-    /// A position waits for a load, and then goes on so.
+    /// So many loads are read.
+    fn loads(&mut self, count: usize)
+        ensures { (v : View) → goes v (reads count) self.old self.new };
+
+    /// A position waits for the load that was read last, and then goes on so.
     fn wait(&mut self, onward: Onward, loader: usize, key: KeyRef<'_>) -> Result<(), AllocError>
         ensures { OnOk result ((v : View) → onward.group < v.count → goes v
             (a_wait v (onward_of onward) loader (borrowed_of key.entry)) self.old self.new) };

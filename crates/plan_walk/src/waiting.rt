@@ -239,16 +239,18 @@ impl Waiting {
         ensures { OnOk result
             (self.new ≡ with_position self.old position) }
     {
-        if let HeldPositions::Several(table) = &mut self.held {
-            return table.add(position);
-        }
-        match mem::replace(&mut self.held, HeldPositions::Nothing) {
-            HeldPositions::One(first) => {
-                let mut table = PositionSet::new(self.alloc, first)?;
-                table.add(position)?;
-                self.held = HeldPositions::Several(Box::new(self.alloc, table)?);
+        match &mut self.held {
+            HeldPositions::Nothing => {
+                self.held = HeldPositions::One(position);
+                return Ok(());
             }
-            _ => self.held = HeldPositions::One(position),
+            HeldPositions::One(_) => {}
+            HeldPositions::Several(table) => return table.add(position),
+        }
+        if let HeldPositions::One(first) = mem::replace(&mut self.held, HeldPositions::Nothing) {
+            let mut table = PositionSet::new(self.alloc, first)?;
+            table.add(position)?;
+            self.held = HeldPositions::Several(Box::new(self.alloc, table)?);
         }
         Ok(())
     }

@@ -74,7 +74,7 @@ impl<'w> Walk<'w> {
             if at.out.is_full() {
                 return Ok(());
             }
-            at.out.field(member.position.as_position())?;
+            at.out.field(&member.position)?;
             let nullability = member.position.nullability;
             self.ask(at, levels, nullability, &member.asks, row)?;
         }
@@ -143,6 +143,7 @@ impl<'w> Walk<'w> {
         ensures { OnOk result (WalksAt S.goes S.below self.now to (λ v.
             read_key loader (borrowed_of key.entry) (after_load to v)) at.old at.new) }
     {
+        at.out.loads(1);
         if knows_nothing(self.memory, loader) {
             return at.out.wait(to.onward, loader, key);
         }
@@ -152,9 +153,9 @@ impl<'w> Walk<'w> {
         }
     }
 
-    /// Returns what an outcome gives.
+    // Returns what an outcome gives.
     #[cycle(walk)]
-    pub fn go_on<S: Sink>(
+    fn go_on<S: Sink>(
         &self,
         at: &mut Progress<S>,
         to: LoadingPosition,
@@ -256,7 +257,9 @@ impl<'w> Walk<'w> {
             return self.row_object(at, to, row);
         }
         let steps = steps_of(&at.groups, to.onward.group);
-        match follow_steps(self.alloc, self.memory, &mut at.probe, steps, left, row)? {
+        let followed = follow_steps(self.alloc, self.memory, &mut at.probe, steps, left, row)?;
+        at.out.loads(followed.loads);
+        match followed.to {
             ViaRows::Row(row) => self.row_object(at, to, row),
             ViaRows::LeafValue(leaf_value) => at.out.leaf_value(&leaf_value, to.nullability),
             ViaRows::Missing { left, loader, key } => {

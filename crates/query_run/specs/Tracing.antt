@@ -7,12 +7,12 @@ use Rattle.server_lines.specs.Devices.{DevicesOf}
 use Rattle.server_lines.specs.Serving.{Serves}
 use Rattle.server_lines.specs.declared.device.CountedDevice.{CountedDevice}
 use Rattle.server_traces.specs.Tracing.{TraceDevice, TracedOf, trace_device, traced_of, tracing}
-use Rattle.server_traces.specs.declared.line.TracedClient.{TracedClient}
+use Rattle.server_traces.specs.declared.traced_client.TracedClient.{TracedClient}
 use Rattle.query_command.specs.declared.run_end.RunEnd.{RunEnd}
 use Rattle.query_command.specs.declared.run_end.RunEnd.TheVariants as stop
 use Rattle.query_command.specs.declared.origin.LocatedRunEnd.{LocatedRunEnd}
 use Rattle.server.specs.Clients.{ClientOf}
-use Rattle.world_answers.specs.Lines.{IsClientOf, answering}
+use Rattle.world_answers.specs.Lines.{IsClientOf, reports}
 use Rattle.world_answers.specs.Services.{ServiceOf, service_of}
 use Rattle.world_answers.specs.declared.service.Service.{Service}
 use Rattle.world_files.specs.Folders.{IsWritten}
@@ -26,7 +26,7 @@ use Rattle.query_run.specs.declared.tracing.TracedRun.{TracedRun}
 abbrev pub TracesClient : ServiceOf → TracedOf SourceOf
     → TracedOf SourceOf → DevicesOf → Result ℕ ServeFault → Type 0
 TracesClient service f g d result = IsClientOf service f.client
-    × Serves (tracing (answering service)) f g d result
+    × Serves (tracing (reports service)) f g d result
 
 -- all of the input was read, and what was written is the output of its lines and their trace; or serving stopped at a fault
 abbrev pub IsTraced : ServiceOf → TracedOf SourceOf

@@ -1,15 +1,19 @@
 //! Serving the lines of a run with a trace.
 
-ghost use Rattle.std.specs.Prelude.{None};
+ghost use Rattle.std.specs.Prelude.{None, IfOk, IfErr};
+ghost use denote.Param.Send.{IsSync};
+ghost use Rattle.server.specs.Lines.{reporting};
 ghost use Rattle.server_lines.specs.Devices.{devices};
+ghost use Rattle.server_traces.specs.Tracing.{StopsBy, TracesBy};
+ghost use Rattle.world_answers.specs.Answers.{may_tell};
 ghost use Rattle.query_run.specs.Tracing.{TracesFor, TracesService};
 
 use crate::context::RunContext;
 use csv_source::CsvSource;
 use query_command::RunEnd;
 use server::Workers;
-use server_lines::{CountedDevice, ServeFault};
-use server_traces::{TracedClient, serve_traced, serve_traced_with};
+use server_lines::{CountedDevice, LineFault, ServeFault, serve};
+use server_traces::TracedClient;
 use std::alloc::Global;
 use std::io::{Read, Write};
 use std::sync::Wait;
@@ -26,7 +30,16 @@ fn trace_in_turn<I: Read, W: Write, T: Write>(
     ensures { TracesFor None T.contents traced.old traced.new
         (devices I.remaining W.contents reader.old reader.new writer.old writer.new) result }
 {
-    match serve_traced(alloc, traced, reader, writer) {
+    let mut answer = |line: &[u8]| -> Result<String, LineFault>
+        ensures served { IfOk result
+            (TracesBy T.contents (reporting may_tell) traced.entry.now line.now traced.exit.now) }
+        ensures stopped { IfErr result
+            (StopsBy T.contents (reporting may_tell) traced.entry.now line.now traced.exit.now) }
+    {
+        let answer = traced.client.answer_line(line)?;
+        traced.trace_answer(answer)
+    };
+    match serve(alloc, reader, writer, &mut answer) {
         Ok(_) => RunEnd::Served,
         Err(fault) => RunEnd::Serve(fault),
     }
@@ -43,7 +56,17 @@ fn trace_by_workers<R: Threads + Wait + AllocGlobal + Sync, I: Read, W: Write, T
     ensures { TracesFor None T.contents traced.old traced.new
         (devices I.remaining W.contents reader.old reader.new writer.old writer.new) result }
 {
-    match serve_traced_with(rt.alloc(), traced, workers, reader, writer) {
+    let mut answer = |line: &[u8]| -> Result<String, LineFault>
+        requires { IsSync R.row }
+        ensures served { IfOk result
+            (TracesBy T.contents (reporting may_tell) traced.entry.now line.now traced.exit.now) }
+        ensures stopped { IfErr result
+            (StopsBy T.contents (reporting may_tell) traced.entry.now line.now traced.exit.now) }
+    {
+        let answer = traced.client.answer_line_with(workers, line)?;
+        traced.trace_answer(answer)
+    };
+    match serve(rt.alloc(), reader, writer, &mut answer) {
         Ok(_) => RunEnd::Served,
         Err(fault) => RunEnd::Serve(fault),
     }

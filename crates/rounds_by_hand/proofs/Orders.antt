@@ -41,9 +41,6 @@ abbrev pub RepliesSoFar : (Pending → Type 0) → (ℕ → List KeyOf → Answe
 RepliesSoFar Q may all rest replies = All Q all → All Q rest × ((more : List ReplyOf) → AreReplies may (map order_in rest) more → AreReplies may (map order_in all) (map reply_of replies ++ more))
 
 module _ (Q : Pending → Type 0) (may : ℕ → List KeyOf → AnswerOf → Type 0) where
-  pub replies-none : (all : List Pending) (replies : List Reply) → replies ≡ [] → RepliesSoFar Q may all all replies
-  replies-none all replies none each = (each, λ more fit. rw none fit)
-
   pub replies-one : (all items rest : List Pending) (one : Pending) (was now : List Reply) (reply : Reply) → items ≡ one ∷ rest → now ≡ was ++ reply ∷ [] → (Q one → IsReply may (order_in one) (reply_of reply))
       → RepliesSoFar Q may all items was → RepliesSoFar Q may all rest now
   replies-one all items rest one was now reply is put fits so each =

@@ -14,7 +14,7 @@ use Rattle.load_rounds.specs.Sessions.{SessionOf, state_of, rules_of}
 use Rattle.rounds_by_hand.specs.declared.pending.Pending.{Pending}
 use Rattle.rounds_by_hand.specs.declared.pending.Pending.TheVariants.{Out, In}
 use Rattle.rounds_by_hand.specs.Pending.{is_in, replies_in, IsReplyFor, AreRepliesFor}
-use Rattle.rounds_by_hand.specs.Stored.{KnowsTheSame, Stores, StoresRound}
+use Rattle.rounds_by_hand.specs.Stored.{Stores, StoresRound}
 use Rattle.rounds_by_hand.specs.Hands.{FarOf, HandOf, handed, out, over, can_advance, pending_in, AsksAndOverruns, IsOver, Overruns, StoresFrom, StoresAskedFrom}
 use Rattle.rounds_by_hand.specs.declared.fault.HandFault.{HandFault}
 use Rattle.rounds_by_hand.specs.declared.fault.HandFault.TheVariants as fault
@@ -23,9 +23,6 @@ module _ (may : ℕ → List KeyOf → AnswerOf → Type 0) where
   -- these are replies for the first of the orders: with replies for the others they are for all
   abbrev pub GivenSoFar : List Pending → List Pending → List Reply → Type 0
   GivenSoFar all rest replies = (more : List ReplyOf) → AreRepliesFor may rest more → AreRepliesFor may all (map reply_of replies ++ more)
-
-  pub given-none : (all : List Pending) (replies : List Reply) → replies ≡ [] → GivenSoFar all all replies
-  given-none all replies none = λ more fit. rw none fit
 
   pub given-one : (all items rest : List Pending) (one : Pending) (was now : List Reply) (reply : Reply) → items ≡ one ∷ rest → now ≡ was ++ reply ∷ [] → IsReplyFor may one (reply_of reply) → GivenSoFar all items was → GivenSoFar all rest now
   given-one all items rest one was now reply is put fits so =
@@ -48,12 +45,6 @@ pub round-given : {S : Type 0} (may : S → List KeyOf → AnswerOf → Type 0) 
 round-given may old new ps e h = h.stored ∙ ap (λ rs. after_round (rules_of (state_of old)) (look old.pairs) rs) (given-in (may_at may old.loaders) ps h.replies e h.replied)
 
 module _ {S P E : Type 0} (may : S → List KeyOf → AnswerOf → Type 0) where
-  -- what is stored, and a step after it in which nothing becomes known
-  pub stored-then : (far : FarOf P E) (old mid new : SessionOf S) → StoresAskedFrom may far old mid → KnowsTheSame mid new → StoresAskedFrom may far old new
-  stored-then handed old mid new h same = same ∙ h
-  stored-then (out run ps) old mid new h same = record { replies = h.replies; replied = h.replied; stored = same ∙ h.stored }
-  stored-then over old mid new h same = same ∙ h
-
   -- says the same by how far they are
   pub stores-given : (far : FarOf P E) (old new : SessionOf S) → list_all is_in (pending_in far) ≡ true → StoresAskedFrom may far old new → StoresFrom far old new
   stores-given handed old new e h = h

@@ -53,7 +53,7 @@ hand_of session plans limits far =
 -- No public clause names it. What contracts see of how far they are.
 abbrev pub far_of : {P E : Type 0} → Far P E → FarOf P E
 far_of (rust.Handed plans) = handed
-far_of (rust.Out run pending) = out run pending.items
+far_of (rust.Out run pending) = out run.value pending.items
 far_of rust.Over = over
 
 -- No public clause names it. Where nothing is done yet, these are the plans.

@@ -20,8 +20,8 @@ use std::mem;
 pub(crate) enum Far<P, E> {
     /// Nothing is done yet of these plans.
     Handed(Vec<P>),
-    /// A round is out, with its orders.
-    Out(Rounds<P, E>, Vec<Pending>),
+    /// A round is out, with its orders. The run stays in its place from round to round.
+    Out(Box<Rounds<P, E>>, Vec<Pending>),
     /// Nothing more can be done.
     Over,
 }
@@ -136,11 +136,11 @@ impl<S: LocalSource, P: CountWork<E> + Drop, E: Drop> Hand<S, P, E> {
 
     // A run that is ready to go on: that of plans of which nothing is done yet, or the one whose round was out, once the replies to it are
     // stored. None where they are over. They are over meanwhile.
-    fn ready(&mut self) -> Result<Option<Rounds<P, E>>, AllocError>
+    fn ready(&mut self) -> Result<Option<Box<Rounds<P, E>>>, AllocError>
         requires { Holds P.program P.text_of P.loaders P.fits
             self.old.session self.old.plans self.old.limits self.old.far }
-        ensures ready { IfOk result (λ ready. IfSome ready
-            (Readies P.program P.text_of S.may_tell P.loaders P.fits self.old self.new)) }
+        ensures ready { IfOk result (λ ready. IfSome ready (λ run.
+            Readies P.program P.text_of S.may_tell P.loaders P.fits self.old self.new run.value)) }
         ensures none { IfOk result (λ ready. IfNone ready
             (IsOver self.old.far × (self.new ≡ self.old))) }
         ensures over { IsOver self.new.far }
@@ -153,8 +153,15 @@ impl<S: LocalSource, P: CountWork<E> + Drop, E: Drop> Hand<S, P, E> {
     {
         match mem::replace(&mut self.far, Far::Over) {
             Far::Over => Ok(None),
-            Far::Handed(plans) => Ok(Some(self.session.begin_all(plans)?)),
-            Far::Out(run, pending) => Ok(Some(store(&mut self.session, run, pending)?)),
+            Far::Handed(plans) => {
+                let run = self.session.begin_all(plans)?;
+                Ok(Some(Box::new(self.session.alloc(), run)?))
+            }
+            Far::Out(run, pending) => {
+                let mut run = run;
+                store(&mut self.session, &mut *run, pending)?;
+                Ok(Some(run))
+            }
         }
     }
 
@@ -191,7 +198,7 @@ impl<S: LocalSource, P: CountWork<E> + Drop, E: Drop> Hand<S, P, E> {
         }
         match run.advance(&mut self.session)? {
             None => {
-                let answers = run.into_answers(self.session.alloc())?;
+                let answers = Box::into_inner(run).into_answers(self.session.alloc())?;
                 Ok(Progress::Done(answers))
             }
             Some(orders) => {

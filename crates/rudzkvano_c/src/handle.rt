@@ -6,7 +6,6 @@ ghost use Rattle.host_clients.specs.declared.object.Object.{Object};
 ghost use Rattle.host_clients.specs.contracts.object.Object.{the_row};
 ghost use Rattle.rudzkvano_c.specs.Made.{MakesClientHeld, MakesHeld, Puts};
 
-use core::mem::replace_with;
 use foreign_handles::{Slot, sent};
 use host_clients::{Fault, HostClient, Object};
 use std::alloc::Global;
@@ -107,32 +106,6 @@ impl Handle {
         match &mut *object {
             Object::Client(client) => {
                 let done = act(client);
-                self.put(alloc, object);
-                done
-            }
-            Object::Server(_) | Object::Queries(_) => {
-                self.put(alloc, object);
-                Err(Fault::BadHandle)
-            }
-        }
-    }
-
-    /// Puts what this makes of the client that it holds in the client's place, unless it holds none.
-    pub fn replace_client<T, F: FnOnce(HostClient, Global) -> (HostClient, Result<T, Fault>)>(
-        &mut self,
-        alloc: Global,
-        act: F,
-    ) -> Result<T, Fault>
-        requires { (x : _) (y : _) → F.pre act x y }
-        ensures { MakesClientHeld (λ c d r. F.post act c alloc (d, r)) (Unit {0})
-            self.old.held self.new.held result }
-    {
-        let Some(mut object) = self.take(alloc) else {
-            return Err(Fault::BadHandle);
-        };
-        match &mut *object {
-            Object::Client(client) => {
-                let done = replace_with(client, alloc, act);
                 self.put(alloc, object);
                 done
             }

@@ -155,7 +155,7 @@ pub extern "C" fn rz_next(alloc: Global, client: &mut Handle) -> i32
     ensures { AdvancesHeld client.old.held
         client.new.held result }
 {
-    progress_code(client.replace_client(alloc, HostClient::advance))
+    progress_code(client.on_client(alloc, &mut |client| client.advance(alloc)))
 }
 
 // The sizes of the orders of a round.

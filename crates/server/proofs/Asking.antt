@@ -1,7 +1,5 @@
 -- Plans of what is asked, and what answers them or stops them.
-use Rattle.std.proofs.Common.{◌≡◌, ◌∙◌, ◌⊎◌, ◌++◌, ℕ, Bool, true, false, List, [], ◌∷◌, map, length, option_map, Option, Some, None, Result, Ok, Err, refl, sym, ap, subst, inl, inr, string_bytes, arith}
-use Rattle.std.specs.Prelude.{String, IfOk, slice_get}
-use Rattle.std.specs.declared.alloc.Global.{Global}
+use Rattle.std.proofs.Common.{◌≡◌, ◌∙◌, ◌⊎◌, ℕ, Bool, true, false, List, [], ◌∷◌, length, Option, Some, None, refl, sym, ap, subst, inl, inr, arith}
 use Rattle.load_memory.specs.Keys.{KeyOf}
 use Rattle.load_queue.specs.Answers.{AnswerOf}
 use Rattle.gq_check.specs.Plans.{PlanOf}
@@ -10,8 +8,7 @@ use Rattle.plan_program.specs.PlanPrograms.{plan_program}
 use Rattle.load_rounds.specs.Headline.{StopsAnswering}
 use Rattle.load_rounds.specs.Limits.{AreWithin}
 use Rattle.load_rounds.specs.Sessions.{SessionOf, state_of}
-use Rattle.load_rounds.specs.SharedRounds.{ReportOf, request_of, requests, together, joint, SharedHeadline, greatest, report_of}
-use Rattle.load_rounds.specs.declared.answer.Answer.{Answer}
+use Rattle.load_rounds.specs.SharedRounds.{ReportOf, request_of, requests, together, joint, SharedHeadline}
 use Rattle.load_rounds.proofs.Requests.{headline-one, stops-one}
 use Rattle.request_line.specs.Requests.{RequestOf, IsRequest, AreRequests, IsNoRequest}
 use Rattle.plan_requests.specs.Planning.{IsPlanned, PlanValues}
@@ -23,10 +20,10 @@ use Rattle.server.specs.Clients.{ClientOf}
 use Rattle.server.specs.Lines as lines
 use Rattle.server.specs.Overruns as overruns
 use Rattle.server.specs.Plans.{requests_within, AreLimited, limited_program, limited_text}
-use Rattle.server.specs.Planned.{AskedOf, one, several, text, PlannedOf, refuses_one, is_refused, IsTextPlanned, no_request, request, several_requests, IsPlannedAs, PlansAll, PlansAsked, PlansFor, IsOneResponse, IsResponseOf, IsResponse, AnswersAsked, StopsAsked}
+use Rattle.server.specs.Planned.{AskedOf, one, several, text, PlannedOf, refuses_one, is_refused, IsTextPlanned, no_request, request, several_requests, IsPlannedAs, PlansAll, PlansAsked, PlansFor, IsResponseOf, IsResponse, AnswersAsked, StopsAsked}
 use Rattle.gq_resolve.specs.PreparedPlans.{LimitedPlanOf}
 use Rattle.server.proofs.LimitedPlans.{limited-asks}
-use Rattle.server.proofs.Values.{array-answered, texts-report}
+use Rattle.server.proofs.Values.{array-answered}
 
 -- of no plans there are none within a limit, and the other way round
 none-limited : (most : Option ℕ) (bs : List LimitedPlanOf) → AreLimited most [] bs → bs ≡ []
@@ -73,6 +70,7 @@ module _ {S : Type 0} (may : S → List KeyOf → AnswerOf → Type 0) (c : Clie
       (planned is (record {
         valid = planned-valid c.server r p is;
         headline = headline-one may (state_of c.session) (state_of new) (request_of (plan_program p) (text_within c.most)) t h;
+        loads = h.answers.0.loads;
         within = subst (λ n. AreWithin c.limits (requests_within c.most (p ∷ [])) (state_of new) n) counted within;
       }))
   alone r p (t ∷ u ∷ us) report is h within e = absurd h.answers.1
@@ -94,7 +92,7 @@ module _ {S : Type 0} (may : S → List KeyOf → AnswerOf → Type 0) (c : Clie
 
   several-answered : (values : List (Option RequestOf)) (refusals : List (Option (List ℕ))) (plans : List PlanOf) (reports : List ReportOf) (report : ReportOf) → PlanValues c.server values refusals plans → Given plans reports
       → IsResponseOf true refusals reports report → arrays.AnswersArray may c values report new
-  several-answered values refusals plans reports report h given is = array-answered may c new values refusals plans reports report h given is.0 is.1
+  several-answered values refusals plans reports report h given is = array-answered may c new values refusals plans reports report h given is
 
   text-answered : (t : List ℕ) (many : Bool) (refusals : List (Option (List ℕ))) (plans : List PlanOf) (bs : List LimitedPlanOf) (reports : List ReportOf) (report : ReportOf) → IsTextPlanned c.server t many refusals plans
       → AreLimited c.most plans bs → refuses_one many bs ≡ false → Given plans reports → IsResponseOf many refusals reports report → lines.AnswersText may c t report new
@@ -177,12 +175,6 @@ module _ {S : Type 0} (may : S → List KeyOf → AnswerOf → Type 0) (c : Clie
 -- ---- a request that is refused
 
 module _ {S : Type 0} (may : S → List KeyOf → AnswerOf → Type 0) (c : ClientOf S) where
-  -- memory ran out before anything was planned
-  pub unplanned-stops : (asked : AskedOf) → StopsAsked may c asked c.session
-  unplanned-stops (one r) = unplanned refl
-  unplanned-stops (several values) = arrays.unplanned refl
-  unplanned-stops (text t) = lines.unread refl
-
   refused-one : (r : RequestOf) (refusals : List (Option (List ℕ))) (plans : List PlanOf) (report : ReportOf) → PlanValues c.server (Some r ∷ []) refusals plans → plans ≡ [] → IsResponseOf false refusals [] report → AnswersRequest may c r report c.session
   refused-one r refusals plans report h e response =
       let t = one-refusal c.server (Some r) refusals plans h e in
@@ -223,34 +215,3 @@ module _ (s : ServerOf) (most : Option ℕ) (what : PlannedOf) where
 
   pub asks-texts : (t : List ℕ) (values : List (Option RequestOf)) → AreRequests t values → PlansAll s most values true what → PlansFor s most (text t) what
   asks-texts t values is h = record { plans = h.each.plans; limited = h.each.limited; planned_as = several_requests is h.many_is h.each.each }
-
--- ---- responses
-
--- the refusal that comes first is the response of one request
-pub refusal-some : (refusals : List (Option (String Global))) (text : String Global) → slice_get refusals 0 ≡ Some (Some text) → IsOneResponse (map (option_map string_bytes) refusals) [] (unasked (string_bytes text))
-refusal-some [] said e = absurd (cc e)
-refusal-some (Some t ∷ []) said e = let same : t ≡ said = cc e in ap (λ u. unasked (string_bytes u)) (sym same)
-refusal-some (Some t ∷ r ∷ rs) said e = tt
-refusal-some (None ∷ rs) said e = absurd (cc e)
-
-pub refusal-none : (refusals : List (Option (String Global))) (report : ReportOf) → ((text : String Global) → slice_get refusals 0 ≡ Some (Some text) → ⊥) → IsOneResponse (map (option_map string_bytes) refusals) [] report
-refusal-none [] report none = tt
-refusal-none (Some t ∷ []) report none = absurd (none t refl)
-refusal-none (Some t ∷ r ∷ rs) report none = tt
-refusal-none (None ∷ rs) report none = tt
-
--- the response of one request is the last of the answers, of which there is one
-pub last-response : (refusals : List (Option (List ℕ))) (before : List Answer) (answer : Answer) → IsOneResponse refusals (map report_of (before ++ answer ∷ [])) (report_of answer)
-last-response refusals [] answer = refl
-last-response refusals (a ∷ []) answer = tt
-last-response refusals (a ∷ b ∷ bs) answer = tt
-
--- an array's response
-pub array-response : (refusals : List (Option (List ℕ))) (answers : List Answer) (report : ReportOf) → report.text ≡ arrays.array_text (arrays.in_places refusals (map (λ (a : Answer). string_bytes a.text) answers))
-    → report.rounds ≡ greatest (map report_of answers) → IsResponseOf true refusals (map report_of answers) report
-array-response refusals answers report said rounds = (said ∙ ap (λ ts. arrays.array_text (arrays.in_places refusals ts)) (sym (texts-report answers)), rounds)
-
-pub array-responds : {E : Type 0} (r : Result Answer E) (refusals : List (Option (List ℕ))) (answers : List Answer) → IfOk r (λ a. string_bytes a.text ≡ arrays.array_text (arrays.in_places refusals (map (λ (a : Answer). string_bytes a.text) answers)))
-    → IfOk r (λ a. a.rounds ≡ greatest (map report_of answers)) → IfOk r (λ a. IsResponseOf true refusals (map report_of answers) (report_of a))
-array-responds (Ok a) refusals answers said rounds = array-response refusals answers (report_of a) said rounds
-array-responds (Err e) refusals answers said rounds = tt

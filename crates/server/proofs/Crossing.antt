@@ -13,6 +13,7 @@ use Rattle.plan_requests.proofs.Crossing as kept_documents
 use Rattle.plan_requests.specs.contracts.document_cache.DocumentCache as documents
 use Rattle.server.specs.contracts.request_cache.RequestCache as request_cache
 use Rattle.server.specs.contracts.request_cache.RequestCache.TheInside as cache_inside
+use Rattle.short_list.proofs.list.ShortList.TheSendSync as short_list
 use Rattle.text_cache.proofs.cache.TextCache.TheSendSync as texts
 use Rattle.gq_check.specs.contracts.checked.CheckedDocument as checked
 use Rattle.gq_resolve.specs.contracts.limited_plan.LimitedPlan as limited
@@ -71,7 +72,7 @@ pub queries_send : IsSend queries.the_row
 queries_send = let i = queries_inside_send in record { owned = λ d vs x. (i.owned x.0 vs, tt); leaving = λ k d w. tt }
 
 form_send : IsSend form.the_row
-form_send = search (over.crosses, sendable) depth 20
+form_send = search (over.crosses, sendable, short_list.the_send) depth 20
 
 planned_inside_send : IsSend planned_inside.the_row
 planned_inside_send = declared_send planned_inside.the_type (form_send, (search (over.crosses, sendable, limited_send) depth 20, (search sendable depth 20, tt)))

@@ -1,7 +1,7 @@
 -- Lemmas on what a hand did, and what is made of it for the client that it is of.
 use Rattle.std.proofs.Common.{◌≡◌, ◌≤◌, ◌∙◌, ◌⊎◌, ℕ, Bool, true, false, List, [], length, All, Option, Some, None, Result, Ok, Err, refl, sym, ap, subst, inl, inr, arith}
 use Rattle.std.proofs.lemmas.List.Elements.{All-weaker}
-use Rattle.std.specs.Prelude.{◌↔◌, IfSome, IsSome, OnOk}
+use Rattle.std.specs.Prelude.{IfSome, OnOk}
 use Rattle.std.specs.List.{list_all}
 use Rattle.std.specs.Global.{Vec}
 use Rattle.load_memory.specs.Keys.{KeyOf}
@@ -19,18 +19,18 @@ use Rattle.load_rounds.specs.declared.answer.Answer.{Answer}
 use Rattle.load_rounds.specs.declared.limits.Limits.{Limits}
 use Rattle.load_rounds.specs.declared.limits.Overrun.{Overrun}
 use Rattle.rounds_by_hand.specs.Hands as hands
-use Rattle.rounds_by_hand.specs.Hands.{FarOf, HandOf, handed, out, over, HasGone, IsOver, IsNewRound, pending_in}
+use Rattle.rounds_by_hand.specs.Hands.{FarOf, HandOf, handed, HasGone, pending_in}
 use Rattle.rounds_by_hand.specs.Progress.{Becomes, done_in}
 use Rattle.rounds_by_hand.specs.declared.pending.Pending.{Pending}
 use Rattle.rounds_by_hand.specs.declared.progress.Progress.{Progress}
-use Rattle.rounds_by_hand.specs.declared.progress.Progress.TheVariants.{Done, Round, Waiting, Over}
+use Rattle.rounds_by_hand.specs.declared.progress.Progress.TheVariants.{Done}
 use Rattle.rounds_by_hand.specs.Pending.{is_in}
 use Rattle.rounds_by_hand.proofs.Becoming.{each-becomes}
 use Rattle.rounds_by_hand.proofs.Storing.{stores-given}
 use Rattle.plan_requests.specs.Servers.{ServerOf}
 use Rattle.server.specs.Plans.{limited_program, limited_text, limited_loaders, limited_fits}
 use Rattle.server.specs.Clients.{ClientOf, HasLoaders, IsSameClient, client_of}
-use Rattle.server.specs.Hands.{ByHandOf, by_hand_of, planned_of, MakesResponse, Ends, AsksAndSteps, AsksAndStores, GivesFrom, Responds, GivesUp, GoesOn, GoesOnIfMay, HoldsByHand, StoresReplies}
+use Rattle.server.specs.Hands.{ByHandOf, by_hand_of, planned_of, MakesResponse, AsksAndStores, GivesFrom, Responds, GivesUp, GoesOn, GoesOnIfMay, HoldsByHand, StoresReplies}
 use Rattle.server.specs.Overruns.{overruns, reports_given}
 use Rattle.server.specs.Planned.{AskedOf, PlannedOf, PlansAsked, AnswersAsked, IsResponse, is_refused}
 use Rattle.gq_resolve.specs.PreparedPlans.{LimitedPlanOf}
@@ -38,40 +38,10 @@ use Rattle.server.specs.declared.planned.ResponseForm.{ResponseForm}
 use Rattle.server.proofs.Asking.{asked-answered, asked-refused, asked-stops}
 use Rattle.server.proofs.Refusing.{asked-given}
 
--- a new round isn't the end
-pub round-open : {P E : Type 0} (far : FarOf P E) → IsNewRound far → ¬ (IsOver far)
-round-open handed is e = absurd is
-round-open (out run pending) is e = absurd (cc e)
-round-open over is e = absurd is
-
--- of a hand of which nothing is done no order can get a reply
-pub reply-keeps : {S P E : Type 0} (old new : HandOf S P E) (number : ℕ) (Refused : Type 0) → (Refused ↔ (length (pending_in old.far) ≤ number)) → (Refused → new ≡ old) → old.far ≡ handed → new.far ≡ handed
-reply-keeps old new number Refused when same e =
-    let none : length (pending_in old.far) ≤ number = subst (λ far. length (pending_in far) ≤ number) (sym e) (omega arith) in
-    ap (λ (h : HandOf _ _ _). h.far) (same (when.1 none)) ∙ e
-
 module _ {S : Type 0} (server : ServerOf) (most : Option ℕ) (limits : Limits) (planned : PlannedOf) where
   -- the hand with the client that it is of
   abbrev pub held : HandOf S LimitedPlanOf RootState → ByHandOf S
   held hand = by_hand_of (client_of server most limits hand.session) planned hand.far
-
-  pub asks-steps : (old new : HandOf S LimitedPlanOf RootState) (did : Progress (Vec Answer)) (own : Progress Answer) → Becomes (MakesResponse planned.many planned.refusals) did own → hands.AsksAndAdvances old new did → AsksAndSteps (held old) (held new) own
-  asks-steps old new = each-becomes (MakesResponse planned.many planned.refusals) (λ did own. hands.AsksAndAdvances old new did → AsksAndSteps (held old) (held new) own) (λ answers answer is h. (h.0, inr h.1)) (λ h. h) (λ h. h) (λ h. (h.0, ap held h.1))
-
-  -- says where there are answers it is over
-  pub done-ends : (old new : HandOf S LimitedPlanOf RootState) (did : Progress (Vec Answer)) → IsSome (done_in did) → hands.AsksAndAdvances old new did → Ends (held old) (held new)
-  done-ends old new (Done answers) is h = inr h.1
-  done-ends old new Round is h = absurd (cc is)
-  done-ends old new Waiting is h = absurd (cc is)
-  done-ends old new Over is h = absurd (cc is)
-
-  -- what is over a limit is answered, and it is over
-  pub overrun-steps : (old new : HandOf S LimitedPlanOf RootState) (answer : Answer) → ¬ (IsOver old.far) → IsOver new.far → AsksAndSteps (held old) (held new) (Done answer)
-  overrun-steps old new answer on ended = (on, inr ended)
-
-  -- a request that is refused stays as it is
-  pub refused-asks : (hand : HandOf S LimitedPlanOf RootState) → is_refused planned ≡ true → hand.far ≡ handed → (answer : Answer) → AsksAndSteps (held hand) (held hand) (Done answer)
-  refused-asks hand refused far answer = (λ e. absurd (cc (sym far ∙ e)), inl (refused, refl))
 
   module _ (may : S → List KeyOf → AnswerOf → Type 0) where
     -- a hand goes on for what is planned as it goes on for its own plans
@@ -158,6 +128,13 @@ holds-on server most limits form loaders refuses old new was open' kept =
 pub told : {S : Type 0} (server : ServerOf) (most : Option ℕ) (limits : Limits) (form : ResponseForm) (loaders : ℕ) (old new : HandOf S LimitedPlanOf RootState) (T : ByHandOf S → Type 0) → new.plans ≡ old.plans
     → T (held server most limits (planned_of form loaders old.plans) new) → T (held server most limits (planned_of form loaders new.plans) new)
 told server most limits form loaders old new T same x = subst (λ ps. T (held server most limits (planned_of form loaders ps) new)) (sym same) x
+
+-- a hand goes on, for its plans as they are
+pub goes-on : {S : Type 0} (server : ServerOf) (most : Option ℕ) (limits : Limits) (form : ResponseForm) (loaders : ℕ) (may : S → List KeyOf → AnswerOf → Type 0) (old new : HandOf S LimitedPlanOf RootState) → new.plans ≡ old.plans
+    → hands.GoesOn limited_program limited_text may old new → GoesOn may (held server most limits (planned_of form loaders old.plans) old) (held server most limits (planned_of form loaders new.plans) new)
+goes-on server most limits form loaders may old new same go =
+    let planned = planned_of form loaders old.plans in
+    told server most limits form loaders old new (GoesOn may (held server most limits planned old)) same (goes server most limits planned may old new refl same go)
 
 -- where each order had a reply, what was given is stored
 pub stores-replies : {S : Type 0} (may : S → List KeyOf → AnswerOf → Type 0) (old : ByHandOf S) (client : ClientOf S) → list_all is_in (pending_in old.far) ≡ true → AsksAndStores may old client → StoresReplies old client

@@ -11,4 +11,3 @@ pub mod Refusing
 pub mod Responding
 pub mod StartedLines
 pub mod Values
-pub mod Counts

@@ -18,15 +18,11 @@ use Rattle.gq_resolve.specs.Within.{text_within}
 use Rattle.gq_resolve.specs.PreparedPlans.{LimitedPlanOf as LimitedPlan}
 use Rattle.plan_requests.specs.Servers.{ServerOf}
 use Rattle.server.specs.Clients.{HasLoaders}
-use Rattle.server.specs.Plans.{AreLimited, HasLoadersFor, limited_plan, plan_and_limit}
+use Rattle.server.specs.Plans.{AreLimited, HasLoadersFor, plan_and_limit}
 
 pub map-twice : {A B C : Type 0} (g : B → C) (f : A → B) (xs : List A) → map g (map f xs) ≡ map (λ x. g (f x)) xs
 map-twice g f [] = refl
 map-twice g f (x ∷ xs) = ap (λ l. g (f x) ∷ l) (map-twice g f xs)
-
-map-id : {X : Type 0} (xs : List X) → map (λ x. x) xs ≡ xs
-map-id [] = refl
-map-id (x ∷ xs) = ap (λ l. x ∷ l) (map-id xs)
 
 module _ (most : Option ℕ) where
   -- says what they ask is what the plans ask, with texts within the limit
@@ -35,12 +31,6 @@ module _ (most : Option ℕ) where
   limited-asks plans limited are =
       let asked : PlanOf × Option ℕ → RequestOf = λ p. request_of (plan_program p.0) (text_within p.1) in
       sym (map-twice asked plan_and_limit limited) ∙ ap (map asked) are ∙ map-twice asked (λ (plan : PlanOf). (plan, most)) plans
-
-  -- the plans of limited ones
-  pub limited-plans : (plans : List PlanOf) (limited : List LimitedPlan) → AreLimited most plans limited → map limited_plan limited ≡ plans
-  limited-plans plans limited are =
-      let alone : PlanOf × Option ℕ → PlanOf = λ p. p.0 in
-      sym (map-twice alone plan_and_limit limited) ∙ ap (map alone) are ∙ map-twice alone (λ (plan : PlanOf). (plan, most)) plans ∙ map-id plans
 
   -- says what holds of each plan
   pub all-limited : (P : PlanOf → Type 0) (plans : List PlanOf) (limited : List LimitedPlan) → AreLimited most plans limited → All P plans → All (λ (l : LimitedPlan). P (plan_of l.plan)) limited

@@ -22,12 +22,10 @@ use Rattle.load_rounds.specs.ByHand.{IsAsked, front_in}
 use Rattle.load_rounds.specs.Headline.{StopsAnswering, asked_steps}
 use Rattle.load_rounds.specs.Histories.{IsCallOf, StoppedLoading}
 use Rattle.load_rounds.specs.Reading.{KeysOf, CanLoad, HasRead, keys_fits, keys_loaders, keys_program, keys_text}
-use Rattle.load_rounds.specs.Limits.{AreOver, no_limits}
-use Rattle.load_rounds.specs.SharedRounds.{ReportOf, SharedHeadline, joint, report_of, request_of, requests}
+use Rattle.load_rounds.specs.Limits.{no_limits}
+use Rattle.load_rounds.specs.SharedRounds.{ReportOf, SharedHeadline, joint, report_of, request_of}
 use Rattle.load_rounds.specs.declared.answer.Answer.{Answer}
 use Rattle.load_rounds.specs.declared.limits.Limits.{Limits}
-use Rattle.load_rounds.specs.declared.limits.Overrun.{Overrun}
-use Rattle.load_rounds.proofs.Limiting.{never-over}
 use Rattle.load_rounds.specs.Executions.{plans_in}
 use Rattle.load_rounds.specs.Runs.{RunOf}
 use Rattle.load_rounds.proofs.Reading.{read-complete, read-fills, read-once, reading-front, reading-stops}
@@ -41,8 +39,7 @@ use Rattle.rounds_by_hand.specs.declared.pending.Pending.{Pending}
 use Rattle.rounds_by_hand.specs.declared.pending.Pending.TheVariants.{Out, In}
 use Rattle.rounds_by_hand.specs.Pending.{order_in, AreRepliesFor, HasAnswer, IsReplied}
 use Rattle.rounds_by_hand.specs.Stored.{StoresRound}
-use Rattle.rounds_by_hand.specs.declared.fault.HandFault.TheVariants as fault
-use Rattle.rounds_by_hand.specs.Hands.{FarOf, HandOf, handed, out, over, AnswersFrom, AsksAndAdvances, AsksAndOverruns, GivesUp, GoesOn, GoesOnIfMay, HasGone, HoldsFar, IsNewRound, IsOutWith, IsOver, KeepsHand, KeepsLoaders, KeepsSession, StoresAskedFrom}
+use Rattle.rounds_by_hand.specs.Hands.{FarOf, HandOf, handed, out, over, AnswersFrom, AsksAndAdvances, GivesUp, GoesOn, GoesOnIfMay, HasGone, HoldsFar, IsNewRound, IsOutWith, IsOver, KeepsHand, KeepsLoaders, KeepsSession, StoresAskedFrom}
 use Rattle.rounds_by_hand.proofs.Becoming.{each-becomes}
 use Rattle.plan_requests.specs.Servers.{ServerOf}
 use Rattle.server.specs.Clients.{HasLoaders, client_of}
@@ -138,12 +135,6 @@ module _ {S : Type 0} (keys : KeysOf) where
         holds = kept.holds;
         limited = subst AreLimited (sym kept.session.rules) h.limited;
       }
-
-      -- it has no limits to be over
-      pub never-refused : (o : Overrun) → AsksAndOverruns keys_program keys_text may old new (fault.Over o) → ⊥
-      never-refused o refused =
-          let asked = requests keys_program keys_text new.plans in
-          never-over asked (state_of new.session) o.rounds o.excess (subst (λ (l : Limits). AreOver l asked (state_of new.session) o.rounds o.excess) (kept.limits ∙ h.unlimited) refused.exceeds)
 
       -- from whichever session it was begun: the program was run
       has-read : (all : Vec Answer) → AnswersFrom keys_program keys_text may old new (Done all) → (begun : SessionOf S) → HasGone keys_program keys_text may begun old.session old.plans old.far → HasRead may (state_of begun) (state_of new.session) keys.loader keys.keys

@@ -1,5 +1,5 @@
 -- What a client is asked, planned, and what answers to the plans make of it.
-use Rattle.std.proofs.Common.{◌≡◌, ◌∙◌, ℕ, List, [], map, Result, Ok, Err, true, false, subst, sym, inr}
+use Rattle.std.proofs.Common.{◌≡◌, ◌∙◌, ℕ, List, [], map, Result, true, false, subst, sym, inr}
 use Rattle.std.specs.Global.{Vec}
 use Rattle.std.specs.Prelude.{IfOk}
 use Rattle.std.specs.declared.alloc.AllocError.{AllocError}
@@ -17,10 +17,10 @@ use Rattle.gq_resolve.specs.PreparedPlans.{LimitedPlanOf}
 use Rattle.server.specs.Clients.{ClientOf}
 use Rattle.server.specs.Hands.{MakesResponse, planned_of, refusals_in}
 use Rattle.server.specs.Overruns.{reports_given}
-use Rattle.server.specs.Planned.{AnswersAsked, AnswersPlanned, AskedOf, IsResponse, PlannedOf, PlansAsked, StopsAsked, StopsPlanned, is_refused}
+use Rattle.server.specs.Planned.{AnswersAsked, AskedOf, IsResponse, PlannedOf, PlansAsked, StopsAsked, is_refused}
 use Rattle.server.specs.Plans.{limited_program, limited_requests, limited_text}
 use Rattle.server.specs.declared.planned.ResponseForm.{ResponseForm}
-use Rattle.server.proofs.Asking.{asked-answered, asked-refused, asked-stops, unplanned-stops}
+use Rattle.server.proofs.Asking.{asked-answered, asked-refused, asked-stops}
 use Rattle.server.proofs.LimitedPlans.{given-stops}
 use Rattle.server.proofs.Refusing.{asked-given}
 
@@ -58,32 +58,3 @@ module _ {S : Type 0} (may : S → List KeyOf → AnswerOf → Type 0) (c : Clie
           (λ answer is.
           asked-answered may c new asked what (reports_given what.refusals given) (report_of answer) p open' (asked-given may c new asked what p given are)
           (subst (λ (x : PlannedOf). IsResponse x (reports_given x.refusals given) (report_of answer)) seen is)) made
-
--- what came of each that may have been asked came of it whichever was
-if-each : {T E A : Type 0} (P : A → Type 0) (Q : T → A → Type 0) (r : Result T E) → ((a : A) → P a → IfOk r (λ x. Q x a)) → IfOk r (λ x. (a : A) → P a → Q x a)
-if-each P Q (Ok x) h = h
-if-each P Q (Err e) h = tt
-
--- the same, whatever was asked
-module _ {S : Type 0} (may : S → List KeyOf → AnswerOf → Type 0) (c : ClientOf S) (form : ResponseForm) (loaders : ℕ) (bs : List LimitedPlanOf) (what : PlannedOf) (seen : planned_of form loaders bs ≡ what) where
-  pub planned-refusal : (none : Vec Answer) (r : Result Answer AllocError) → none.items ≡ [] → is_refused what ≡ true → IfOk r (MakesResponse form.is_array (refusals_in form) none) → IfOk r (λ answer. AnswersPlanned may c what (report_of answer) c.session)
-  planned-refusal none r e refused made =
-      if-each (λ asked. PlansAsked c asked what) (λ answer asked. AnswersAsked may c asked (report_of answer) c.session) r
-      (λ asked p. refusal-answers may c asked form loaders bs what seen p none r e refused made)
-
-  -- memory ran out before anything was asked
-  pub planned-unasked : StopsPlanned may c what c.session
-  planned-unasked = λ asked p. unplanned-stops may c asked
-
-  module _ (old new : SessionOf S) (same : old ≡ c.session) (open' : is_refused what ≡ false) where
-    pub planned-stop : StopsAnswering may (state_of old) (state_of new) (together (limited_requests bs)) → StopsPlanned may c what new
-    planned-stop h = λ asked p. plans-stop may c asked form loaders bs what seen p old new same open' h
-
-    module _ (limits : Limits) (given : Result (Vec Answer) Overrun) (h : AreAnswersWithin may (state_of old) (state_of new) limits (limited_requests bs) given) where
-      pub planned-answer-stop : StopsPlanned may c what new
-      planned-answer-stop = λ asked p. answers-stop may c asked form loaders bs what seen p old new same open' limits given h
-
-      pub planned-respond : limits ≡ c.limits → (r : Result Answer AllocError) → IfOk r (λ answer. IsResponse (planned_of form loaders bs) (reports_given (refusals_in form) given) (report_of answer)) → IfOk r (λ answer. AnswersPlanned may c what (report_of answer) new)
-      planned-respond bound r made =
-          if-each (λ asked. PlansAsked c asked what) (λ answer asked. AnswersAsked may c asked (report_of answer) new) r
-          (λ asked p. answers-respond may c asked form loaders bs what seen p old new same open' limits given h bound r made)

@@ -14,10 +14,9 @@ module _ {S : Type 0} (may : S → List KeyOf → AnswerOf → Type 0) (c mid la
     limits = same.limits ∙ ap (λ (x : ClientOf S). x.limits) starts;
   }
 
-  pub serves-line : (report : ReportOf) → AnswersText may mid line report later.session → ServesLine may c line report.text later
+  pub serves-line : (report : ReportOf) → AnswersText may mid line report later.session → ServesLine may c line report later
   serves-line report h = record {
     same = same-client;
-    rounds = report.rounds;
     answers = subst (λ (x : ClientOf S). AnswersText may x line report later.session) starts h;
   }
 

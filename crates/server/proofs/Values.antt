@@ -1,8 +1,10 @@
 -- The values of an array in their places: their refusals, and the answers of their plans.
-use Rattle.std.proofs.Common.{◌≡◌, ◌<◌, ℕ, zero, suc, List, [], ◌∷◌, ◌++◌, map, length, get_or, drop, Option, Some, None, All, refl, sym, ap, subst, ◌∙◌, arith, append_assoc, string_bytes}
+use Rattle.std.proofs.Common.{◌≡◌, ◌<◌, ℕ, zero, suc, true, List, [], ◌∷◌, ◌++◌, map, length, get_or, drop, Option, Some, None, All, refl, sym, ap, subst, ◌∙◌, arith, append_assoc, string_bytes}
 use Rattle.std.specs.List.{AllZip, flat_map, join_by}
 use Rattle.std.specs.Option.{option_map}
 use Rattle.std.proofs.lemmas.List.{length-map}
+use Rattle.execution.specs.Loads.{read}
+use Rattle.execution.specs.Reads.{all_read, count_read, counted}
 use Rattle.gq_check.specs.Planned.{IsPlan}
 use Rattle.gq_check.specs.Plans.{PlanOf}
 use Rattle.gq_resolve.specs.Within.{text_within}
@@ -10,16 +12,18 @@ use Rattle.plan_program.specs.PlanPrograms.{plan_program}
 use Rattle.load_memory.specs.Keys.{KeyOf}
 use Rattle.load_memory.specs.Replies.{ReplyOf}
 use Rattle.load_queue.specs.Answers.{AnswerOf}
-use Rattle.load_rounds.specs.Sessions.{SessionOf, StateOf, state_of}
+use Rattle.load_rounds.specs.Sessions.{SessionOf, StateOf, session_modes, state_of}
 use Rattle.load_rounds.specs.SharedRounds.{RequestOf as ExecutedOf, ReportOf, AreShared, greatest, report_of, request_of}
 use Rattle.load_rounds.specs.declared.answer.Answer.{Answer}
 use Rattle.load_rounds.specs.declared.limits.Limits.{Limits}
+use Rattle.load_rounds.specs.declared.limits.Overrun.{Overrun}
 use Rattle.request_line.specs.Requests.{RequestOf}
 use Rattle.plan_requests.specs.Servers.{ServerOf}
 use Rattle.plan_requests.specs.Planning.{PlanValues}
 use Rattle.plan_requests.proofs.Values.{plans-valid}
 use Rattle.server.specs.Clients.{ClientOf}
-use Rattle.server.specs.Overruns.{AreGiven, answered as given_answers, overrun, overrun_report}
+use Rattle.server.specs.Overruns.{AreGiven, answered as given_answers, loads_given, overrun, overrun_report}
+use Rattle.server.specs.Planned.{IsResponseOf, all_loads}
 use Rattle.server.specs.Plans.{requests_within}
 use Rattle.server.specs.Arrays.{PlaceOf, refused, answered, IsInPlace, text_in, plans_in, reports_in, in_places, array_text, AnswersArray}
 
@@ -40,6 +44,27 @@ module _ {S : Type 0} (may : S → List KeyOf → AnswerOf → Type 0) (limits :
       let asked : PlanOf → ExecutedOf = λ plan. request_of (plan_program plan) (text_within most) in
       let refusal : ExecutedOf → ReportOf = λ r. overrun_report o in
       sym (length-map plans asked) ∙ sym (length-map (map asked plans) refusal) ∙ sym (ap length same)
+
+-- ---- the loads of all answers
+
+shared-loads : {S : Type 0} (old new : StateOf S) (log : List (List ReplyOf)) (rs : List ExecutedOf) (ts : List ReportOf) → AreShared old new log rs ts
+    → counted (all_loads ts) ≡ counted (all_read (map (λ (r : ExecutedOf). r.program) rs) (read (session_modes old) new.memory))
+shared-loads old new log [] [] h = refl
+shared-loads old new log [] (t ∷ ts) h = absurd h
+shared-loads old new log (r ∷ rs) [] h = absurd h
+shared-loads old new log (r ∷ rs) (t ∷ ts) h =
+    let first : t.loads ≡ counted (count_read r.program (read (session_modes old) new.memory)) = h.0.loads in
+    let others = shared-loads old new log rs ts h.1 in
+    omega (arith, first, others)
+
+no-loads : (o : Overrun) (rs : List ExecutedOf) → all_loads (map (λ (r : ExecutedOf). overrun_report o) rs) ≡ 0
+no-loads o [] = refl
+no-loads o (r ∷ rs) = let rest = no-loads o rs in omega (arith, rest)
+
+pub given-loads : {S : Type 0} (may : S → List KeyOf → AnswerOf → Type 0) (limits : Limits) (old new : StateOf S) (rs : List ExecutedOf) (ts : List ReportOf) (given : AreGiven may limits old new rs ts)
+    → counted (all_loads ts) ≡ loads_given may limits old new given
+given-loads may limits old new rs ts (given_answers headline within) = shared-loads old new headline.log rs ts headline.answers
+given-loads may limits old new rs ts (overrun {o = o} gone same) = ap (λ us. counted (all_loads us)) same ∙ ap counted (no-loads o rs)
 
 module _ (s : ServerOf) where
   -- each value in its place
@@ -81,17 +106,19 @@ texts-report (a ∷ as') = ap (λ ts. string_bytes a.text ∷ ts) (texts-report 
 module _ {S : Type 0} (may : S → List KeyOf → AnswerOf → Type 0) (c : ClientOf S) (new : SessionOf S) where
   pub array-answered : (values : List (Option RequestOf)) (refusals : List (Option (List ℕ))) (plans : List PlanOf) (reports : List ReportOf) (report : ReportOf) → PlanValues c.server values refusals plans
       → AreGiven may c.limits (state_of c.session) (state_of new) (requests_within c.most plans) reports
-      → report.text ≡ array_text (in_places refusals (map (λ (t : ReportOf). t.text) reports)) → report.rounds ≡ greatest reports → AnswersArray may c values report new
-  array-answered values refusals plans reports report h given e r =
+      → IsResponseOf true refusals reports report → AnswersArray may c values report new
+  array-answered values refusals plans reports report h given is =
       let f = filled c.server values refusals plans reports h (given-many may c.limits (state_of c.session) (state_of new) c.most plans reports given) in
       let gives : List PlanOf → List ReportOf → Type 0 = λ ps ts. AreGiven may c.limits (state_of c.session) (state_of new) (requests_within c.most ps) ts in
+      let own = subst (λ ps. gives ps (reports_in f.places)) (sym f.plans_are) (subst (gives plans) (sym f.reports_are) given) in
       record {
         places = f.places;
         each = f.each;
-        text = e ∙ ap array_text (sym f.texts_are);
-        rounds = r ∙ ap greatest (sym f.reports_are);
+        text = is.0 ∙ ap array_text (sym f.texts_are);
+        rounds = is.1 ∙ ap greatest (sym f.reports_are);
         valid = subst (All IsPlan) (sym f.plans_are) (plans-valid c.server values refusals plans h);
-        given = subst (λ ps. gives ps (reports_in f.places)) (sym f.plans_are) (subst (gives plans) (sym f.reports_are) given);
+        given = own;
+        loads = is.2 ∙ ap (λ ts. counted (all_loads ts)) (sym f.reports_are) ∙ given-loads may c.limits (state_of c.session) (state_of new) (requests_within c.most (plans_in f.places)) (reports_in f.places) own;
       }
 
 -- ---- the texts in their places, one more

@@ -6,7 +6,7 @@ use Rattle.gq_check.specs.Plans.{PlanOf}
 use Rattle.gq_check.specs.Planned.{IsPlan}
 use Rattle.plan_program.specs.PlanPrograms.{plan_program}
 use Rattle.gq_resolve.specs.Within.{text_within}
-use Rattle.load_rounds.specs.Headline.{Headline, StopsAnswering}
+use Rattle.load_rounds.specs.Headline.{CountsLoads, Headline, StopsAnswering}
 use Rattle.load_rounds.specs.Limits.{AreRefused, AreWithin}
 use Rattle.load_rounds.specs.Sessions.{SessionOf, state_of}
 use Rattle.load_rounds.specs.SharedRounds.{ReportOf}
@@ -17,19 +17,20 @@ use Rattle.server.specs.Clients.{ClientOf}
 use Rattle.server.specs.Overruns.{overrun_report}
 use Rattle.server.specs.Plans.{requests_within}
 
--- a text for which nothing was asked
+-- a text for which nothing was asked and nothing read
 abbrev pub unasked : List ℕ → ReportOf
-unasked text = record { text = text; rounds = 0 }
+unasked text = record { text = text; rounds = 0; loads = 0 }
 
 module _ {S : Type 0} (may : S → List KeyOf → AnswerOf → Type 0) where
   -- The plan, which is of a valid document, was answered with the headline, from the client's session to this one: the loaders were asked
-  -- exactly the batches of a lawful log, and the text is that of direct execution over what is known then, within the client's limit. Its
-  -- work and its rounds are within the client's limits.
+  -- exactly the batches of a lawful log, and the text is that of direct execution over what is known then, within the client's limit. The
+  -- loads that it reads there are counted. Its work and its rounds are within the client's limits.
   pub record AnswersPlan (c : ClientOf S) (plan : PlanOf) (report : ReportOf)
       (new : SessionOf S) : Type 0 where
     pub valid : IsPlan plan
     pub headline : Headline may (state_of c.session) (state_of new) (plan_program plan)
         (text_within c.most) report.text report.rounds
+    pub loads : CountsLoads (state_of c.session) (state_of new) (plan_program plan) report.loads
     pub within : AreWithin c.limits (requests_within c.most (plan ∷ []))
         (state_of new) report.rounds
 

@@ -15,7 +15,7 @@ use Rattle.request_line.specs.Requests.{RequestOf}
 use Rattle.plan_requests.specs.Servers.{ServerOf}
 use Rattle.plan_requests.specs.Planning.{IsRefused, HasPlan, PlanValues}
 use Rattle.server.specs.Clients.{ClientOf}
-use Rattle.server.specs.Overruns.{AreGiven}
+use Rattle.server.specs.Overruns.{AreGiven, loads_given}
 use Rattle.server.specs.Plans.{requests_within}
 
 -- says what stands in the place of a value: its refusal, or what was given to its plan
@@ -63,7 +63,7 @@ array_text texts = codes "[" ++ join_by (λ text. text) (codes ",") texts ++ cod
 module _ {S : Type 0} (may : S → List KeyOf → AnswerOf → Type 0) where
   -- The array of these values is answered: each value in its place. Its plans are of valid documents, and were all answered in the session
   -- that was given, with the headline of several requests and within the client's limits; or together they are over one, and each is refused.
-  -- It took as many rounds as the answer with the most.
+  -- It took as many rounds as the answer with the most, and read the loads of all of them.
   pub record AnswersArray (c : ClientOf S) (values : List (Option RequestOf)) (report : ReportOf)
       (new : SessionOf S) : Type 0 where
     pub places : List PlaceOf
@@ -73,6 +73,7 @@ module _ {S : Type 0} (may : S → List KeyOf → AnswerOf → Type 0) where
     pub valid : All IsPlan (plans_in places)
     pub given : AreGiven may c.limits (state_of c.session) (state_of new)
         (requests_within c.most (plans_in places)) (reports_in places)
+    pub loads : report.loads ≡ loads_given may c.limits (state_of c.session) (state_of new) given
 
   -- Memory ran out: the session is as it was, or the finished rounds of the plans stay, and perhaps one more was lost.
   pub data StopsArray (c : ClientOf S) (values : List (Option RequestOf))

@@ -33,7 +33,7 @@ MakesResponse many refusals answers answer =
 
 -- the refusals of a response
 abbrev pub refusals_in : ResponseForm → List (Option (List ℕ))
-refusals_in form = map (option_map string_bytes) form.refusals.items
+refusals_in form = map (option_map string_bytes) form.refusals
 
 -- what is planned, by its parts
 abbrev pub planned_of : ResponseForm → ℕ → List LimitedPlanOf → PlannedOf

@@ -9,6 +9,5 @@ pub mod Lines
 pub mod LoadsByHand
 pub mod Asked
 pub mod Opening
-pub mod Counts
 pub mod Planned
 pub mod Hands

@@ -11,6 +11,19 @@ use Rattle.server.specs.Clients.{ClientOf, IsSameClient, begun}
 use Rattle.server.specs.Answers.{unasked, AnswersRequest, StopsRequest}
 use Rattle.server.specs.Arrays.{AnswersArray, StopsArray}
 
+-- From a state of a client a line is given a text, for which rounds were made and loads read, and leaves a state; or memory runs out at it.
+pub record ReportingOf (S : Type 0) : Type 1 where
+  pub gives : ClientOf S → List ℕ → ReportOf → ClientOf S → Type 0
+  pub stops : ClientOf S → List ℕ → ClientOf S → Type 0
+
+-- the same, with the text alone
+abbrev pub with_text : {S : Type 0} → ReportingOf S → AnsweringOf (ClientOf S)
+with_text R = record {
+  gives = λ c line text later. (report : ReportOf) × (report.text ≡ text)
+      × R.gives c line report later;
+  stops = at_memory R.stops;
+}
+
 module _ {S : Type 0} (may : S → List KeyOf → AnswerOf → Type 0) where
   -- a text is answered in the client's session: it is no request, or one, or several
   pub data AnswersText (c : ClientOf S) (text : List ℕ) (report : ReportOf)
@@ -31,10 +44,10 @@ module _ {S : Type 0} (may : S → List KeyOf → AnswerOf → Type 0) where
 
   -- A line is served: the client's session starts again, so that the line sees nothing of what an earlier one loaded, and then the line is
   -- answered in it. So the loaders were asked exactly the batches of that answer's log, and nothing else.
-  pub record ServesLine (c : ClientOf S) (line text : List ℕ) (later : ClientOf S) : Type 0 where
+  pub record ServesLine (c : ClientOf S) (line : List ℕ) (report : ReportOf)
+      (later : ClientOf S) : Type 0 where
     pub same : IsSameClient c later
-    pub rounds : ℕ
-    pub answers : AnswersText (begun c) line (record { text = text; rounds = rounds }) later.session
+    pub answers : AnswersText (begun c) line report later.session
 
   -- Memory ran out at the line: the session is as it was, or it started again, and then stopped.
   pub record StopsLine (c : ClientOf S) (line : List ℕ) (later : ClientOf S) : Type 0 where
@@ -42,5 +55,9 @@ module _ {S : Type 0} (may : S → List KeyOf → AnswerOf → Type 0) where
     pub stops : (later.session ≡ c.session) ⊎ StopsText (begun c) line later.session
 
   -- gives how lines are served, from one state of the client to the next
+  abbrev pub reporting : ReportingOf S
+  reporting = record { gives = ServesLine; stops = StopsLine }
+
+  -- with their texts alone
   abbrev pub serving : AnsweringOf (ClientOf S)
-  serving = record { gives = ServesLine; stops = at_memory StopsLine }
+  serving = with_text reporting

@@ -4,7 +4,9 @@ use Rattle.std.specs.Global.{Vec}
 use Rattle.load_memory.specs.Keys.{KeyOf}
 use Rattle.load_queue.specs.Answers.{AnswerOf}
 use Rattle.load_rounds.specs.Limits.{AreRefused, AreWithin}
-use Rattle.load_rounds.specs.Sessions.{StateOf}
+use Rattle.execution.specs.Loads.{read}
+use Rattle.execution.specs.Reads.{all_read, counted}
+use Rattle.load_rounds.specs.Sessions.{StateOf, session_modes}
 use Rattle.load_rounds.specs.SharedRounds.{ReportOf, RequestOf, SharedHeadline, report_of}
 use Rattle.load_rounds.specs.declared.answer.Answer.{Answer}
 use Rattle.load_rounds.specs.declared.limits.Excess.{Excess}
@@ -18,9 +20,9 @@ abbrev pub overrun_text : Excess → List ℕ
 overrun_text Work = refusal_text (codes "too much work") None
 overrun_text Rounds = refusal_text (codes "too many rounds") None
 
--- with the rounds that had been made
+-- with the rounds that had been made; nothing was read for it
 abbrev pub overrun_report : Overrun → ReportOf
-overrun_report o = record { text = overrun_text o.excess; rounds = o.rounds }
+overrun_report o = record { text = overrun_text o.excess; rounds = o.rounds; loads = 0 }
 
 -- one for each request that has no refusal of its own
 abbrev pub overruns : Overrun → List (Option (List ℕ)) → List ReportOf
@@ -42,3 +44,9 @@ module _ {S : Type 0} (may : S → List KeyOf → AnswerOf → Type 0) (limits :
         → AreWithin limits rs new (length headline.log) → AreGiven rs reports
     overrun : {o : Overrun} → AreRefused may old new limits rs o
         → reports ≡ map (λ r. overrun_report o) rs → AreGiven rs reports
+
+  -- gives how many loads they read together: those of all requests that were answered, each as often as it is read; refusals read none
+  abbrev pub loads_given : {rs : List RequestOf} {reports : List ReportOf} → AreGiven rs reports → ℕ
+  loads_given {rs} (answered headline within) = counted (all_read
+      (map (λ (r : RequestOf). r.program) rs) (read (session_modes old) new.memory))
+  loads_given (overrun gone same) = 0

@@ -1,7 +1,8 @@
 -- Plans of what is asked, and what answers them.
-use Rattle.std.specs.Prelude.{◌≡◌, ℕ, Bool, true, false, List, [], ◌∷◌, ◌++◌, map, length, Option, Some, None}
+use Rattle.std.specs.Prelude.{◌≡◌, ◌+◌, ℕ, Bool, true, false, List, [], ◌∷◌, ◌++◌, map, length, Option, Some, None}
 use Rattle.load_memory.specs.Keys.{KeyOf}
 use Rattle.load_queue.specs.Answers.{AnswerOf}
+use Rattle.execution.specs.Reads.{counted}
 use Rattle.gq_check.specs.Plans.{PlanOf}
 use Rattle.load_rounds.specs.Sessions.{SessionOf}
 use Rattle.load_rounds.specs.SharedRounds.{ReportOf, greatest}
@@ -102,11 +103,16 @@ IsOneResponse refusals (t ∷ []) report = report ≡ t
 IsOneResponse (Some refusal ∷ []) [] report = report ≡ unasked refusal
 IsOneResponse refusals reports report = Unit {0}
 
+-- the loads of all answers, added up
+abbrev pub all_loads : List ReportOf → ℕ
+all_loads [] = 0
+all_loads (t ∷ ts) = t.loads + all_loads ts
+
 -- the response that is made of the answers to the plans
 abbrev pub IsResponseOf : Bool → List (Option (List ℕ)) → List ReportOf → ReportOf → Type 0
 IsResponseOf true refusals reports report =
     (report.text ≡ array_text (in_places refusals (map (λ (t : ReportOf). t.text) reports)))
-    × (report.rounds ≡ greatest reports)
+    × (report.rounds ≡ greatest reports) × (report.loads ≡ counted (all_loads reports))
 IsResponseOf false refusals reports report = IsOneResponse refusals reports report
 
 abbrev pub IsResponse : PlannedOf → List ReportOf → ReportOf → Type 0
@@ -124,13 +130,3 @@ module _ {S : Type 0} (may : S → List KeyOf → AnswerOf → Type 0) where
   StopsAsked c (one r) new = StopsRequest may c r new
   StopsAsked c (several values) new = StopsArray may c values new
   StopsAsked c (text asked) new = StopsText may c asked new
-
-  -- a client answers what was planned, whatever it was asked
-  abbrev pub AnswersPlanned : ClientOf S → PlannedOf → ReportOf → SessionOf S → Type 0
-  AnswersPlanned c planned report new =
-      (asked : AskedOf) → PlansAsked c asked planned → AnswersAsked c asked report new
-
-  -- memory ran out at it
-  abbrev pub StopsPlanned : ClientOf S → PlannedOf → SessionOf S → Type 0
-  StopsPlanned c planned new =
-      (asked : AskedOf) → PlansAsked c asked planned → StopsAsked c asked new

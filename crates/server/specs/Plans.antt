@@ -12,10 +12,6 @@ use Rattle.gq_resolve.specs.Within.{text_within}
 use Rattle.gq_resolve.specs.declared.root_state.RootState.{RootState}
 use Rattle.gq_resolve.specs.PreparedPlans.{LimitedPlanOf as LimitedPlan}
 
--- the plan alone
-abbrev pub limited_plan : LimitedPlan → PlanOf
-limited_plan l = plan_of l.plan
-
 abbrev pub limited_program : LimitedPlan → Program
 limited_program l = plan_program (plan_of l.plan)
 

@@ -1,8 +1,10 @@
 //! Responses to arrays of requests.
 
-ghost use Rattle.std.specs.Prelude.{◌≡◌, map, IfOk, string_bytes};
+ghost use Rattle.std.specs.Prelude.{◌≡◌, true, map, option_map, IfOk, string_bytes};
+ghost use Rattle.execution.specs.Reads.{counted};
 ghost use Rattle.load_rounds.specs.SharedRounds.{greatest, report_of};
-ghost use Rattle.server.specs.Arrays.{array_text, texts_of};
+ghost use Rattle.server.specs.Arrays.{texts_of};
+ghost use Rattle.server.specs.Planned.{IsResponseOf, all_loads};
 
 use load_rounds::Answer;
 use std::alloc::{AllocError, Global};
@@ -35,16 +37,15 @@ pub(crate) fn array_answer(
     refusals: &[Option<String>],
     answers: &[Answer],
 ) -> Result<Answer, AllocError>
-    ensures text { IfOk result (λ answer.
-        string_bytes answer.text ≡ array_text (texts_of refusals.now answers.now)) }
-    ensures rounds { IfOk result (λ answer. answer.rounds
-        ≡ greatest (map report_of answers.now)) }
+    ensures { IfOk result (λ answer. IsResponseOf true
+        (map (option_map string_bytes) refusals.now) (map report_of answers.now) (report_of answer)) }
 {
     let texts = texts(alloc, refusals, answers)?;
     let inside = texts.join(alloc, ",")?;
     Ok(Answer {
         text: format!(in alloc; "[{inside}]")?,
         rounds: most_rounds(answers),
+        loads: all_loads(answers),
     })
 }
 
@@ -58,4 +59,16 @@ fn most_rounds(answers: &[Answer]) -> u32
         most = answer.rounds.max(most);
     }
     most
+}
+
+// The loads of all answers, which stay at `u64::MAX`.
+fn all_loads(answers: &[Answer]) -> u64
+    ensures { result ≡ counted
+        (all_loads (map report_of answers.now)) }
+{
+    let mut loads: u64 = 0;
+    for answer in answers {
+        loads = loads.saturating_add(answer.loads);
+    }
+    loads
 }

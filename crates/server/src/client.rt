@@ -8,9 +8,8 @@ ghost use Rattle.server.specs.Answers.{AnswersRequest, StopsRequest};
 ghost use Rattle.server.specs.Arrays.{AnswersArray, StopsArray};
 ghost use Rattle.server.specs.Asked.{asked_of};
 ghost use Rattle.server.specs.Clients.{HasLoaders, IsSameClient, begun, client_of};
-ghost use Rattle.server.specs.Counts.{CountsText};
-ghost use Rattle.server.specs.Lines.{AnswersText, StopsText};
-ghost use Rattle.server.specs.Planned.{AnswersAsked, AnswersPlanned, PlansAsked, StopsAsked, StopsPlanned};
+ghost use Rattle.server.specs.Lines.{AnswersText, ServesLine, StopsLine, StopsText};
+ghost use Rattle.server.specs.Planned.{AnswersAsked, PlansAsked, StopsAsked};
 
 use crate::planned::PlannedRequest;
 use crate::queries::Queries;
@@ -149,25 +148,6 @@ impl<S> ClientSession<S> {
         &self.session
     }
 
-    /// Returns how many loads the answer to a text reads, over what the session knows: each as
-    /// often as it is read, and for an array those of all its requests. A plain executor, which
-    /// asks for one key at a time and remembers nothing, makes as many calls. Called after
-    /// [`answer_text`](ClientSession::answer_text) with the same text, it says what that answer
-    /// would have taken so. What is no request or is refused reads none; `u64::MAX` stands for that
-    /// number and all above it.
-    ///
-    /// It asks for nothing, and goes over the whole answer again.
-    ///
-    /// # Errors
-    ///
-    /// Only when out of memory.
-    pub fn loads_read(&mut self, text: &[u8]) -> Result<u64, AllocError>
-        ensures counts { IfOk result (CountsText self.old.server self.old.session text.now) }
-        ensures same { self.new ≡ self.old }
-    {
-        self.queries.loads_read(self.alloc, &self.session, text)
-    }
-
     /// Starts again: nothing is known of any key, the logs are empty, and no round was made. What is kept of requests stays. When out of
     /// memory, nothing is changed.
     pub fn restart(&mut self) -> Result<(), AllocError>
@@ -266,8 +246,8 @@ impl<S> ClientSession<S> {
 }
 
 impl<S: LocalSource> ClientSession<S> {
-    /// The response to what is asked, by this thread.
-    pub(crate) fn respond(&mut self, asked: RequestInput<'_>) -> Result<Answer, AllocError>
+    // The response to what is asked, by this thread.
+    fn respond(&mut self, asked: RequestInput<'_>) -> Result<Answer, AllocError>
         ensures answered { IfOk result (λ answer. AnswersAsked S.may_tell
             self.old (asked_of asked.entry) (report_of answer) self.new.session) }
         ensures stopped { OnErr result
@@ -283,33 +263,6 @@ impl<S: LocalSource> ClientSession<S> {
         form.respond(self.alloc, given)
     }
 
-    /// The response to what was planned, as [`answer`](ClientSession::answer), [`answer_all`](ClientSession::answer_all) or
-    /// [`answer_text`](ClientSession::answer_text) gives it. What is planned once may be answered again, over what the session knows then.
-    ///
-    /// # Errors
-    ///
-    /// Those of [`answer`](ClientSession::answer).
-    ///
-    /// # Headline
-    ///
-    /// `answered`, by `AnswersPlanned`: whatever was asked, it is answered as `AnswersAsked` says; out of memory, `stopped`
-    pub fn answer_planned(&mut self, planned: &PlannedRequest) -> Result<Answer, AllocError>
-        requires { planned.now.loaders ≤ length self.old.session.loaders }
-        ensures answered { IfOk result (λ answer. AnswersPlanned S.may_tell
-            self.old planned.now (report_of answer) self.new.session) }
-        ensures stopped { OnErr result
-            (StopsPlanned S.may_tell self.old planned.now self.new.session) }
-        ensures same { IsSameClient self.old self.new }
-        ensures loaders { length self.new.session.loaders ≡ length self.old.session.loaders }
-    {
-        if planned.is_refused() {
-            return planned.form.response(self.alloc, Vec::new(self.alloc));
-        }
-        let copies = planned.copied_plans(self.alloc)?;
-        let given = self.session.answer_all_within(copies, self.limits)?;
-        planned.form.respond(self.alloc, given)
-    }
-
     /// The response to a request: the refusal of its first fault, with its message and its place, for which nothing was asked; or the
     /// answer of its plan, which has data or errors or both (section 7.1 of the GraphQL specification of October 2021); or the refusal of a
     /// plan that is over a limit ([`limit_work`](ClientSession::limit_work), [`limit_rounds`](ClientSession::limit_rounds)).
@@ -323,10 +276,10 @@ impl<S: LocalSource> ClientSession<S> {
     /// # Headline
     ///
     /// `answered`, by `AnswersRequest`: the request is refused for its first fault and the session is as it was; or
-    /// its plan was answered in that session, from `self.old` to `self.new`, with `Headline` (`AnswersPlan` of
-    /// `server/specs/Answers.antt`). Where the client has a limit, the text is the *Limited text*. Where it limits
-    /// work or rounds, the answer is within these, or it is over one of them and refused, with the rounds that
-    /// were made on record (`AreRefused`). Out of memory, `stopped`, by `StopsRequest`
+    /// its plan was answered in that session, from `self.old` to `self.new`, with `Headline`, and the loads that it
+    /// read are counted (`AnswersPlan` of `server/specs/Answers.antt`). Where the client has a limit, the text is the
+    /// *Limited text*. Where it limits work or rounds, the answer is within these, or it is over one of them and
+    /// refused, with the rounds that were made on record (`AreRefused`). Out of memory, `stopped`, by `StopsRequest`
     pub fn answer(&mut self, request: &Request<'_>) -> Result<Answer, AllocError>
         ensures answered { IfOk result (λ answer. AnswersRequest S.may_tell
             self.old (request_of request.now) (report_of answer) self.new.session) }
@@ -348,7 +301,7 @@ impl<S: LocalSource> ClientSession<S> {
     ///
     /// `answered`, by `AnswersArray`: each value has its refusal or its answer in its place, and all plans were
     /// answered in that session with `SharedHeadline`, or refused where together they are over a limit
-    /// (`AreGiven`); out of memory, `stopped`
+    /// (`AreGiven`); the loads of all are counted; out of memory, `stopped`
     pub fn answer_all(&mut self, requests: &[Option<Request<'_>>]) -> Result<Answer, AllocError>
         ensures answered { IfOk result (λ answer. AnswersArray S.may_tell self.old
             (requests_of requests.now) (report_of answer) self.new.session) }
@@ -377,6 +330,28 @@ impl<S: LocalSource> ClientSession<S> {
         ensures same { IsSameClient self.old self.new }
     {
         self.respond(RequestInput::Text(text))
+    }
+
+    /// Starts again ([`restart`](ClientSession::restart)), and answers a line as [`answer_text`](ClientSession::answer_text) answers a
+    /// text: the line sees nothing of what another loaded.
+    ///
+    /// # Errors
+    ///
+    /// Only when out of memory: the session is as it was, or has started again and is then as after
+    /// [`answer_text`](ClientSession::answer_text) (`stopped`, by `StopsLine`).
+    ///
+    /// # Headline
+    ///
+    /// `served`, by `ServesLine`: the session starts again, and then the line is answered in it (`AnswersText`); out of
+    /// memory, `stopped`
+    pub fn answer_line(&mut self, line: &[u8]) -> Result<Answer, AllocError>
+        ensures served { IfOk result (λ answer.
+            ServesLine S.may_tell self.old line.now (report_of answer) self.new) }
+        ensures stopped { OnErr result
+            (StopsLine S.may_tell self.old line.now self.new) }
+    {
+        self.restart()?;
+        self.answer_text(line)
     }
 }
 
@@ -413,34 +388,26 @@ impl<S: Source> ClientSession<S> {
         form.respond(self.alloc, given)
     }
 
-    /// The response to what was planned, as [`answer_planned`](ClientSession::answer_planned) gives it; workers run the batches of each
-    /// round.
+    /// Starts again, and answers a line as [`answer_line`](ClientSession::answer_line) does; workers run the batches of each round.
     ///
     /// # Errors
     ///
-    /// Those of [`answer`](ClientSession::answer).
+    /// Those of [`answer_line`](ClientSession::answer_line).
     ///
     /// # Headline
     ///
-    /// As `ClientSession::answer_planned` says
-    pub fn answer_planned_with<R: Threads + Wait + Sync>(
+    /// As `ClientSession::answer_line` says
+    pub fn answer_line_with<R: Threads + Wait + Sync>(
         &mut self,
         workers: &Workers<'_, R>,
-        planned: &PlannedRequest,
+        line: &[u8],
     ) -> Result<Answer, AllocError>
-        requires { planned.now.loaders ≤ length self.old.session.loaders }
-        ensures answered { IfOk result (λ answer. AnswersPlanned S.may_answer
-            self.old planned.now (report_of answer) self.new.session) }
+        ensures served { IfOk result (λ answer.
+            ServesLine S.may_answer self.old line.now (report_of answer) self.new) }
         ensures stopped { OnErr result
-            (StopsPlanned S.may_answer self.old planned.now self.new.session) }
-        ensures same { IsSameClient self.old self.new }
-        ensures loaders { length self.new.session.loaders ≡ length self.old.session.loaders }
+            (StopsLine S.may_answer self.old line.now self.new) }
     {
-        if planned.is_refused() {
-            return planned.form.response(self.alloc, Vec::new(self.alloc));
-        }
-        let copies = planned.copied_plans(self.alloc)?;
-        let given = workers.answer_all(&mut self.session, copies, self.limits)?;
-        planned.form.respond(self.alloc, given)
+        self.restart()?;
+        self.answer_with(workers, RequestInput::Text(line))
     }
 }

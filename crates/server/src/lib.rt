@@ -16,7 +16,6 @@
 mod arrays;
 mod by_hand;
 mod client;
-mod counting;
 mod function_source;
 mod future;
 mod keys;

@@ -8,7 +8,7 @@ use answer_json::write_refusal;
 use load_rounds::{Answer, Excess, Overrun};
 use std::alloc::{AllocError, Global};
 
-// The refusal of what is over a limit.
+// The refusal of what is over a limit, for which nothing is read.
 fn refusal(alloc: Global, overrun: Overrun) -> Result<Answer, AllocError>
     ensures { IfOk result (λ answer.
         report_of answer ≡ overrun_report overrun) }
@@ -20,6 +20,7 @@ fn refusal(alloc: Global, overrun: Overrun) -> Result<Answer, AllocError>
     Ok(Answer {
         text,
         rounds: overrun.rounds,
+        loads: 0,
     })
 }
 

@@ -1,23 +1,20 @@
 //! What was asked of a client, planned: refusals and plans.
 
-ghost use Rattle.std.specs.Prelude.{◌≡◌, ◌≤◌, [], ◌∷◌, true, false, Some, None, IfOk, OnOk, length, map, option_map, string_bytes};
-ghost use Rattle.gq_resolve.specs.Counting.{counted};
+ghost use Rattle.std.specs.Prelude.{◌≡◌, [], ◌∷◌, true, false, Some, None, IfOk, OnOk, map, option_map, string_bytes};
 ghost use Rattle.load_rounds.specs.SharedRounds.{report_of};
 ghost use Rattle.request_line.specs.Seen.{request_of, requests_of};
-ghost use Rattle.server.specs.Counts.{plans_read};
 ghost use Rattle.server.specs.Hands.{refusals_in};
 ghost use Rattle.server.specs.Kept.{NeedsLoaders};
 ghost use Rattle.server.specs.Overruns.{overruns, reports_given};
 ghost use Rattle.server.specs.Planned.{AddsRequest, PlansAll, is_refused, nothing_planned};
-ghost use Rattle.server.specs.Plans.{limited_plan};
 
 use crate::arrays::array_answer;
-use crate::counting::plans_read;
 use crate::overruns::overrun_answers;
 use crate::request_cache::RequestCache;
 use gq_resolve::{LimitedPlan, PreparedPlan};
-use load_rounds::{Answer, Overrun, Session};
+use load_rounds::{Answer, Overrun};
 use plan_requests::{Request, not_a_request};
+use short_list::ShortList;
 use std::alloc::{AllocError, Global};
 use std::marker::Model;
 use std::sync::Arc;
@@ -26,7 +23,7 @@ use std::sync::Arc;
 pub(crate) struct ResponseForm {
     is_array: bool,
     // The refusal of each request, in order. One without has a plan.
-    refusals: Vec<Option<String>>,
+    refusals: ShortList<Option<String>>,
 }
 
 impl Drop for ResponseForm {
@@ -44,10 +41,10 @@ impl ResponseForm {
     /// The response that is made of the answers to the plans.
     pub(crate) fn response(&self, alloc: Global, answers: Vec<Answer>) -> Result<Answer, AllocError>
         ensures { IfOk result (λ answer. IsResponseOf self.now.is_array
-            (map (option_map string_bytes) self.now.refusals.items) (map report_of answers.items) (report_of answer)) }
+            (refusals_in self.now) (map report_of answers.items) (report_of answer)) }
     {
         if self.is_array {
-            return array_answer(alloc, &self.refusals, &answers);
+            return array_answer(alloc, self.refusals.as_slice(), &answers);
         }
         let mut answers = answers;
         match answers.pop() {
@@ -61,7 +58,7 @@ impl ResponseForm {
         ensures { IfOk result (λ answer. IsResponseOf self.now.is_array (refusals_in self.now)
             (overruns overrun (refusals_in self.now)) (report_of answer)) }
     {
-        let answers = overrun_answers(alloc, &self.refusals, overrun)?;
+        let answers = overrun_answers(alloc, self.refusals.as_slice(), overrun)?;
         self.response(alloc, answers)
     }
 
@@ -83,13 +80,17 @@ impl ResponseForm {
     // The refusal of one request.
     fn refusal(&self, alloc: Global) -> Result<Answer, AllocError>
         ensures { IfOk result (λ answer. IsOneResponse
-            (map (option_map string_bytes) self.now.refusals.items) [] (report_of answer)) }
+            (refusals_in self.now) [] (report_of answer)) }
     {
-        let text = match self.refusals.first() {
+        let text = match self.refusals.as_slice().first() {
             Some(Some(text)) => text.clone()?,
             _ => String::new(alloc),
         };
-        Ok(Answer { text, rounds: 0 })
+        Ok(Answer {
+            text,
+            rounds: 0,
+            loads: 0,
+        })
     }
 }
 
@@ -123,7 +124,7 @@ impl Model for PlannedRequest {
 
     ghost view = { λ p. record {
       many = p.form.is_array;
-      refusals = map (option_map string_bytes) p.form.refusals.items;
+      refusals = map (option_map string_bytes) p.form.refusals;
       plans = p.plans.items;
       loaders = p.loaders;
     } };
@@ -136,9 +137,11 @@ impl PlannedRequest {
     fn new(alloc: Global, is_array: bool, loaders: usize) -> PlannedRequest
         ensures { result ≡ nothing_planned is_array loaders }
     {
-        let refusals = Vec::new(alloc);
         PlannedRequest {
-            form: ResponseForm { is_array, refusals },
+            form: ResponseForm {
+                is_array,
+                refusals: ShortList::new(),
+            },
             plans: Vec::new(alloc),
             loaders,
         }
@@ -147,6 +150,7 @@ impl PlannedRequest {
     // Adds what one request more asks, within a limit.
     fn push(
         &mut self,
+        alloc: Global,
         prepared: Result<Arc<PreparedPlan>, String>,
         most: Option<usize>,
     ) -> Result<(), AllocError>
@@ -155,9 +159,9 @@ impl PlannedRequest {
             (AddsRequest most prepared self.old self.new) }
     {
         match prepared {
-            Err(text) => self.form.refusals.push(Some(text))?,
+            Err(text) => self.form.refusals.push(alloc, Some(text))?,
             Ok(plan) => {
-                self.form.refusals.push(None)?;
+                self.form.refusals.push(alloc, None)?;
                 self.plans.push(LimitedPlan::new(plan, most))?;
             }
         }
@@ -176,7 +180,7 @@ impl PlannedRequest {
             (nothing_planned false loaders)) }
     {
         let mut planned = PlannedRequest::new(alloc, false, loaders);
-        planned.push(prepared, most)?;
+        planned.push(alloc, prepared, most)?;
         Ok(planned)
     }
 
@@ -187,45 +191,12 @@ impl PlannedRequest {
         self.loaders
     }
 
-    /// Returns how many loads its plans read over what a session knows, one plan after another: as many as execution of one key at a time
-    /// makes calls ([`ClientSession::loads_read`](crate::ClientSession::loads_read)). It asks for nothing, and goes over the whole answer.
-    ///
-    /// # Errors
-    ///
-    /// Only when out of memory.
-    pub fn loads_read<S>(&self, alloc: Global, session: &Session<S>) -> Result<u64, AllocError>
-        requires { self.now.loaders ≤ length session.now.loaders }
-        ensures { IfOk result (λ count.
-            count ≡ counted (plans_read session.now (map limited_plan self.now.plans))) }
-    {
-        plans_read(alloc, session, &self.plans)
-    }
-
-    /// Copies of the plans, which share what was prepared.
-    pub(crate) fn copied_plans(&self, alloc: Global) -> Result<Vec<LimitedPlan>, AllocError>
-        ensures { IfOk result (λ copies. copies.items ≡ self.now.plans) }
-    {
-        copies_of(alloc, &self.plans)
-    }
-
     /// Tells whether it is one request, which is refused: nothing is asked then.
     pub fn is_refused(&self) -> bool
         ensures { result ≡ is_refused self.now }
     {
         !self.form.is_array && self.plans.is_empty()
     }
-}
-
-// Copies of plans, which share what was prepared.
-fn copies_of(alloc: Global, plans: &[LimitedPlan]) -> Result<Vec<LimitedPlan>, AllocError>
-    ensures { IfOk result (λ copies. copies.items ≡ plans.now) }
-{
-    let mut copies = Vec::with_capacity(alloc, plans.len())?;
-    for plan in plans {
-        let copy = plan.clone()?;
-        copies.push(copy)?;
-    }
-    Ok(copies)
 }
 
 /// Returns what one request asks, within a limit.
@@ -257,7 +228,7 @@ pub(crate) fn plan_several(
     let mut planned = PlannedRequest::new(alloc, true, kept.server().loaders());
     for value in values {
         let prepared = kept.prepare_value(alloc, value)?;
-        planned.push(prepared, most)?;
+        planned.push(alloc, prepared, most)?;
     }
     Ok(planned)
 }

@@ -2,13 +2,10 @@
 
 ghost use Rattle.std.specs.Prelude.{◌≡◌, IfOk, length};
 ghost use Rattle.request_line.specs.Seen.{request_of, requests_of};
-ghost use Rattle.server.specs.Clients.{HasLoaders};
-ghost use Rattle.server.specs.Counts.{CountsText};
 ghost use Rattle.server.specs.Planned.{PlansFor, one, several, text as asked_text};
 
 use crate::planned::{PlannedRequest, plan_none, plan_one, plan_several};
 use crate::request_cache::RequestCache;
-use load_rounds::Session;
 use plan_requests::{Request, Server};
 use request_line::{Line, LineReader};
 use std::alloc::{AllocError, Global};
@@ -201,20 +198,5 @@ impl Queries {
         let planned = kept.plan_text(alloc, text, most);
         self.put(kept);
         planned
-    }
-
-    /// Returns how many loads the answer to a text reads over what a session knows ([`loads_read`](crate::ClientSession::loads_read)).
-    pub(crate) fn loads_read<S>(
-        &mut self,
-        alloc: Global,
-        session: &Session<S>,
-        text: &[u8],
-    ) -> Result<u64, AllocError>
-        requires { HasLoaders self.old session.now }
-        ensures counts { IfOk result (CountsText self.old session.now text.now) }
-        ensures same { self.new ≡ self.old }
-    {
-        let planned = self.plan_text(alloc, text, None)?;
-        planned.loads_read(alloc, session)
     }
 }

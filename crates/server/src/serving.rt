@@ -4,9 +4,9 @@ ghost use Rattle.std.specs.Prelude.{IfOk, IfErr, string_bytes};
 ghost use denote.Param.Send.{IsSync};
 ghost use Rattle.server_lines.specs.Devices.{devices};
 ghost use Rattle.server_lines.specs.Serving.{Serves};
-ghost use Rattle.server.specs.Lines.{ServesLine, serving};
+ghost use Rattle.server.specs.Lines.{serving};
 
-use crate::client::{ClientSession, RequestInput};
+use crate::client::ClientSession;
 use crate::workers::Workers;
 use load_queue::{LocalSource, Source};
 use server_lines::{CountedDevice, LineFault, ServeFault, serve as serve_lines};
@@ -44,13 +44,10 @@ pub fn serve<S: LocalSource, I: Read, W: Write>(
 {
     let mut answer = |line: &[u8]| -> Result<String, LineFault>
         ensures served { IfOk result (λ text.
-            ServesLine S.may_tell client.entry.now line.now (string_bytes text) client.exit.now) }
+            (serving S.may_tell).gives client.entry.now line.now (string_bytes text) client.exit.now) }
         ensures stopped { IfErr result (λ fault.
             (serving S.may_tell).stops fault client.entry.now line.now client.exit.now) }
-    {
-        client.restart()?;
-        Ok(client.respond(RequestInput::Text(line))?.text)
-    };
+    { Ok(client.answer_line(line)?.text) };
     match serve_lines(alloc, reader, writer, &mut answer) {
         Ok(count) => Ok(count),
         Err(fault) => Err(fault),
@@ -79,13 +76,10 @@ pub fn serve_with<S: Source, R: Threads + Wait + Sync, I: Read, W: Write>(
     let mut answer = |line: &[u8]| -> Result<String, LineFault>
         requires { IsSync R.row × IsSync S.row }
         ensures served { IfOk result (λ text.
-            ServesLine S.may_answer client.entry.now line.now (string_bytes text) client.exit.now) }
+            (serving S.may_answer).gives client.entry.now line.now (string_bytes text) client.exit.now) }
         ensures stopped { IfErr result (λ fault.
             (serving S.may_answer).stops fault client.entry.now line.now client.exit.now) }
-    {
-        client.restart()?;
-        Ok(client.answer_with(workers, RequestInput::Text(line))?.text)
-    };
+    { Ok(client.answer_line_with(workers, line)?.text) };
     match serve_lines(alloc, reader, writer, &mut answer) {
         Ok(count) => Ok(count),
         Err(fault) => Err(fault),

@@ -1,2 +1,2 @@
 pub mod Captured
-pub mod Failing
+pub mod Tracing

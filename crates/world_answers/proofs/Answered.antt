@@ -1,10 +1,11 @@
 -- Plans are answered in a session of their world that is new: rounds can be made until nothing is missing, or until the work is over the
 -- limit.
-use Rattle.std.proofs.Common.{◌≡◌, ◌≢◌, ◌⊎◌, ◌≤◌, ◌<◌, ◌+◌, ℕ, zero, suc, List, [], ◌∷◌, All, map, length, inl, inr, sym, ◌∙◌, ap, subst, refl, Option, Some, None, arith}
+use Rattle.std.proofs.Common.{◌≡◌, ◌≢◌, ◌⊎◌, ◌≤◌, ◌<◌, ◌+◌, ℕ, zero, suc, List, [], ◌∷◌, All, map, length, inl, inr, sym, ap, subst, refl, Option, Some, None, arith}
 use Rattle.std.specs.Prelude.{slice_get}
 use Rattle.std.proofs.lemmas.Bool.{cases_lt}
 use Rattle.std.proofs.lemmas.List.{length-map}
 use Rattle.std.proofs.lemmas.List.Elements.{All-head, All-tail}
+use Rattle.std.proofs.lemmas.Option.{none-some, same_Some}
 use Rattle.load_memory.specs.Keys.{KeyOf}
 use Rattle.load_memory.specs.Outcomes.{ItemOf, OutcomeOf}
 use Rattle.load_memory.specs.Replies.{ReplyOf}
@@ -42,22 +43,12 @@ use Rattle.world_answers.proofs.Direct.{over-alike, over-held}
 use Rattle.world_answers.proofs.Known.{respects-over, rounds-by-key}
 use Rattle.world_answers.proofs.Loading.{length-over}
 use Rattle.world_answers.proofs.Restarting.{over-new}
-use Rattle.world_answers.proofs.Logs.{chain-more}
+use Rattle.world_answers.proofs.Logs.{chain-more, none-or}
 
 there : {A : Type 0} (xs : List A) (a : ℕ) → a < length xs → (x : A) × (slice_get xs a ≡ Some x)
 there [] a h = absurd (omega (arith, h))
 there (x ∷ xs) zero h = (x, refl)
 there (x ∷ xs) (suc a) h = there xs a (omega (arith, h))
-
-none-or : {A : Type 0} (xs : List A) → (xs ≡ []) ⊎ (xs ≢ [])
-none-or [] = inl refl
-none-or (x ∷ xs) = inr (λ e. cc e)
-
-some-same : {A : Type 0} (x y : A) → Some x ≡ Some y → x ≡ y
-some-same x y e = cc e
-
-none-some : {A : Type 0} (y : A) → None ≡ Some y → ⊥
-none-some y e = cc e
 
 -- an amount is more than a limit, or it isn't
 more-or : (limit : Option ℕ) (amount : ℕ) → IsWithin limit amount ⊎ IsMore limit amount
@@ -71,7 +62,7 @@ more-or (Some most) amount = elim (cases_lt most amount) [
 
 fits-limit : (limit : Option ℕ) → IsLimit limit → (n : ℕ) → limit ≡ Some n → 0 < n
 fits-limit None fits n e = absurd (none-some n e)
-fits-limit (Some m) fits n e = let same : m ≡ n = some-same m n e in let least = fits.0 in omega (arith, same, least)
+fits-limit (Some m) fits n e = let same : m ≡ n = same_Some m n e in let least = fits.0 in omega (arith, same, least)
 
 module _ (limit : Option ℕ) where
   limited-over : ((n : ℕ) → limit ≡ Some n → 0 < n) → (lines : List bindings.LoaderOf) (sources : List SourceOf) → AreLimited (map rule_of (loaders_over limit lines sources))

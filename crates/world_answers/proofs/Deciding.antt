@@ -7,7 +7,7 @@ use Rattle.std.proofs.lemmas.Bool.Decides.{Decides-below_and, nat_tests}
 use Rattle.merging_pairs.specs.Merging.{Fields, IsPair, joined, SameShape, same, CanMerge, merges, Merges}
 use Rattle.merging_pairs.specs.Table.{Tells}
 use Rattle.merging_pairs.proofs.MergeLaws.{can-from}
-use Rattle.plan_laws.proofs.Totals.{total, total-more, total-less, total-most, bit, bit-more, bit-less, bit-most}
+use Rattle.world_answers.proofs.Totals.{total, total-more, total-less, total-most, bit, bit-more, bit-less, bit-most}
 
 abbrev all_below : ℕ → (ℕ → Bool) → Bool
 all_below zero p = true

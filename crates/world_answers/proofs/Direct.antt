@@ -1,7 +1,8 @@
 -- The loaders of a session of a world, and the items of their keys.
-use Rattle.std.proofs.Common.{◌≡◌, ◌∙◌, ℕ, zero, suc, List, [], ◌∷◌, map, length, Option, Some, None, refl, sym, ap, subst}
+use Rattle.std.proofs.Common.{◌≡◌, ◌∙◌, ℕ, zero, suc, List, [], ◌∷◌, map, length, Option, refl, sym, ap, subst}
 use Rattle.std.proofs.Math.Path.{fun_ext}
 use Rattle.std.proofs.lemmas.List.Elements.{All-nil, All-cons, All-head, All-tail}
+use Rattle.std.proofs.lemmas.Option.{none-some}
 use Rattle.load_memory.specs.Keys.{KeyOf}
 use Rattle.load_memory.specs.Outcomes.{ItemOf}
 use Rattle.load_memory.specs.Pairs.{PairOf, look}
@@ -17,9 +18,6 @@ use Rattle.world.specs.Worlds.{WorldOf}
 use Rattle.world_answers.specs.Sessions.{loader_over, loaders_over, IsOver}
 
 -- ---- the loaders of a world
-
-none-some : {X : Type 0} (a : X) → None ≡ Some a → ⊥
-none-some a e = cc e
 
 module _ (limit : Option ℕ) where
   -- each loader compares keys as its source

@@ -5,6 +5,7 @@ use Rattle.std.specs.Prelude.{find, nat_lt, nat_le}
 use Rattle.std.specs.Str.{is_utf8}
 use Rattle.std.proofs.lemmas.Bool.{cases_Bool, true≢false}
 use Rattle.std.proofs.lemmas.Str.{IsUtf8-from_is_utf8, is_utf8-from_IsUtf8}
+use Rattle.std.proofs.lemmas.Option.{none-some, same_Some}
 use Rattle.serde_json.specs.Data.{Data}
 use Rattle.serde_json.specs.Find.{as_array}
 use Rattle.serde_json.specs.Read.{read}
@@ -171,12 +172,6 @@ module _ (s : ServiceOf) (has : HasSources s.world) (r : RequestOf) (called : Ma
 
 -- ---- a line
 
-none-some : {X : Type 0} (x : X) → None ≡ Some x → ⊥
-none-some x e = cc e
-
-some-one : {X : Type 0} (x y : X) → Some x ≡ Some y → x ≡ y
-some-one x y e = cc e
-
 in_range : (low high n : ℕ) → ((low < n) × (n ≤ high)) ⊎ ((low < n) × (n ≤ high) → ⊥)
 in_range low high n = go (nat_lt low n) (nat_le n high) refl refl
   where
@@ -230,7 +225,7 @@ module _ (s : ServiceOf) (has : HasSources s.world) (line : List ℕ) where
           (a.0, several {values = values} are a.1)
       | inr outside ↦ refused (record {
         not_one = none;
-        not_several = λ others are. let same : others ≡ values = some-one others values (sym are.values ∙ e) in outside (rw same at are.some, rw same at are.few);
+        not_several = λ others are. let same : others ≡ values = same_Some others values (sym are.values ∙ e) in outside (rw same at are.some, rw same at are.few);
       })
     ]
 

@@ -1,6 +1,6 @@
 -- Over sources that answer key by key a lawful log is there: while something is missing there is a round to be made, and rounds are
 -- at most as many as direct execution's chain has loads.
-use Rattle.std.proofs.Common.{◌≡◌, ◌≢◌, ◌⊎◌, ◌≤◌, ℕ, zero, suc, false, List, [], ◌∷◌, ◌++◌, map, length, inl, inr, sym, ◌∙◌, ap, refl, Option, Some, None, if◌then◌else◌, arith}
+use Rattle.std.proofs.Common.{◌≡◌, ◌≢◌, ◌⊎◌, ◌≤◌, ℕ, zero, suc, false, List, [], ◌∷◌, map, length, inl, inr, sym, ap, refl, Option, Some, None, arith}
 use Rattle.load_memory.specs.Keys.{KeyOf}
 use Rattle.load_memory.specs.Outcomes.{ItemOf, OutcomeOf, known}
 use Rattle.load_memory.specs.Replies.{ReplyOf}
@@ -15,6 +15,10 @@ use Rattle.execution.specs.Rounds.{RuleOf, modes_of, key_by_key, round_orders, A
 use Rattle.execution.proofs.Monotone.{exec-whole}
 use Rattle.execution.proofs.RoundLaws.{rounds-chain}
 use Rattle.load_rounds.proofs.Holding.{rounds-held}
+
+pub none-or : {A : Type 0} (xs : List A) → (xs ≡ []) ⊎ (xs ≢ [])
+none-or [] = inl refl
+none-or (x ∷ xs) = inr (λ e. cc e)
 
 -- ---- a larger reader reads a chain as long
 
@@ -65,10 +69,6 @@ module _ (item : ℕ → KeyOf → ItemOf) where
       end : Memory
       are : AreRounds (key_by_key item) rules p M rounds end
       enough : (front (modes_of rules) p end ≡ []) ⊎ (length rounds ≡ many)
-
-    none-or : {A : Type 0} (xs : List A) → (xs ≡ []) ⊎ (xs ≢ [])
-    none-or [] = inl refl
-    none-or (x ∷ xs) = inr (λ e. cc e)
 
     made : (many : ℕ) (M : Memory) → Made M many
     made zero M = record { rounds = []; end = M; are = λ loader key. refl; enough = inr refl }

@@ -3,6 +3,7 @@ use Rattle.std.proofs.Common.{◌≡◌, ◌≢◌, ℕ, false, List, [], ◌∷
 use Rattle.std.specs.List.{AllZip}
 use Rattle.std.specs.Option.{option_map, option_and_then}
 use Rattle.std.specs.Prelude.{Result, Ok, Err}
+use Rattle.std.proofs.lemmas.Option.{none-some, same_Some}
 use Rattle.serde_json.specs.Data.{Data, null, boolean, number, string, array, object}
 use Rattle.serde_json.specs.Find.{as_array}
 use Rattle.serde_json.specs.Read.{read}
@@ -36,9 +37,6 @@ use Rattle.world_answers.specs.Arrays.{IsInPlace, AnswersArray}
 use Rattle.world_answers.specs.Lines.{IsAnswer, no_request, request, several}
 use Rattle.world_answers.specs.Services.{ServiceOf, server_in}
 use Rattle.world_answers.proofs.OneFault.{one_fault, document_or_fault, one_document}
-
-same_value : {X : Type 0} (x y : X) → Some x ≡ Some y → x ≡ y
-same_value x y e = cc e
 
 abbrev Wanted : Type 0
 Wanted = Result prepared.PreparedOf prepared.FaultOf
@@ -135,9 +133,6 @@ module _ (verdict : OneVerdict) (w : ServerOf) (r : RequestOf) where
       let v = check-verdict defs e f some report in
       let first : IsVerdict defs d (Some v.0) = subst (λ z. IsVerdict defs z (Some v.0)) (one_document r.query e d k h) v.2 in
       none-some v.0 (verdict defs d None (Some v.0) valid first)
-    where
-      none-some : (x : FaultOf) → None ≡ Some x → ⊥
-      none-some x e = cc e
 
   faults-alike : (f g : RequestFault) → IsFaulty w r f → IsFaulty w r g → Alike f g
   faults-alike (fault.Parse e) (fault.Parse d) h k =
@@ -199,7 +194,7 @@ within-or-more (Some most) amount within more = omega (arith, within, more)
 
 -- a plan has one text among those that it is asked with
 direct-one : (s : ServiceOf) (all : List PlanOf) (p : PlanOf) (text other : List ℕ) → IsDirectText s all p text → IsDirectText s all p other → text ≡ other
-direct-one s all p text other (executed within h) (executed more k) = h.report ∙ ap (text_within s.most) (same_value h.answered k.answered (sym h.executed ∙ k.executed)) ∙ sym k.report
+direct-one s all p text other (executed within h) (executed more k) = h.report ∙ ap (text_within s.most) (same_Some h.answered k.answered (sym h.executed ∙ k.executed)) ∙ sym k.report
 direct-one s all p text other (executed within h) (too_much more e) = absurd (within-or-more s.work (direct_work s all) within more)
 direct-one s all p text other (too_much more e) (executed within k) = absurd (within-or-more s.work (direct_work s all) within more)
 direct-one s all p text other (too_much more e) (too_much also d) = e ∙ sym d
@@ -268,23 +263,20 @@ module _ (verdict : OneVerdict) (s : ServiceOf) where
 -- ---- a line
 
 one-request : (line : List ℕ) (p q : RequestOf) → IsRequest line p → IsRequest line q → p ≡ q
-one-request line p q h k = same_value p q (sym h.members ∙ k.members)
+one-request line p q h k = same_Some p q (sym h.members ∙ k.members)
 
 one-array : (line : List ℕ) (vs us : List (Option RequestOf)) → AreRequests line vs → AreRequests line us → vs ≡ us
-one-array line vs us h k = same_value vs us (sym h.values ∙ k.values)
-
-none_some : {X : Type 0} (x : X) → None ≡ Some x → ⊥
-none_some x e = cc e
+one-array line vs us h k = same_Some vs us (sym h.values ∙ k.values)
 
 -- an array is no request
 request-or-array : (o : Option Data) (r : RequestOf) (vs : List (Option RequestOf)) → option_and_then asked o ≡ Some r → option_map asked_each (option_and_then as_array o) ≡ Some vs → ⊥
-request-or-array None r vs e d = none_some r e
-request-or-array (Some null) r vs e d = none_some vs d
-request-or-array (Some (boolean b)) r vs e d = none_some vs d
-request-or-array (Some (number n)) r vs e d = none_some vs d
-request-or-array (Some (string s)) r vs e d = none_some vs d
-request-or-array (Some (array ds)) r vs e d = none_some r e
-request-or-array (Some (object ms)) r vs e d = none_some vs d
+request-or-array None r vs e d = none-some r e
+request-or-array (Some null) r vs e d = none-some vs d
+request-or-array (Some (boolean b)) r vs e d = none-some vs d
+request-or-array (Some (number n)) r vs e d = none-some vs d
+request-or-array (Some (string s)) r vs e d = none-some vs d
+request-or-array (Some (array ds)) r vs e d = none-some r e
+request-or-array (Some (object ms)) r vs e d = none-some vs d
 
 not-both : (line : List ℕ) (r : RequestOf) (vs : List (Option RequestOf)) → IsRequest line r → AreRequests line vs → ⊥
 not-both line r vs h k = request-or-array (read line) r vs h.members k.values

@@ -112,17 +112,15 @@ module _ (s : ServiceOf) where
   later-is : (c later : ClientOf SourceOf) → IsClientOf s c → IsSameClient c later → IsOver s.world (restarted later.session) → IsClientOf s later
   later-is c later is same over = record { server = same.server ∙ is.server; most = same.most ∙ is.most; limits = same.limits ∙ is.limits; over = over }
 
-  pub line-direct : (c : ClientOf SourceOf) (line text : List ℕ) (later : ClientOf SourceOf) → IsClientOf s c → server_lines.ServesLine may_tell c line text later → AnswersLine s c line text later
-  line-direct c line text later is h = record {
+  pub line-direct : (c : ClientOf SourceOf) (line : List ℕ) (report : ReportOf) (later : ClientOf SourceOf) → IsClientOf s c → server_lines.ServesLine may_tell c line report later → AnswersLine s c line report later
+  line-direct c line report later is h = record {
     served = h;
-    direct = text-direct s (restarted c.session) later.session is.over line (record { text = text; rounds = h.rounds })
-        (subst (λ (x : ClientOf SourceOf). server_lines.AnswersText may_tell x line (record { text = text; rounds = h.rounds }) later.session) (client-is c is) h.answers);
+    direct = text-direct s (restarted c.session) later.session is.over line report (subst (λ (x : ClientOf SourceOf). server_lines.AnswersText may_tell x line report later.session) (client-is c is) h.answers);
   }
 
-  pub line-client : (c : ClientOf SourceOf) (line text : List ℕ) (later : ClientOf SourceOf) → IsClientOf s c → server_lines.ServesLine may_tell c line text later → IsClientOf s later
-  line-client c line text later is h =
-      later-is c later is h.same (text-over s (restarted c.session) later.session is.over line (record { text = text; rounds = h.rounds })
-      (subst (λ (x : ClientOf SourceOf). server_lines.AnswersText may_tell x line (record { text = text; rounds = h.rounds }) later.session) (client-is c is) h.answers))
+  pub line-client : (c : ClientOf SourceOf) (line : List ℕ) (report : ReportOf) (later : ClientOf SourceOf) → IsClientOf s c → server_lines.ServesLine may_tell c line report later → IsClientOf s later
+  line-client c line report later is h =
+      later-is c later is h.same (text-over s (restarted c.session) later.session is.over line report (subst (λ (x : ClientOf SourceOf). server_lines.AnswersText may_tell x line report later.session) (client-is c is) h.answers))
 
   stops-over : (c : ClientOf SourceOf) (line : List ℕ) (later : ClientOf SourceOf) → IsClientOf s c → (later.session ≡ c.session) ⊎ server_lines.StopsText may_tell (begun c) line later.session → IsOver s.world (restarted later.session)
   stops-over c line later is (inl same) = subst (λ x. IsOver s.world (restarted x)) (sym same) is.over

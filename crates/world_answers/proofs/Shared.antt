@@ -1,6 +1,6 @@
 -- Plans are answered together over a session of their world that is new: rounds can be made until nothing is missing for any of them, or
 -- until they are too much work. So is a plan alone.
-use Rattle.std.proofs.Common.{◌≡◌, ◌+◌, ◌⊎◌, ◌≤◌, ◌<◌, ◌∙◌, ℕ, zero, suc, List, [], ◌∷◌, All, map, length, inl, inr, sym, ap, subst, refl, arith}
+use Rattle.std.proofs.Common.{◌≡◌, ◌+◌, ◌⊎◌, ◌≤◌, ◌∙◌, ℕ, zero, suc, List, [], ◌∷◌, All, map, length, inl, inr, sym, ap, subst, refl, arith}
 use Rattle.std.proofs.lemmas.List.Elements.{All-nil, All-cons, All-head, All-tail}
 use Rattle.load_memory.specs.Replies.{ReplyOf}
 use Rattle.csv_source.specs.Tables.{SourceOf}
@@ -8,6 +8,7 @@ use Rattle.execution.specs.Loads.{Load, Memory, read}
 use Rattle.execution.specs.Program.{ListOf, Program, Under, needs, all_needs}
 use Rattle.execution.specs.Completion.{AnsweredOf}
 use Rattle.execution.specs.Front.{front}
+use Rattle.execution.specs.Reads.{count_read, counted}
 use Rattle.execution.specs.Rounds.{RuleOf, modes_of, may_at, HasLoaders, IsBelow, one_unless_empty, own_rounds, after_round, without_failed}
 use Rattle.execution.proofs.FewestLaws.{all-rounds}
 use Rattle.execution.proofs.OnceLaws.{asked-once, answered-in}
@@ -81,7 +82,7 @@ module _ (s : ServiceOf) (has : HasSources s.world) where
     log = end.is.log
 
     abbrev report_to : PlanOf → ReportOf
-    report_to plan = record { text = text_over text_of (plan_program plan) end.last; rounds = own_rounds (rules_of old) (plan_program plan) first log }
+    report_to plan = record { text = text_over text_of (plan_program plan) end.last; rounds = own_rounds (rules_of old) (plan_program plan) first log; loads = counted (count_read (plan_program plan) (read (session_modes old) end.last.memory)) }
 
     abbrev all_reports : List PlanOf → List ReportOf
     all_reports [] = []
@@ -120,6 +121,7 @@ module _ (s : ServiceOf) (has : HasSources s.world) where
               counted = refl;
               chained = own-chain (may_at may_tell old.loaders) (rules_of old) ListOf (items_from 0 (asked_of all)) (plan_program p) (limited w has) within here first log end.last.memory end.is.made.rounds;
               fewest = λ Ns run. own-sparing (may_at may_tell old.loaders) (rules_of old) ListOf (items_from 0 (asked_of all)) (plan_program p) (limited w has) within here first log end.last.memory Ns end.is.made.rounds run;
+              loads = refl;
             },
             each-shared (suc n) ps (λ q b. among q (inr b)),
           )

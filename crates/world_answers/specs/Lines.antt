@@ -1,15 +1,16 @@
 -- Definitions of what answers a line: *Program output*, of one line.
 use Rattle.std.specs.Prelude.{◌≡◌, ℕ, List, Option, Result}
 use Rattle.csv_source.specs.Tables.{SourceOf}
-use Rattle.server_lines.specs.Answering.{AnsweringOf, at_memory}
+use Rattle.server_lines.specs.Answering.{AnsweringOf}
 use Rattle.server_lines.specs.Devices.{DevicesOf}
 use Rattle.server_lines.specs.Serving.{Serves}
 use Rattle.server_lines.specs.declared.fault.ServeFault.{ServeFault}
 use Rattle.load_rounds.specs.Sessions.{restarted}
+use Rattle.load_rounds.specs.SharedRounds.{ReportOf}
 use Rattle.request_line.specs.Requests.{RequestOf, IsRequest, AreRequests, IsNoRequest}
 use Rattle.plan_requests.specs.Planning.{not_a_request}
 use Rattle.server.specs.Clients.{ClientOf}
-use Rattle.server.specs.Lines.{ServesLine, StopsLine, serving}
+use Rattle.server.specs.Lines.{ReportingOf, ServesLine, StopsLine, serving, with_text}
 use Rattle.world_answers.specs.Answers.{may_tell, AnswersRequest}
 use Rattle.world_answers.specs.Arrays.{AnswersArray}
 use Rattle.world_answers.specs.Services.{ServiceOf, server_in, limits_in}
@@ -33,14 +34,18 @@ pub record IsClientOf (s : ServiceOf) (c : ClientOf SourceOf) : Type 0 where
 
 -- A line is answered by this text in the client's session, from which it starts again: the loaders were asked exactly the batches of a
 -- lawful log for that line's plans, and nothing else. And the text is the one that answers the line, that of direct execution.
-pub record AnswersLine (s : ServiceOf) (c : ClientOf SourceOf) (line text : List ℕ)
-    (later : ClientOf SourceOf) : Type 0 where
-  pub served : ServesLine may_tell c line text later
-  pub direct : IsAnswer s line text
+pub record AnswersLine (s : ServiceOf) (c : ClientOf SourceOf) (line : List ℕ)
+    (report : ReportOf) (later : ClientOf SourceOf) : Type 0 where
+  pub served : ServesLine may_tell c line report later
+  pub direct : IsAnswer s line report.text
 
 -- gives how the lines of a run are answered
+abbrev pub reports : ServiceOf → ReportingOf SourceOf
+reports s = record { gives = AnswersLine s; stops = StopsLine may_tell }
+
+-- with their texts alone
 abbrev pub answering : ServiceOf → AnsweringOf (ClientOf SourceOf)
-answering s = record { gives = AnswersLine s; stops = at_memory (StopsLine may_tell) }
+answering s = with_text (reports s)
 
 -- The lines that are served in the client's session have the text of direct execution each, and the client stays one of the service.
 abbrev pub AreDirect : ServiceOf → ClientOf SourceOf

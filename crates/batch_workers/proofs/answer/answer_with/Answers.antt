@@ -1,7 +1,6 @@
 use Rattle.std.proofs.Common.{◌≡◌, ◌∙◌, Some, None, [], ◌∷◌, ap, sym, subst}
 use Rattle.load_rounds.specs.Sessions.{state_of}
-use Rattle.load_rounds.specs.Headline.{Headline}
-use Rattle.load_rounds.specs.SharedRounds.{ReportOf, report_of, request_of, requests}
+use Rattle.load_rounds.specs.SharedRounds.{ReportOf, IsAnsweredAlone, report_of, request_of, requests}
 use Rattle.load_rounds.specs.Executions.{plans_in}
 use Rattle.load_rounds.specs.Limits.{AreAskedInTime, AreOver, AreWithin}
 use Rattle.load_rounds.specs.declared.limits.Overrun.{Overrun}
@@ -54,6 +53,6 @@ returns-clause-answer g c =
     let done = answered-one X.program X.text_of X.loaders X.fits g.S.Source.may_answer old now plan c.run.new.rounds are ended.0 (c.run.ensures.run old begun.is) in
     let same : report_of c.in-Some-into_answer.answer ≡ done.0 = some-is (report_of c.in-Some-into_answer.answer) done.0 (rw c.in-Some-into_answer.is at c.into_answer.ensures ∙ done.1) in
     let within = within-same X.program X.text_of g.S.Source.may_answer old now c.args.limits (plan ∷ []) c.run.new.rounds are ended.1 in (
-      subst (λ (t : ReportOf). Headline g.S.Source.may_answer old now (X.program plan) (X.text_of plan) t.text t.rounds) (sym same) done.2,
+      subst (IsAnsweredAlone g.S.Source.may_answer old now (request_of (X.program plan) (X.text_of plan))) (sym same) done.2,
       subst (λ n. AreWithin c.args.limits (request_of (X.program plan) (X.text_of plan) ∷ []) now n) (sym (ap (λ (t : ReportOf). t.rounds) same ∙ done.3)) within,
     )

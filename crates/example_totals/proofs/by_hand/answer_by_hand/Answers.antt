@@ -6,10 +6,9 @@ use Rattle.execution.specs.Program.{Program}
 use Rattle.execution.specs.Completion.{AnsweredOf}
 use Rattle.execution.specs.Rounds.{may_at}
 use Rattle.load_rounds.specs.Histories.{any_tell}
-use Rattle.load_rounds.specs.Headline.{Headline}
 use Rattle.load_rounds.specs.Sessions.{StateOf, state_of}
 use Rattle.load_rounds.specs.ByHand.{AreReceived, orders_in}
-use Rattle.load_rounds.specs.SharedRounds.{ReportOf, report_of, joint}
+use Rattle.load_rounds.specs.SharedRounds.{IsAnsweredAlone, request_of, report_of, joint}
 use Rattle.load_rounds.specs.Runs.{RunOf, IsNext, program_of}
 use Rattle.load_rounds.specs.declared.rounds.Stage.TheVariants.{Finished}
 use Rattle.load_rounds.proofs.Runs.{round-orders, round-asked}
@@ -64,4 +63,4 @@ returns g c =
     let done = answered-one g.P.Execute.program g.P.Execute.text_of g.P.Execute.loaders g.P.Execute.fits any_tell old now plan c.advance.new.self plans ended (c.advance.ensures.run old c.loop-rounds.invariant.is) in
     let same : Some (report_of c.in-Some-into_answer.answer) ≡ Some done.0 = rw c.in-Some-into_answer.is at c.into_answer.ensures ∙ done.1 in
     let is : report_of c.in-Some-into_answer.answer ≡ done.0 = cc same in
-    subst (λ (t : ReportOf). Headline any_tell old now (g.P.Execute.program plan) (g.P.Execute.text_of plan) t.text t.rounds) (sym is) done.2
+    subst (IsAnsweredAlone any_tell old now (request_of (g.P.Execute.program plan) (g.P.Execute.text_of plan))) (sym is) done.2

@@ -6,9 +6,12 @@ use Rattle.gq_resolve.specs.Suspended.{IsRooted}
 use Rattle.gq_resolve.specs.declared.advance.RootObject.{RootObject}
 use Rattle.gq_resolve.specs.declared.advance.FinishedWalk.{FinishedWalk}
 use Rattle.gq_resolve.specs.declared.output.Output.{Output}
-use Rattle.gq_resolve.proofs.Advancing.{over-root, answer-written}
+use Rattle.gq_resolve.proofs.Advancing.{over-root, still-waits, answer-written}
 use Rattle.gq_resolve.proofs.advance.begin.Goals as goal
 use Rattle.gq_resolve.proofs.advance.begin.Goals.{then-not-is_empty+then-is_empty+in_ok-searched+else-not-is_empty-2, else-not-is_empty}
+
+pub returns-then-not-is_empty-2 : goal.returns-then-not-is_empty-2
+returns-then-not-is_empty-2 c = λ rooted. still-waits (plan_of c.args.walk.now.plan.now) c.args.walk.now.memory.now c.in_ok-searched.searched (λ none. cc (c.if-not-is_empty-2.ensures.1 none)) (c.in_ok-searched.ensures rooted)
 
 pub returns : goal.returns
 returns c = λ rooted.
@@ -20,5 +23,5 @@ returns c = λ rooted.
       | then-not-is_empty+then-is_empty+in_ok-searched+else-not-is_empty-2 w ↦ rw w.rooted-is (w.in_ok-searched.ensures rooted).goes_on.rooted
       | else-not-is_empty w ↦ rw w.rooted-is rooted
     ] in
-    answer-written plan m old walked c.in_ok-out.out c.begin.new.self c.field.new.self c.end.new.self c.in_ok-out.ensures.blocked c.in_ok-out.ensures.tokens c.in_ok-begin.ensures c.in_ok-field.ensures
+    answer-written plan m old walked c.in_ok-out.out c.begin.new.self c.field.new.self c.end.new.self c.in_ok-out.ensures.blocked c.in_ok-out.ensures.tokens c.in_ok-out.ensures.loads c.in_ok-begin.ensures (λ v. rw c.in_ok-from_str.ensures.ok at (c.in_ok-field.ensures v))
     (λ below. over-root plan m old c.deref-2.result.now _ c.object.new.at refl (c.deref-2.ensures.value ∙ ap (λ (v : Vec Member Global). v.items) c.deref.ensures) begun below c.in_ok-object.ensures) c.in_ok-end.ensures

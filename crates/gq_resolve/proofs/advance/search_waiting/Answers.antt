@@ -20,4 +20,4 @@ loop-position-preserved-in_ok-read-2 c = resumed-one c.in-Some.position (borrowe
 
 pub returns : goal.returns
 returns c = λ may.
-    all-resumed c.args.rooted refl c.waiting_only.ensures.blocked c.waiting_only.ensures.plain (own-none _ c.next.new.self c.in-None.ensures.steps) c.loop-position.invariant may
+    all-resumed c.args.rooted refl c.waiting_only.ensures.blocked (own-none _ c.next.new.self c.in-None.ensures.steps) c.loop-position.invariant may

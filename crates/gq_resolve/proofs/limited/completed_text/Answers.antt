@@ -13,7 +13,7 @@ returns-then-out c = λ done closed. c.into_text.ensures ∙ ap print (done.0.wr
 
 pub returns : goal.returns
 returns c = λ done.
-    let walked = c.in_ok-walked.ensures done.0.goes_on.rooted tt in
+    let walked = c.in_ok-walked.ensures done.0.searched.goes_on.rooted tt in
     let p = plan_program (plan_on c.args.walk.now) in
     let R = lookup c.args.walk.now.memory.now in
     IfOk-weaker c.finish.result _ _ (λ text h. h c.args.most p R (walked.put ∙ ap (put_all (puts false p R)) c.new.ensures)) c.finish.ensures

@@ -3,6 +3,6 @@ use Rattle.gq_resolve.proofs.Working.{plan-taken}
 use Rattle.gq_resolve.proofs.work.work_left.Goals as goal
 
 pub returns : goal.returns
-returns c =
-    let went = c.in_ok-walked.ensures c.in_ok-prepare_root.ensures.rooted tt in
-    plan-taken (plan_of c.args.plan.now) c.args.memory.now c.args.most c.in_ok-walked.walked.out.left c.requires went.put
+returns c = λ rooted.
+    let went = c.in_ok-walked.ensures rooted tt in
+    plan-taken (plan_of c.args.walk.now.plan.now) c.args.walk.now.memory.now c.args.most c.in_ok-walked.walked.out.left c.requires went.put

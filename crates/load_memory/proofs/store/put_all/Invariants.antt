@@ -1,4 +1,4 @@
-use Rattle.std.proofs.Common.{◌≡◌, ◌+◌, ◌<◌, ◌≤◌, ℕ, length, map}
+use Rattle.std.proofs.Common.{◌≡◌, ◌+◌, ◌<◌, ◌≤◌, ℕ, length, map, reverse}
 use Rattle.std.specs.Prelude.{All}
 use Rattle.std.specs.Option.{option_or}
 use Rattle.load_memory.specs.Keys.{KeyOf}
@@ -11,10 +11,13 @@ abbrev pub invariant-loop-pair : goal.invariant-loop-pair
 invariant-loop-pair l = record {
   lined_up : length l.parts.items ≡ length l.fn.parts.items;
   own_keys : HaveOwnKeys l.parts.items;
-  room : HaveRoom l.parts.items l.pair-iterator.rest.items;
-  loaders : All (λ (s : StagedPair). s.loader < length l.parts.items) l.pair-iterator.rest.items;
-  pairs : (loader : ℕ) (key : KeyOf) → option_or (look (pairs_from 0 l.parts.items) loader key) (look (map staged_of l.pair-iterator.rest.items) loader key)
+  room : HaveRoom l.parts.items (reverse l.rest.items);
+  loaders : All (λ (s : StagedPair). s.loader < length l.parts.items) (reverse l.rest.items);
+  pairs : (loader : ℕ) (key : KeyOf) → option_or (look (pairs_from 0 l.parts.items) loader key) (look (map staged_of (reverse l.rest.items)) loader key)
       ≡ option_or (look (pairs_from 0 l.fn.parts.items) loader key) (look (map staged_of l.fn.pairs.items) loader key);
   count : length (pairs_from 0 l.parts.items) ≡ length (pairs_from 0 l.fn.parts.items) + l.added;
-  most : l.added + length l.pair-iterator.rest.items ≤ length l.fn.pairs.items;
+  most : l.added + length l.rest.items ≤ length l.fn.pairs.items;
 }
+
+abbrev pub decreases-loop-pair : goal.decreases-loop-pair
+decreases-loop-pair l = length l.rest.items

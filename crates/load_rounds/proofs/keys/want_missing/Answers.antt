@@ -47,4 +47,4 @@ pub returns : goal.returns
 returns c =
     let m : MemoryOf = c.args.memory.now in
     let so = rw (take_all c.loop-key.key-index c.args.keys.now c.loop-key-test.false) at c.loop-key.invariant in
-    reading-ready c.args.loader (map key_of c.args.keys.now) m c.args.wants.now c.loop-key.wants c.loop-key.is_missing so c.new.result c.if-is_missing.false c.new.ensures.bytes
+    reading-ready c.args.loader (map key_of c.args.keys.now) m c.args.wants.now c.loop-key.wants c.loop-key.is_missing so c.new.result (length c.args.keys.now) c.if-is_missing.false c.new.ensures.bytes (sym (length-map c.args.keys.now key_of)) (omega arith)

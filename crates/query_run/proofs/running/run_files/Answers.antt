@@ -1,4 +1,4 @@
-use Rattle.std.proofs.Common.{◌≡◌, ◌∙◌, subst, inl, inr, refl}
+use Rattle.std.proofs.Common.{subst, inl, inr, refl}
 use Rattle.std.proofs.KnownBytes.{Keeps-refl}
 use Rattle.server_lines.specs.Devices.{devices}
 use Rattle.world_files.specs.Folders.{IsAllOf}

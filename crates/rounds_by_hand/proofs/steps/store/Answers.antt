@@ -9,7 +9,7 @@ use Rattle.rounds_by_hand.proofs.steps.store.Goals as goal
 
 pub replies_to-requires-clause-loaders : goal.replies_to-requires-clause-loaders
 replies_to-requires-clause-loaders g c =
-    let p : Program = program_of g.P.Execute.program g.P.Execute.text_of c.args.run in
+    let p : Program = program_of g.P.Execute.program g.P.Execute.text_of c.args.run.now in
     rw c.loaders.ensures (orders-have (state_of c.args.session.now) p c.args.pending.items c.requires.out.orders)
 
 pub replies_to-requires-clause-own : goal.replies_to-requires-clause-own
@@ -18,7 +18,7 @@ replies_to-requires-clause-own g c = rw c.loaders.ensures c.requires.out.own
 pub take_owned-requires : goal.take_owned-requires
 take_owned-requires g c =
     let s = state_of c.args.session.now in
-    let p : Program = program_of g.P.Execute.program g.P.Execute.text_of c.args.run in
+    let p : Program = program_of g.P.Execute.program g.P.Execute.text_of c.args.run.now in
     let fit = rw c.loaders.ensures at (c.in_ok-replies.ensures.any c.requires.out.replies) in
     record {
       out = record { out = c.requires.out.stage; latest = c.requires.out.latest };
@@ -29,7 +29,7 @@ take_owned-requires g c =
 pub returns-clause-ran : goal.returns-clause-ran
 returns-clause-ran g c = λ told.
     let s = state_of c.args.session.now in
-    let p : Program = program_of g.P.Execute.program g.P.Execute.text_of c.args.run in
+    let p : Program = program_of g.P.Execute.program g.P.Execute.text_of c.args.run.now in
     let own = rw (← c.loaders.ensures) at told in
     let fit = rw c.loaders.ensures at (c.in_ok-replies.ensures.told own) in
     let went = c.take_owned.ensures.run (received-in g.S.LocalSource.may_tell s p c.args.pending.items (map reply_of c.in_ok-replies.replies.items) c.requires.out.orders fit) in

@@ -11,8 +11,8 @@ use Rattle.flat_rows.specs.declared.fault.FlatFault.TheVariants as flat
 use Rattle.flat_rows.proofs.KeyedItems.{all-asked, are-firsts, group-fault, under-keys, within}
 use Rattle.flat_rows.proofs.keyed.KeyedReply.row_items.Goals as goal
 
-pub sheet_of-requires : goal.sheet_of-requires
-sheet_of-requires c =
+pub sheet-requires : goal.sheet-requires
+sheet-requires c =
     let r = c.args.self.now in
     let many = ap length c.requires.texts ∙ length-cut r.bytes.now 0 r.ends.now in
     omega (arith, c.requires.formed.all, many)

@@ -7,5 +7,5 @@ use Rattle.gq_resolve.proofs.limited_plan.LimitedPlanCountWorkRootState.work_lef
 
 pub returns : goal.returns
 returns c =
-    let own : plan_of c.plan.result.now ≡ plan_of c.args.self.now.plan = ap plan_of (c.plan.ensures ∙ c.deref.ensures) ∙ ap (λ (l : LimitedPlanOf). plan_of l.plan) c.self.view_is in
+    let own : plan_of c.deref.result.now ≡ plan_of c.args.self.now.plan = ap plan_of c.deref.ensures ∙ ap (λ (l : LimitedPlanOf). plan_of l.plan) c.self.view_is in
     subst (λ (plan : PlanOf). IfOk c.work_left.result (IsLeft c.args.most (plan_work plan c.args.memory.now))) own c.work_left.ensures

@@ -11,8 +11,8 @@ use Rattle.host_clients.proofs.loading.LoadUnderWay.advance.Goals as goal
 pub invariant_of-loaded : goal.invariant_of-loaded
 invariant_of-loaded c =
     let own = c.self.inside in let e = c.advance.ensures in let did = rw c.in-Ok-Done.field-0-is at c.in-Ok-Done.ensures.did in
-    outcomes-of own.hand c.advance.new.self own.orders c.in-Ok-Done.outcomes c.self.invariant (rw did at e.loaded) c.into_client.result.server
-    (ap (λ (x : ClientOf HandedIn). x.server) c.into_client.ensures.client ∙ e.same.server) c.of-snapshot.result.value.keys
+    outcomes-of own.hand c.advance.new.self own.orders c.in-Ok-Done.outcomes c.self.invariant (rw did at e.loaded) c.idle_of.result.server
+    (ap (λ (x : ClientOf HandedIn). x.server) c.idle_of.ensures.client ∙ e.same.server) c.of-snapshot.result.value.keys
     (ap (λ (l : LoadByHandOf HandedIn). l.keys) c.of-snapshot.ensures ∙ e.asked) _ (c.in-Ok.ensures ∙ ap (map outcome_of) c.deref.ensures.value)
 
 pub invariant_of-loading : goal.invariant_of-loading
@@ -31,12 +31,12 @@ pub returns-in-Ok : goal.returns-in-Ok
 returns-in-Ok c =
     let e = c.advance.ensures in let did = rw c.in-Ok-Done.field-0-is at c.in-Ok-Done.ensures.did in
     rw (← c.self.view_is)
-    (loads-it c.self.inside.hand c.advance.new.self e.asked e.same c.into_client.result c.into_client.ensures.client c.in-Ok-Done.outcomes c.of-snapshot.result.value.keys
+    (loads-it c.self.inside.hand c.advance.new.self e.asked e.same c.idle_of.result c.idle_of.ensures.client c.in-Ok-Done.outcomes c.of-snapshot.result.value.keys
     (ap (λ (l : LoadByHandOf HandedIn). l.keys) c.of-snapshot.ensures ∙ e.asked) _ (c.in-Ok.ensures ∙ ap (map outcome_of) c.deref.ensures.value) (rw did at e.advanced).0.0 (rw did at e.stored) (rw did at e.loaded))
 
 pub returns-in-Ok-Done : goal.returns-in-Ok-Done
 returns-in-Ok-Done c =
-    let e = c.advance.ensures in let back = c.into_client-in-Err-of in
+    let e = c.advance.ensures in let back = c.idle_of-in-Err-of in
     rw (← c.self.view_is) (gives-up-load c.self.inside.hand c.advance.new.self e.asked e.same back.result back.ensures.client e.underway back.ensures.stopped, refl)
 
 pub returns-in-Ok-Round : goal.returns-in-Ok-Round
@@ -46,10 +46,10 @@ returns-in-Ok-Round c =
 
 pub returns-in-Ok-Over : goal.returns-in-Ok-Over
 returns-in-Ok-Over c =
-    let e = c.advance.ensures in let did = rw c.in-Ok-Over.field-0-is at c.in-Ok-Over.ensures.did in let back = c.into_client-in-Ok-Over in
+    let e = c.advance.ensures in let did = rw c.in-Ok-Over.field-0-is at c.in-Ok-Over.ensures.did in let back = c.idle_of-in-Ok-Over in
     rw (← c.self.view_is) (gives-up-load c.self.inside.hand c.advance.new.self e.asked e.same back.result back.ensures.client e.underway back.ensures.stopped, (rw did at e.advanced).0.0)
 
 pub returns : goal.returns
 returns c =
-    let e = c.advance.ensures in let back = c.into_client-in-Err in
+    let e = c.advance.ensures in let back = c.idle_of-in-Err in
     rw (← c.self.view_is) (gives-up-load c.self.inside.hand c.advance.new.self e.asked e.same back.result back.ensures.client e.underway back.ensures.stopped, refl)

@@ -3,7 +3,7 @@ use Rattle.std.proofs.lemmas.List.{length-take-le, get_or-take}
 use Rattle.std.specs.Prelude.{bytes_eq, take}
 use Rattle.load_memory.proofs.CellLaws.{cell-from, length-cell, length-cut, none-next, other-length, start_at-first, start_at-next}
 use Rattle.load_memory.proofs.RowLaws.{position-found, position-none}
-use Rattle.load_memory.proofs.sheet.Cells.position.Goals.{else-end-start-via-then-end-start+else-eq, else-end-start-via-else-end-start}
+use Rattle.load_memory.proofs.sheet.Cells.position.Goals.{else-end-start-via-then-end-start+else-is_same_text, else-end-start-via-else-end-start}
 use Rattle.load_memory.proofs.sheet.Cells.position.Goals as goal
 
 pub loop-i-init : goal.loop-i-init
@@ -42,13 +42,13 @@ range-requires-clause-end_boundary c =
     let cell = cell-from (string_bytes c.self.inside.text) c.self.inside.ends c.loop-i.start c.loop-i.i c.self.invariant lt c.loop-i.invariant.0 in
     rw (c.as_str.ensures.value, c.get-end.ensures) cell.to_boundary
 
-pub returns-then-eq : goal.returns-then-eq
-returns-then-eq c =
+pub returns-then-is_same_text : goal.returns-then-is_same_text
+returns-then-is_same_text c =
     let cells : length c.args.self.now ≡ length c.self.inside.ends = rw (← c.self.view_is) (length-cut _ 0 c.self.inside.ends) in
     let lt : c.loop-i.i < length c.self.inside.ends = omega (arith, c.requires, c.loop-i-test.true) in
     let cell = cell-from (string_bytes c.self.inside.text) c.self.inside.ends c.loop-i.start c.loop-i.i c.self.invariant lt c.loop-i.invariant.0 in
     let is : c.range.result.now ≡ get_or c.args.self.now c.loop-i.i [] = rw (c.range.ensures.value, c.as_str.ensures.value, c.get-end.ensures, ← c.self.view_is) cell.value in
-    let here : bytes_eq (get_or c.args.self.now c.loop-i.i []) c.args.text.now ≡ true = rw (← is) (sym c.eq.ensures ∙ c.if-eq.true) in
+    let here : bytes_eq (get_or c.args.self.now c.loop-i.i []) c.args.text.now ≡ true = rw (← is) (sym c.is_same_text.ensures ∙ c.if-is_same_text.true) in
     let size : length (take c.args.count c.args.self.now) ≡ c.args.count = length-take-le c.args.count c.args.self.now c.requires in
     position-found (λ t. bytes_eq t c.args.text.now) (take c.args.count c.args.self.now) [] c.loop-i.i (omega (arith, c.loop-i-test.true))
     (λ k below. rw (get_or-take c.args.count c.args.self.now k [] (omega (arith, below, c.loop-i-test.true))) (c.loop-i.invariant.1 k below))
@@ -63,9 +63,9 @@ loop-i-preserved c =
     let next = start_at-next 0 c.self.inside.ends c.loop-i.i 0 lt in
     let size = length-cell _ _ _ _ cell in
     let here : bytes_eq (get_or c.args.self.now c.loop-i.i []) c.args.text.now ≡ false = elim c.else-end-start.branch [
-      | else-end-start-via-then-end-start+else-eq w ↦
+      | else-end-start-via-then-end-start+else-is_same_text w ↦
           let is : w.range.result.now ≡ get_or c.args.self.now c.loop-i.i [] = rw (w.range.ensures.value, w.as_str.ensures.value, c.get-end.ensures, ← c.self.view_is) cell.value in
-          rw (← is) (sym w.eq.ensures ∙ w.if-eq.false)
+          rw (← is) (sym w.is_same_text.ensures ∙ w.if-is_same_text.false)
       | else-end-start-via-else-end-start w ↦ rw (← c.self.view_is) (other-length _ c.args.text.now (λ e. absurd (omega (arith, size, e, c.get-end.ensures, w.if-end-start.false))))
     ] in
     (c.get-end.ensures ∙ sym (rw one at next), none-next c.args.self.now c.args.text.now c.loop-i.i c.loop-i.invariant.1 here)

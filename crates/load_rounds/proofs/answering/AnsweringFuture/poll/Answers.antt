@@ -1,7 +1,6 @@
 use Rattle.std.proofs.Common.{◌≡◌, ◌∙◌, Some, None, ap, sym, subst, refl}
 use Rattle.load_rounds.specs.Sessions.{state_of}
-use Rattle.load_rounds.specs.Headline.{Headline}
-use Rattle.load_rounds.specs.SharedRounds.{ReportOf, report_of}
+use Rattle.load_rounds.specs.SharedRounds.{ReportOf, IsAnsweredAlone, request_of, report_of}
 use Rattle.load_rounds.specs.Answerings.{far_of}
 use Rattle.load_rounds.proofs.KeyByKey.{some-same}
 use Rattle.load_rounds.proofs.Polls.{poll-ran}
@@ -65,7 +64,7 @@ returns-in-Some-clause-value g c =
     rw (← c.self.view_is) (λ old underway.
     let done = answered-one g.P.Execute.program g.P.Execute.text_of g.P.Execute.loaders g.P.Execute.fits may old now plan later plans turned.3 (c.in-Ok-false.ensures.run old (start.since old underway)) in
     let same : report_of c.in-Some.answer ≡ done.0 = some-same (report_of c.in-Some.answer) done.0 (rw c.in-Some.is at c.into_answer.ensures ∙ done.1) in
-    (subst (λ (t : ReportOf). Headline may old now (g.P.Execute.program plan) (g.P.Execute.text_of plan) t.text t.rounds) (sym same) done.2, tt))
+    (subst (IsAnsweredAlone may old now (request_of (g.P.Execute.program plan) (g.P.Execute.text_of plan))) (sym same) done.2, tt))
 
 pub returns-in-Some-clause-polled : goal.returns-in-Some-clause-polled
 returns-in-Some-clause-polled g c =

@@ -31,22 +31,22 @@ pub returns-in-Ready-clause-went : goal.returns-in-Ready-clause-went
 returns-in-Ready-clause-went g c =
     let self = c.self.inside in
     let none = unreported-is self.answer c.is_some.result c.is_some.ensures c.if-is_some.false in
-    let done = rw c.in-Ready.is at c.in_ok-text.ensures.executed in
-    rw (← c.self.view_is) (part-ready g.P.Execute.program g.P.Execute.text_of g.P.Execute.loaders g.P.Execute.fits c.args.rounds c.args.memory.now self.plan self.progress c.execute.new.progress (option_map report_of self.answer) (report_of (record { text = c.in-Ready.text; rounds = c.args.rounds })) none refl done.0 done.1 c.in_ok-text.ensures.within)
+    let done = rw c.in-Ready.is at c.in_ok-result.ensures.executed in
+    rw (← c.self.view_is) (part-ready g.P.Execute.program g.P.Execute.text_of g.P.Execute.loaders g.P.Execute.fits c.args.rounds c.args.memory.now self.plan self.progress c.execute.new.progress (option_map report_of self.answer) (report_of (record { text = c.in-Ready.result.text; rounds = c.args.rounds; loads = c.in-Ready.result.loads })) none refl done.0 done.1 done.2 c.in_ok-result.ensures.within)
 
 pub returns-in-Ready-clause-wanted : goal.returns-in-Ready-clause-wanted
 returns-in-Ready-clause-wanted g c =
-    let done = rw c.in-Ready.is at c.in_ok-text.ensures.executed in
-    rw (← c.self.view_is, done.0) done.2
+    let done = rw c.in-Ready.is at c.in_ok-result.ensures.executed in
+    rw (← c.self.view_is, done.0) done.3
 
 pub returns-in-Pending-clause-went : goal.returns-in-Pending-clause-went
 returns-in-Pending-clause-went g c =
     let self = c.self.inside in
     let none = unreported-is self.answer c.is_some.result c.is_some.ensures c.if-is_some.false in
-    let lacks = rw c.in-Pending.is at c.in_ok-text.ensures.executed in
-    rw (← c.self.view_is) (part-waits g.P.Execute.program g.P.Execute.text_of g.P.Execute.loaders g.P.Execute.fits c.args.rounds c.args.memory.now self.plan self.progress c.execute.new.progress (option_map report_of self.answer) none lacks.0 c.in_ok-text.ensures.fits c.in_ok-text.ensures.within)
+    let lacks = rw c.in-Pending.is at c.in_ok-result.ensures.executed in
+    rw (← c.self.view_is) (part-waits g.P.Execute.program g.P.Execute.text_of g.P.Execute.loaders g.P.Execute.fits c.args.rounds c.args.memory.now self.plan self.progress c.execute.new.progress (option_map report_of self.answer) none lacks.0 c.in_ok-result.ensures.fits c.in_ok-result.ensures.within)
 
 pub returns-in-Pending-clause-wanted : goal.returns-in-Pending-clause-wanted
 returns-in-Pending-clause-wanted g c =
-    let lacks = rw c.in-Pending.is at c.in_ok-text.ensures.executed in
+    let lacks = rw c.in-Pending.is at c.in_ok-result.ensures.executed in
     rw (← c.self.view_is) lacks.1

@@ -69,7 +69,7 @@ loop-at-preserved g c =
     let own = subst (λ (n : MemoryOf). front n.modes (X.program d) (look n.pairs) ≡ []) is executed.0 in
     record {
       complete = complete-next X.program X.text_of (session_modes (state_of session)) (look session.pairs) at (at + 1) (plans_in run.parts) d (omega arith) lt there was.complete own;
-      wants = executed.2 ∙ was.wants;
+      wants = executed.3 ∙ was.wants;
       ends = was.ends;
     }
 

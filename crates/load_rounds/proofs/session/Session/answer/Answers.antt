@@ -1,7 +1,6 @@
 use Rattle.std.proofs.Common.{◌≡◌, ◌∙◌, Some, None, sym, subst, arith}
 use Rattle.load_rounds.specs.Sessions.{state_of}
-use Rattle.load_rounds.specs.Headline.{Headline}
-use Rattle.load_rounds.specs.SharedRounds.{ReportOf, report_of}
+use Rattle.load_rounds.specs.SharedRounds.{IsAnsweredAlone, request_of, report_of}
 use Rattle.load_rounds.proofs.KeyByKey.{some-same}
 use Rattle.load_rounds.proofs.Stages.{answered-one, stopped-one}
 use Rattle.load_rounds.proofs.States.{on-err}
@@ -48,4 +47,4 @@ returns-clause-answer g c =
     let last = rw c.if-branch.false at c.in_ok-turn.ensures.turned in
     let done = answered-one g.P.Execute.program g.P.Execute.text_of g.P.Execute.loaders g.P.Execute.fits g.S.LocalSource.may_tell old now plan c.turn.new.self (c.turn.ensures.kept.plans ∙ c.loop-rounds.invariant.plans) last.3 (c.turn.ensures.run old c.loop-rounds.invariant.is) in
     let same : report_of c.in-Some.answer ≡ done.0 = some-same (report_of c.in-Some.answer) done.0 (rw c.in-Some.is at c.into_answer.ensures ∙ done.1) in
-    subst (λ (t : ReportOf). Headline g.S.LocalSource.may_tell old now (g.P.Execute.program plan) (g.P.Execute.text_of plan) t.text t.rounds) (sym same) done.2
+    subst (IsAnsweredAlone g.S.LocalSource.may_tell old now (request_of (g.P.Execute.program plan) (g.P.Execute.text_of plan))) (sym same) done.2

@@ -18,22 +18,22 @@ pub known_outcomes-requires-clause-loader : goal.known_outcomes-requires-clause-
 known_outcomes-requires-clause-loader g c =
     let can : CanLoad (state_of c.args.self.now) c.args.loader = rw (← c.self.view_is) (record { within = omega (arith, c.if-loader-len.false, c.len.ensures); limited = c.self.invariant.limited }) in
     let lt = can.within in
-    omega (arith, lt, record-many c.args.self.now.loaders c.answer.new.self.loaders c.in_ok-answer.ensures.answer.recorded)
+    omega (arith, lt, record-many c.args.self.now.loaders c.answer.new.self.loaders c.in_ok-answer.ensures.answer.0.recorded)
 
 pub known_outcomes-requires-clause-known : goal.known_outcomes-requires-clause-known
 known_outcomes-requires-clause-known g c =
     let a = c.in_ok-answer.field-0 in
-    read-complete g.S.LocalSource.may_tell (state_of c.args.self.now) c.args.loader (map key_of c.args.keys.now) (state_of c.answer.new.self) (record { text = string_bytes a.text; rounds = a.rounds; headline = c.in_ok-answer.ensures.answer })
+    read-complete g.S.LocalSource.may_tell (state_of c.args.self.now) c.args.loader (map key_of c.args.keys.now) (state_of c.answer.new.self) (record { text = string_bytes a.text; rounds = a.rounds; headline = c.in_ok-answer.ensures.answer.0 })
 
 pub returns-in_err-known_outcomes-clause-no_memory : goal.returns-in_err-known_outcomes-clause-no_memory
 returns-in_err-known_outcomes-clause-no_memory g c = λ h.
     let a = c.in_ok-answer.field-0 in
-    inl (read-once g.S.LocalSource.may_tell (state_of c.args.self.now) c.args.loader (map key_of c.args.keys.now) (state_of c.answer.new.self) (record { text = string_bytes a.text; rounds = a.rounds; headline = c.in_ok-answer.ensures.answer }))
+    inl (read-once g.S.LocalSource.may_tell (state_of c.args.self.now) c.args.loader (map key_of c.args.keys.now) (state_of c.answer.new.self) (record { text = string_bytes a.text; rounds = a.rounds; headline = c.in_ok-answer.ensures.answer.0 }))
 
 pub returns-clause-loaded : goal.returns-clause-loaded
 returns-clause-loaded g c =
     let a = c.in_ok-answer.field-0 in
     record {
-      round = read-once g.S.LocalSource.may_tell (state_of c.args.self.now) c.args.loader (map key_of c.args.keys.now) (state_of c.answer.new.self) (record { text = string_bytes a.text; rounds = a.rounds; headline = c.in_ok-answer.ensures.answer });
+      round = read-once g.S.LocalSource.may_tell (state_of c.args.self.now) c.args.loader (map key_of c.args.keys.now) (state_of c.answer.new.self) (record { text = string_bytes a.text; rounds = a.rounds; headline = c.in_ok-answer.ensures.answer.0 });
       known = c.in_ok-known_outcomes.ensures;
     }

@@ -20,17 +20,18 @@ use Rattle.plan_program.specs.PlanPrograms.{TypeOf, object_type, type_fault, typ
 use Rattle.plan_program.specs.FieldValues.{ChildrenOf}
 use Rattle.plan_program.specs.declared.prepared.Children.{Children}
 use Rattle.plan_walk.specs.Groups.{children_at, then_at, steps_in, Covers, AreOnly, IsShaped}
-use Rattle.plan_walk.specs.Puts.{Ends, Waits, View, OnwardOf, puts}
+use Rattle.plan_walk.specs.Puts.{Put, Ends, Waits, View, OnwardOf, reads, puts}
 use Rattle.plan_walk.specs.Positions.{is_non_null, onward_of, later_of}
 use Rattle.plan_walk.specs.Reading.{lookup}
 use Rattle.plan_walk.specs.Walks.{WalksAt, WalksList, items_read}
 use Rattle.plan_program.specs.Prepared.{keys_seen}
 use Rattle.plan_walk.specs.declared.positions.Onward.{Onward}
-use Rattle.plan_walk.specs.Following.{followed_puts}
+use Rattle.plan_walk.specs.Following.{come_to, followed_puts}
+use Rattle.plan_walk.specs.declared.following.ViaRows.{ViaRows}
 use Rattle.plan_walk.specs.declared.loading_fields.LoadingField.{LoadingField}
 use Rattle.plan_walk.specs.declared.loading_fields.Member.{Member}
 use Rattle.plan_walk.proofs.Lookups.{looked-up}
-use Rattle.plan_walk.proofs.Touring.{Laws, goes-put, goes-as, walks-as, goes-probed, goes-entered, goes-ended, goes-full, goes-made, goes-only-none, goes-only, goes-let_go, fields_put, fields-more, fields-rest, known-at, items-more, items-rest, items-whole, joined_by, after-one, after-taken, after-followed, after-missing, after-row, after-head, map-map}
+use Rattle.plan_walk.proofs.Touring.{Laws, goes-put, goes-as, walks-as, goes-probed, goes-read, goes-entered, goes-ended, goes-full, goes-made, goes-only-none, goes-only, goes-let_go, fields_put, fields-more, fields-rest, known-at, items-more, items-rest, items-whole, joined_by, after-one, after-taken, after-followed, after-missing, after-row, after-head, map-map}
 use Rattle.plan_walk.proofs.walk.Walk.+walk.Given.{Over}
 use Rattle.plan_walk.proofs.walk.Walk.+walk.Goals as goal
 
@@ -42,7 +43,7 @@ laws g = record { more = g.met.S.Sink.more; rises = g.met.S.Sink.rises; stays = 
 pub object-loop-member-preserved : goal.object-loop-member-preserved
 object-loop-member-preserved g t c =
     let i = c.loop-member.member-index in
-    goes-as (goes-entered (laws g) (known-at _ _ c.args.members.now i c.member-item.result c.loop-member.invariant.grows.longer (omega (arith, c.loop-member-test.true)) c.member-item.is) c.loop-member.invariant refl (rw c.as_position.ensures at c.in_ok-field.ensures) c.in_ok-ask.ensures)
+    goes-as (goes-entered (laws g) (known-at _ _ c.args.members.now i c.member-item.result c.loop-member.invariant.grows.longer (omega (arith, c.loop-member-test.true)) c.member-item.is) c.loop-member.invariant refl c.in_ok-field.ensures c.in_ok-ask.ensures)
     (λ k v cov. fields-more (plan_of c.args.self.now.plan.now).definitions c.args.levels c.args.row.now (lookup c.args.self.now.memory.now) c.args.members.now i c.member-item.result v (omega (arith, c.loop-member-test.true)) c.member-item.is)
 
 pub object-returns-then-is_full : goal.object-returns-then-is_full
@@ -96,9 +97,10 @@ follow-returns-in-Row g t c =
     let steps : List StepOf = map step_of c.steps_of-steps.result.now in
     let same = steps-lent c.args.at.now.groups.items _ onward.group steps c.steps_of-steps.ensures c.deref.ensures.value in
     on_ok_weaker c.row_object-in-Row.result
-    (λ p. goes-probed _ (goes-as p (λ lt v cov.
-    ap (λ (q : Program). puts (is_non_null c.args.to.nullability) q R) (after-row _ _ v onward cov lt c.in-Row.row.now)
-    ∙ sym (after-followed _ _ v onward cov lt c.args.left (is_non_null c.args.to.nullability) R steps c.args.row.now c.in_ok-row.field-0 same c.in_ok-row.ensures ∙ ap (followed_puts (is_non_null c.args.to.nullability) R (joined_by _ _ v onward cov lt) steps) c.in-Row.is))))
+    (λ p. goes-as (goes-read c.loads.new.self (laws g) c.loads.ensures (goes-probed _ p)) (λ lt v cov.
+    ap (λ (q : Program). reads c.in_ok-followed.followed.loads ++ puts (is_non_null c.args.to.nullability) q R) (after-row _ _ v onward cov lt c.in-Row.row.now)
+    ∙ sym (after-followed _ _ v onward cov lt c.args.left (is_non_null c.args.to.nullability) R steps c.args.row.now c.in_ok-followed.followed same c.in_ok-followed.ensures
+    ∙ ap (λ (there : ViaRows). reads c.in_ok-followed.followed.loads ++ come_to (is_non_null c.args.to.nullability) R (joined_by _ _ v onward cov lt) steps there) c.in-Row.is)))
     c.row_object-in-Row.ensures
 
 pub follow-returns-in-LeafValue : goal.follow-returns-in-LeafValue
@@ -108,8 +110,9 @@ follow-returns-in-LeafValue g t c =
     let steps : List StepOf = map step_of c.steps_of-steps.result.now in
     let same = steps-lent c.args.at.now.groups.items _ onward.group steps c.steps_of-steps.ensures c.deref.ensures.value in
     on_ok_weaker c.leaf_value.result
-    (λ q. goes-as (goes-put refl (λ k v _. q v)) (λ lt v cov.
-    sym (after-followed _ _ v onward cov lt c.args.left (is_non_null c.args.to.nullability) R steps c.args.row.now c.in_ok-row.field-0 same c.in_ok-row.ensures ∙ ap (followed_puts (is_non_null c.args.to.nullability) R (joined_by _ _ v onward cov lt) steps) c.in-LeafValue.is)))
+    (λ q. goes-as (goes-read c.loads.new.self (laws g) c.loads.ensures (goes-put refl (λ k v _. rw c.in-LeafValue.is at (q v)))) (λ lt v cov.
+    sym (after-followed _ _ v onward cov lt c.args.left (is_non_null c.args.to.nullability) R steps c.args.row.now c.in_ok-followed.followed same c.in_ok-followed.ensures
+    ∙ ap (λ (there : ViaRows). reads c.in_ok-followed.followed.loads ++ come_to (is_non_null c.args.to.nullability) R (joined_by _ _ v onward cov lt) steps there) c.in-LeafValue.is)))
     c.leaf_value.ensures
 
 pub follow-returns-in-Missing : goal.follow-returns-in-Missing
@@ -119,9 +122,10 @@ follow-returns-in-Missing g t c =
     let steps : List StepOf = map step_of c.steps_of-steps.result.now in
     let same = steps-lent c.args.at.now.groups.items _ onward.group steps c.steps_of-steps.ensures c.deref.ensures.value in
     on_ok_weaker c.wait.result
-    (λ q. goes-as (goes-put refl (λ k v le. q v (omega (arith, k, le)))) (λ lt v cov.
-    ap (λ (f : List RowOf → Program). Waits (read_key c.in-Missing.loader (borrowed_of c.in-Missing.key) f) ∷ []) (after-missing _ _ v onward cov lt c.in-Missing.left steps same)
-    ∙ sym (after-followed _ _ v onward cov lt c.args.left (is_non_null c.args.to.nullability) R steps c.args.row.now c.in_ok-row.field-0 same c.in_ok-row.ensures ∙ ap (followed_puts (is_non_null c.args.to.nullability) R (joined_by _ _ v onward cov lt) steps) c.in-Missing.is)))
+    (λ q. goes-as (goes-read c.loads.new.self (laws g) c.loads.ensures (goes-put refl (λ k v le. q v (omega (arith, k, le))))) (λ lt v cov.
+    ap (λ (f : List RowOf → Program). reads c.in_ok-followed.followed.loads ++ Waits (read_key c.in-Missing.loader (borrowed_of c.in-Missing.key) f) ∷ []) (after-missing _ _ v onward cov lt c.in-Missing.left steps same)
+    ∙ sym (after-followed _ _ v onward cov lt c.args.left (is_non_null c.args.to.nullability) R steps c.args.row.now c.in_ok-followed.followed same c.in_ok-followed.ensures
+    ∙ ap (λ (there : ViaRows). reads c.in_ok-followed.followed.loads ++ come_to (is_non_null c.args.to.nullability) R (joined_by _ _ v onward cov lt) steps there) c.in-Missing.is)))
     c.wait.ensures
 
 pub each-loop-number-preserved : goal.each-loop-number-preserved
@@ -189,13 +193,26 @@ read_if-returns-in-Some g t c = rw (c.in-Some.is, ← c.as_key_ref.ensures) c.re
 
 -- ---- loads
 
+pub read-returns-then-knows_nothing : goal.read-returns-then-knows_nothing
+read-returns-then-knows_nothing g t c =
+    let none : lookup c.args.self.now.memory.now (record { loader = c.args.loader; key = borrowed_of c.args.key }) ≡ None = c.knows_nothing.ensures.nothing c.if-knows_nothing.true (borrowed_of c.args.key) in
+    rw none (on_ok_weaker c.wait.result (λ q. goes-read c.loads.new.self (laws g) c.loads.ensures (goes-put refl (λ k v le. q v (omega (arith, k, le))))) c.wait.ensures)
+
+pub read-returns-in-None : goal.read-returns-in-None
+read-returns-in-None g t c =
+    let m : MemoryOf = c.args.self.now.memory.now in
+    let key : KeyOf = borrowed_of c.args.key in
+    let none : lookup m (record { loader = c.args.loader; key = key }) ≡ None =
+    sym (looked-up m c.args.loader key (c.knows_nothing.ensures.there c.if-knows_nothing.false)) ∙ sym c.in_ok-outcome.ensures ∙ ap (λ x. option_map outcome_of (option_copied x)) c.in-None.is in
+    rw none (on_ok_weaker c.wait-in-None.result (λ q. goes-read c.loads.new.self (laws g) c.loads.ensures (goes-put refl (λ k v le. q v (omega (arith, k, le))))) c.wait-in-None.ensures)
+
 pub read-returns-in-Some : goal.read-returns-in-Some
 read-returns-in-Some g t c =
     let m : MemoryOf = c.args.self.now.memory.now in
     let key : KeyOf = borrowed_of c.args.key in
     let known : lookup m (record { loader = c.args.loader; key = key }) ≡ Some (outcome_of c.in-Some.outcome.now) =
     sym (looked-up m c.args.loader key (c.knows_nothing.ensures.there c.if-knows_nothing.false)) ∙ sym c.in_ok-outcome.ensures ∙ ap (λ x. option_map outcome_of (option_copied x)) c.in-Some.is in
-    rw known (on_ok_weaker c.go_on.result (λ p. goes-probed _ p) c.go_on.ensures)
+    rw known (on_ok_weaker c.go_on.result (λ p. goes-read c.loads.new.self (laws g) c.loads.ensures (goes-probed _ p)) c.go_on.ensures)
 
 pub go_on-returns-in-Rows : goal.go_on-returns-in-Rows
 go_on-returns-in-Rows g t c = rw (c.in-Rows.is, ← c.deref.ensures.value) c.rows.ensures

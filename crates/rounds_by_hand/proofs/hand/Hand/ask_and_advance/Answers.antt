@@ -1,6 +1,6 @@
 use Rattle.std.proofs.Common.{List, ap, sym, subst, ◌∙◌}
 use Rattle.load_rounds.specs.ByHand.{front_in}
-use Rattle.load_rounds.specs.Runs.{program_of}
+use Rattle.load_rounds.specs.Runs.{RunOf, program_of}
 use Rattle.load_rounds.specs.Sessions.{state_of}
 use Rattle.load_rounds.specs.Executions.{plans_in}
 use Rattle.load_rounds.specs.SharedRounds.{RequestOf, requests}
@@ -18,7 +18,7 @@ returns-in_err-advance-clause-kept g c =
     let same = rw (← c.self.view_is) at c.ready.ensures.plans in
     let limited = rw (← c.self.view_is) at c.ready.ensures.limits in
     let over = rw (← c.self.view_is) at c.ready.ensures.over in
-    let run = c.in-Some.run' in
+    let run : RunOf g.row.P.Denot g.row.E.Denot = c.deref_mut.result.now in
     let s = state_of c.self.inside.session in
     let now = state_of c.advance.new.session in
     let loaders = then-kept (state_of c.args.self.now.session) s now (rw (← c.self.view_is) at c.ready.ensures.loaders) in
@@ -29,23 +29,23 @@ returns-in_err-advance-clause-kept g c =
 pub returns-in_err-advance-clause-underway : goal.returns-in_err-advance-clause-underway
 returns-in_err-advance-clause-underway g c =
     let X = g.P.Execute in
-    let ready = rw (← c.self.view_is) at (rw c.in-Some.is at c.in_ok-run.ensures.ready) in
+    let ready = rw (← c.self.view_is, ← c.deref_mut.ensures.value) at (rw c.in-Some.is at c.in_ok-run.ensures.ready) in
     let same = rw (← c.self.view_is) at c.ready.ensures.plans in
     let limited = rw (← c.self.view_is) at c.ready.ensures.limits in
     let over = rw (← c.self.view_is) at c.ready.ensures.over in
     let mid : HandOf g.row.S.Denot g.row.P.Denot g.row.E.Denot = record { session = c.self.inside.session; plans = c.self.inside.plans.value.items; limits = c.self.inside.limits; far = far_of c.self.inside.far } in
-    let run = c.in-Some.run' in
+    let run : RunOf g.row.P.Denot g.row.E.Denot = c.deref_mut.result.now in
     rw over (advanced-stops X.program X.text_of X.loaders X.fits g.S.LocalSource.may_tell c.args.self.now mid run c.advance.new.self c.advance.new.session ready same limited c.advance.ensures.kept.plans c.advance.ensures.run)
 
 pub returns-in_err-answers-in-None-clause-underway : goal.returns-in_err-answers-in-None-clause-underway
 returns-in_err-answers-in-None-clause-underway g c =
     let X = g.P.Execute in
-    let ready = rw (← c.self.view_is) at (rw c.in-Some.is at c.in_ok-run.ensures.ready) in
+    let ready = rw (← c.self.view_is, ← c.deref_mut.ensures.value) at (rw c.in-Some.is at c.in_ok-run.ensures.ready) in
     let same = rw (← c.self.view_is) at c.ready.ensures.plans in
     let limited = rw (← c.self.view_is) at c.ready.ensures.limits in
     let over = rw (← c.self.view_is) at c.ready.ensures.over in
     let mid : HandOf g.row.S.Denot g.row.P.Denot g.row.E.Denot = record { session = c.self.inside.session; plans = c.self.inside.plans.value.items; limits = c.self.inside.limits; far = far_of c.self.inside.far } in
-    let run = c.in-Some.run' in
+    let run : RunOf g.row.P.Denot g.row.E.Denot = c.deref_mut.result.now in
     rw over (advanced-stops X.program X.text_of X.loaders X.fits g.S.LocalSource.may_tell c.args.self.now mid run c.advance.new.self c.advance.new.session ready same limited c.advance.ensures.kept.plans c.advance.ensures.run)
 
 pub returns-in_err-pending-in-Some-3-clause-kept : goal.returns-in_err-pending-in-Some-3-clause-kept
@@ -54,7 +54,7 @@ returns-in_err-pending-in-Some-3-clause-kept g c =
     let same = rw (← c.self.view_is) at c.ready.ensures.plans in
     let limited = rw (← c.self.view_is) at c.ready.ensures.limits in
     let over = rw (← c.self.view_is) at c.ready.ensures.over in
-    let run = c.in-Some.run' in
+    let run : RunOf g.row.P.Denot g.row.E.Denot = c.deref_mut.result.now in
     let s = state_of c.self.inside.session in
     let now = state_of c.advance.new.session in
     let loaders = then-kept (state_of c.args.self.now.session) s now (rw (← c.self.view_is) at c.ready.ensures.loaders) in
@@ -66,45 +66,45 @@ returns-in_err-pending-in-Some-3-clause-kept g c =
 pub returns-in_err-pending-in-Some-3-clause-underway : goal.returns-in_err-pending-in-Some-3-clause-underway
 returns-in_err-pending-in-Some-3-clause-underway g c =
     let X = g.P.Execute in
-    let ready = rw (← c.self.view_is) at (rw c.in-Some.is at c.in_ok-run.ensures.ready) in
+    let ready = rw (← c.self.view_is, ← c.deref_mut.ensures.value) at (rw c.in-Some.is at c.in_ok-run.ensures.ready) in
     let same = rw (← c.self.view_is) at c.ready.ensures.plans in
     let limited = rw (← c.self.view_is) at c.ready.ensures.limits in
     let over = rw (← c.self.view_is) at c.ready.ensures.over in
     let mid : HandOf g.row.S.Denot g.row.P.Denot g.row.E.Denot = record { session = c.self.inside.session; plans = c.self.inside.plans.value.items; limits = c.self.inside.limits; far = far_of c.self.inside.far } in
-    let run = c.in-Some.run' in
+    let run : RunOf g.row.P.Denot g.row.E.Denot = c.deref_mut.result.now in
     rw over (advanced-stops X.program X.text_of X.loaders X.fits g.S.LocalSource.may_tell c.args.self.now mid run c.advance.new.self c.advance.new.session ready same limited c.advance.ensures.kept.plans c.advance.ensures.run)
 
 pub returns-in_ok-answers-in-None-clause-underway : goal.returns-in_ok-answers-in-None-clause-underway
 returns-in_ok-answers-in-None-clause-underway g c =
     let X = g.P.Execute in
-    let ready = rw (← c.self.view_is) at (rw c.in-Some.is at c.in_ok-run.ensures.ready) in
+    let ready = rw (← c.self.view_is, ← c.deref_mut.ensures.value) at (rw c.in-Some.is at c.in_ok-run.ensures.ready) in
     let same = rw (← c.self.view_is) at c.ready.ensures.plans in
     let limited = rw (← c.self.view_is) at c.ready.ensures.limits in
     let over = rw (← c.self.view_is) at c.ready.ensures.over in
     let mid : HandOf g.row.S.Denot g.row.P.Denot g.row.E.Denot = record { session = c.self.inside.session; plans = c.self.inside.plans.value.items; limits = c.self.inside.limits; far = far_of c.self.inside.far } in
-    let run = c.in-Some.run' in
+    let run : RunOf g.row.P.Denot g.row.E.Denot = c.deref_mut.result.now in
     rw over (advanced-stops X.program X.text_of X.loaders X.fits g.S.LocalSource.may_tell c.args.self.now mid run c.advance.new.self c.advance.new.session ready same limited c.advance.ensures.kept.plans c.advance.ensures.run)
 
 pub returns-in_ok-answers-in-None-clause-answers : goal.returns-in_ok-answers-in-None-clause-answers
 returns-in_ok-answers-in-None-clause-answers g c =
     let X = g.P.Execute in
-    let ready = rw (← c.self.view_is) at (rw c.in-Some.is at c.in_ok-run.ensures.ready) in
+    let ready = rw (← c.self.view_is, ← c.deref_mut.ensures.value) at (rw c.in-Some.is at c.in_ok-run.ensures.ready) in
     let same = rw (← c.self.view_is) at c.ready.ensures.plans in
     let limited = rw (← c.self.view_is) at c.ready.ensures.limits in
     let mid : HandOf g.row.S.Denot g.row.P.Denot g.row.E.Denot = record { session = c.self.inside.session; plans = c.self.inside.plans.value.items; limits = c.self.inside.limits; far = far_of c.self.inside.far } in
-    let run = c.in-Some.run' in
-    let might = rw c.in_default-2.is at c.in_ok-excess.ensures in
+    let run : RunOf g.row.P.Denot g.row.E.Denot = c.deref_mut.result.now in
+    let might = rw (c.in_default-2.is, c.deref.ensures, ← c.deref_mut.ensures.value) at c.in_ok-excess.ensures in
     let last = rw c.in-None.is at c.in_ok-advance.ensures.next in
-    advanced-tells X.program X.text_of X.loaders X.fits g.S.LocalSource.may_tell c.args.self.now mid run c.advance.new.self c.advance.new.session ready same limited c.advance.ensures.kept.plans c.advance.ensures.run might last c.in_ok-answers-in-None.answers c.in_ok-answers-in-None.ensures
+    advanced-tells X.program X.text_of X.loaders X.fits g.S.LocalSource.may_tell c.args.self.now mid run c.advance.new.self c.advance.new.session ready same limited c.advance.ensures.kept.plans c.advance.ensures.run might last c.in_ok-answers-in-None.answers (rw c.into_inner.ensures at c.in_ok-answers-in-None.ensures)
 
 pub returns-in_ok-pending-in-Some-3-clause-kept : goal.returns-in_ok-pending-in-Some-3-clause-kept
 returns-in_ok-pending-in-Some-3-clause-kept g c =
     let X = g.P.Execute in
-    let ready = rw (← c.self.view_is) at (rw c.in-Some.is at c.in_ok-run.ensures.ready) in
+    let ready = rw (← c.self.view_is, ← c.deref_mut.ensures.value) at (rw c.in-Some.is at c.in_ok-run.ensures.ready) in
     let same = rw (← c.self.view_is) at c.ready.ensures.plans in
     let limited = rw (← c.self.view_is) at c.ready.ensures.limits in
     let mid : HandOf g.row.S.Denot g.row.P.Denot g.row.E.Denot = record { session = c.self.inside.session; plans = c.self.inside.plans.value.items; limits = c.self.inside.limits; far = far_of c.self.inside.far } in
-    let run = c.in-Some.run' in
+    let run : RunOf g.row.P.Denot g.row.E.Denot = c.deref_mut.result.now in
     let orders = c.in-Some-3.orders.items in
     let pending = c.in_ok-pending-in-Some-3.pending.items in
     let each = c.in_ok-pending-in-Some-3.ensures in
@@ -114,7 +114,7 @@ returns-in_ok-pending-in-Some-3-clause-kept g c =
     let asked = rw c.in-Some-3.is at c.in_ok-advance.ensures.next in
     let lost = lost-kept s now (front_in s (program_of X.program X.text_of run)) asked.0.entered in
     let new : HandOf g.row.S.Denot g.row.P.Denot g.row.E.Denot = record { session = c.advance.new.session; plans = c.self.inside.plans.value.items; limits = c.self.inside.limits; far = out c.advance.new.self pending } in
-    let might = rw c.in_default-2.is at c.in_ok-excess.ensures in
+    let might = rw (c.in_default-2.is, c.deref.ensures, ← c.deref_mut.ensures.value) at c.in_ok-excess.ensures in
     let within = round-within X.program X.text_of c.self.inside.plans.value.items run (ready.plans ∙ sym same) c.self.inside.limits s now c.advance.new.self orders might asked.0 asked.1 in
     let round = advanced-holds X.program X.text_of X.loaders X.fits g.S.LocalSource.may_tell c.args.self.now mid run c.advance.new.self c.advance.new.session ready same limited c.advance.ensures.kept.plans c.advance.ensures.run orders pending each asked.2 asked.0 c.advance.ensures.holds in
     keeps-hand X.program X.text_of X.loaders X.fits c.args.self.now new c.requires.enough (loaders lost) same limited round within
@@ -127,11 +127,11 @@ returns-in_ok-pending-in-Some-3-clause-advanced g c =
 pub returns-in_ok-pending-in-Some-3-clause-underway : goal.returns-in_ok-pending-in-Some-3-clause-underway
 returns-in_ok-pending-in-Some-3-clause-underway g c =
     let X = g.P.Execute in
-    let ready = rw (← c.self.view_is) at (rw c.in-Some.is at c.in_ok-run.ensures.ready) in
+    let ready = rw (← c.self.view_is, ← c.deref_mut.ensures.value) at (rw c.in-Some.is at c.in_ok-run.ensures.ready) in
     let same = rw (← c.self.view_is) at c.ready.ensures.plans in
     let limited = rw (← c.self.view_is) at c.ready.ensures.limits in
     let mid : HandOf g.row.S.Denot g.row.P.Denot g.row.E.Denot = record { session = c.self.inside.session; plans = c.self.inside.plans.value.items; limits = c.self.inside.limits; far = far_of c.self.inside.far } in
-    let run = c.in-Some.run' in
+    let run : RunOf g.row.P.Denot g.row.E.Denot = c.deref_mut.result.now in
     let orders = c.in-Some-3.orders.items in
     let pending = c.in_ok-pending-in-Some-3.pending.items in
     let each = c.in_ok-pending-in-Some-3.ensures in
@@ -143,31 +143,31 @@ pub returns-in_err-excess-clause-underway : goal.returns-in_err-excess-clause-un
 returns-in_err-excess-clause-underway g c =
     let X = g.P.Execute in
     let ready = rw c.in-Some.is at c.in_ok-run.ensures.ready in
-    rw c.ready.ensures.over (refused-stops X.program X.text_of X.loaders X.fits g.S.LocalSource.may_tell c.args.self.now c.ready.new.self c.in-Some.run' ready c.ready.ensures.plans c.ready.ensures.limits)
+    rw c.ready.ensures.over (refused-stops X.program X.text_of X.loaders X.fits g.S.LocalSource.may_tell c.args.self.now c.ready.new.self c.in-Some.run'.value ready c.ready.ensures.plans c.ready.ensures.limits)
 
 pub returns-in-Some-2-clause-underway : goal.returns-in-Some-2-clause-underway
 returns-in-Some-2-clause-underway g c =
     let X = g.P.Execute in
     let ready = rw c.in-Some.is at c.in_ok-run.ensures.ready in
-    rw c.ready.ensures.over (refused-stops X.program X.text_of X.loaders X.fits g.S.LocalSource.may_tell c.args.self.now c.ready.new.self c.in-Some.run' ready c.ready.ensures.plans c.ready.ensures.limits)
+    rw c.ready.ensures.over (refused-stops X.program X.text_of X.loaders X.fits g.S.LocalSource.may_tell c.args.self.now c.ready.new.self c.in-Some.run'.value ready c.ready.ensures.plans c.ready.ensures.limits)
 
 pub returns-in-Some-2-clause-refused : goal.returns-in-Some-2-clause-refused
 returns-in-Some-2-clause-refused g c =
     let X = g.P.Execute in
     let ready = rw c.in-Some.is at c.in_ok-run.ensures.ready in
-    let run = c.in-Some.run' in
+    let run = c.in-Some.run'.value in
     let rs : List RequestOf = requests X.program X.text_of (plans_in run.parts) in
-    let told = rw c.in-Some-2.is at c.in_ok-excess.ensures in
+    let told = rw (c.in-Some-2.is, c.deref.ensures) at c.in_ok-excess.ensures in
     let here = subst (λ (h : HandOf g.row.S.Denot g.row.P.Denot g.row.E.Denot). AreOver h.limits rs (state_of h.session) run.rounds c.in-Some-2.excess) c.self.view_is told in
     let exceeds = subst (λ e. AreOver c.ready.new.self.limits rs (state_of c.ready.new.self.session) run.rounds e) (sym (ap (λ (o : Overrun). o.excess) c.overrun.ensures)) here in
-    refuses X.program X.text_of X.loaders X.fits g.S.LocalSource.may_tell c.args.self.now c.ready.new.self run ready c.ready.ensures.plans c.ready.ensures.limits c.overrun.result (ap (λ (o : Overrun). o.rounds) c.overrun.ensures) exceeds c.in_ok-run.ensures.stored
+    refuses X.program X.text_of X.loaders X.fits g.S.LocalSource.may_tell c.args.self.now c.ready.new.self run ready c.ready.ensures.plans c.ready.ensures.limits c.overrun.result (ap (λ (o : Overrun). o.rounds) c.overrun.ensures ∙ ap (λ (r : RunOf g.row.P.Denot g.row.E.Denot). r.rounds) c.deref-in-Some-2.ensures) exceeds c.in_ok-run.ensures.stored
 
 pub returns-in_ok-pending-in-Some-3-clause-within : goal.returns-in_ok-pending-in-Some-3-clause-within
 returns-in_ok-pending-in-Some-3-clause-within g c =
     let X = g.P.Execute in
-    let ready = rw (← c.self.view_is) at (rw c.in-Some.is at c.in_ok-run.ensures.ready) in
+    let ready = rw (← c.self.view_is, ← c.deref_mut.ensures.value) at (rw c.in-Some.is at c.in_ok-run.ensures.ready) in
     let same = rw (← c.self.view_is) at c.ready.ensures.plans in
-    let run = c.in-Some.run' in
+    let run : RunOf g.row.P.Denot g.row.E.Denot = c.deref_mut.result.now in
     let asked = rw c.in-Some-3.is at c.in_ok-advance.ensures.next in
-    let might = rw c.in_default-2.is at c.in_ok-excess.ensures in
+    let might = rw (c.in_default-2.is, c.deref.ensures, ← c.deref_mut.ensures.value) at c.in_ok-excess.ensures in
     round-within X.program X.text_of c.self.inside.plans.value.items run (ready.plans ∙ sym same) c.self.inside.limits (state_of c.self.inside.session) (state_of c.advance.new.session) c.advance.new.self c.in-Some-3.orders.items might asked.0 asked.1

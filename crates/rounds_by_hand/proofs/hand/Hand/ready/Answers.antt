@@ -2,7 +2,9 @@ use Rattle.std.proofs.Common.{◌∙◌, sym, ap, subst, refl}
 use Rattle.execution.specs.Sessions.{Forgot}
 use Rattle.load_rounds.specs.Sessions.{state_of, after_step}
 use Rattle.load_rounds.specs.Executions.{plans_in}
-use Rattle.load_rounds.specs.Runs.{RunOf, IsRun}
+use Rattle.load_rounds.specs.ByHand.{RunsAsked}
+use Rattle.load_rounds.specs.Runs.{RunOf, IsRun, program_of}
+use Rattle.load_rounds.specs.declared.rounds.Stage.TheVariants.{Ready}
 use Rattle.load_rounds.specs.SharedRounds.{requests, joint}
 use Rattle.load_rounds.specs.Limits.{AreAskedInTime, IsWithin}
 use Rattle.load_rounds.proofs.Stages.{forgot-stops, stopped-all}
@@ -11,10 +13,17 @@ use Rattle.rounds_by_hand.proofs.Far.{forgot-kept, same-kept}
 use Rattle.rounds_by_hand.proofs.Within.{stored-in-time}
 use Rattle.rounds_by_hand.proofs.hand.Hand.ready.Goals as goal
 
-pub returns-in_err-begin_all-in-Handed-clause-stopped : goal.returns-in_err-begin_all-in-Handed-clause-stopped
-returns-in_err-begin_all-in-Handed-clause-stopped g c =
+pub returns-in_err-run-in-Handed-clause-stopped : goal.returns-in_err-run-in-Handed-clause-stopped
+returns-in_err-run-in-Handed-clause-stopped g c =
     let p = joint g.P.Execute.program g.P.Execute.text_of c.self.inside.plans.value.items in
     rw c.replace.ensures.after (on-err c.from_residual.result (λ begun h.
+    let own = rw (sym c.replace.ensures.value ∙ c.in-Handed.is) at (rw (← c.self.view_is) at h) in
+    forgot-stops g.S.LocalSource.may_tell p (state_of begun) (state_of c.begin_all.new.self) (c.begin_all.ensures.forgot ∙ ap (λ s. after_step (state_of s) Forgot) own)))
+
+pub returns-in_err-new-in-Handed-clause-stopped : goal.returns-in_err-new-in-Handed-clause-stopped
+returns-in_err-new-in-Handed-clause-stopped g c =
+    let p = joint g.P.Execute.program g.P.Execute.text_of c.self.inside.plans.value.items in
+    rw c.replace.ensures.after (on-err c.from_residual-in_err-new-in-Handed.result (λ begun h.
     let own = rw (sym c.replace.ensures.value ∙ c.in-Handed.is) at (rw (← c.self.view_is) at h) in
     forgot-stops g.S.LocalSource.may_tell p (state_of begun) (state_of c.begin_all.new.self) (c.begin_all.ensures.forgot ∙ ap (λ s. after_step (state_of s) Forgot) own)))
 
@@ -22,7 +31,7 @@ pub returns-in_err-store-in-Out-clause-stopped : goal.returns-in_err-store-in-Ou
 returns-in_err-store-in-Out-clause-stopped g c =
     let X = g.P.Execute in
     let may = g.S.LocalSource.may_tell in
-    let run = c.in-Out.run' in
+    let run = c.in-Out.run'.value in
     rw c.replace.ensures.after (on-err c.from_residual-in_err-store-in-Out.result (λ begun h.
     let gone = rw (sym c.replace.ensures.value ∙ c.in-Out.is) at (rw (← c.self.view_is) at h) in
     stopped-all X.program X.text_of X.loaders X.fits may (state_of begun) (state_of c.store.new.session) c.self.inside.plans.value.items run gone.0
@@ -30,24 +39,31 @@ returns-in_err-store-in-Out-clause-stopped g c =
 
 pub returns-in_ok-store-in-Out-clause-ready : goal.returns-in_ok-store-in-Out-clause-ready
 returns-in_ok-store-in-Out-clause-ready g c =
+    let X = g.P.Execute in
+    let may = g.S.LocalSource.may_tell in
     let value = sym c.replace.ensures.value ∙ c.in-Out.is in
     let round = rw value at (rw (← c.self.view_is) at c.requires.round) in
     let within = rw value at (rw (← c.self.view_is) at c.requires.within) in
-    let ready = c.in_ok-store-in-Out.ensures.ready in
-    let X = g.P.Execute in
-    let may = g.S.LocalSource.may_tell in
-    let rounds = ap (λ (r : RunOf _ _). r.rounds) ready in
+    let run : RunOf g.row.P.Denot g.row.E.Denot = c.in-Out.run'.value in
+    let same = c.deref_mut.ensures.value in
+    let ready = c.in_ok-store-in-Out.ensures.ready ∙ ap (λ (r : RunOf g.row.P.Denot g.row.E.Denot). record r { stage = Ready }) same in
+    let rounds = ap (λ (r : RunOf g.row.P.Denot g.row.E.Denot). r.rounds) ready in
+    let old = state_of c.self.inside.session in
+    let now = state_of c.store.new.session in
     rw (← c.self.view_is) (record {
       left = rw value (λ e. absurd (cc e));
-      stage = ap (λ (r : RunOf _ _). r.stage) ready;
-      plans = ap (λ (r : RunOf _ _). plans_in r.parts) ready ∙ round.0;
+      stage = ap (λ (r : RunOf g.row.P.Denot g.row.E.Denot). r.stage) ready;
+      plans = ap (λ (r : RunOf g.row.P.Denot g.row.E.Denot). plans_in r.parts) ready ∙ round.0;
       holds = c.in_ok-store-in-Out.ensures.holds;
-      went = λ begun h. let gone = rw value at h in c.in_ok-store-in-Out.ensures.ran gone.2 (state_of begun) gone.1;
+      went = λ begun h.
+          let gone = rw value at h in
+          c.in_ok-store-in-Out.ensures.ran gone.2 (state_of begun) (subst (λ (r : RunOf g.row.P.Denot g.row.E.Denot). IsRun X.program X.text_of may (state_of begun) old r) (sym same) gone.1);
       in_time = λ begun h.
           let gone = rw value at h in
           let away = rw round.1.stage at gone.1 in
-          subst (λ n. AreAskedInTime may (state_of begun) (state_of c.store.new.session) c.self.inside.limits (requests X.program X.text_of c.self.inside.plans.value.items) n) (sym rounds)
-          (stored-in-time X.program X.text_of c.self.inside.plans.value.items c.in-Out.run' round.0 c.self.inside.limits may (state_of begun) (state_of c.self.inside.session) (state_of c.store.new.session) within away (c.in_ok-store-in-Out.ensures.in_one gone.2));
+          let ran = subst (λ (r : RunOf g.row.P.Denot g.row.E.Denot). RunsAsked may (program_of X.program X.text_of r) old now) same (c.in_ok-store-in-Out.ensures.in_one gone.2) in
+          subst (λ n. AreAskedInTime may (state_of begun) now c.self.inside.limits (requests X.program X.text_of c.self.inside.plans.value.items) n) (sym rounds)
+          (stored-in-time X.program X.text_of c.self.inside.plans.value.items run round.0 c.self.inside.limits may (state_of begun) old now within away ran);
       within = subst (IsWithin c.self.inside.limits.rounds) (sym rounds) within.rounds;
     })
 
@@ -58,10 +74,14 @@ returns-in-Over-clause-loaders g c =
     let s = state_of c.self.inside.session in
     rw (← c.self.view_is) (same-kept s s refl)
 
-pub returns-in_err-begin_all-in-Handed-clause-loaders : goal.returns-in_err-begin_all-in-Handed-clause-loaders
-returns-in_err-begin_all-in-Handed-clause-loaders g c =
+pub returns-in_err-run-in-Handed-clause-loaders : goal.returns-in_err-run-in-Handed-clause-loaders
+returns-in_err-run-in-Handed-clause-loaders g c =
     rw (← c.self.view_is) (forgot-kept (state_of c.self.inside.session) (state_of c.begin_all.new.self) c.begin_all.ensures.forgot)
 
-pub returns-in_ok-begin_all-in-Handed-clause-loaders : goal.returns-in_ok-begin_all-in-Handed-clause-loaders
-returns-in_ok-begin_all-in-Handed-clause-loaders g c =
+pub returns-in_err-new-in-Handed-clause-loaders : goal.returns-in_err-new-in-Handed-clause-loaders
+returns-in_err-new-in-Handed-clause-loaders g c =
+    rw (← c.self.view_is) (forgot-kept (state_of c.self.inside.session) (state_of c.begin_all.new.self) c.begin_all.ensures.forgot)
+
+pub returns-in_ok-new-in-Handed-clause-loaders : goal.returns-in_ok-new-in-Handed-clause-loaders
+returns-in_ok-new-in-Handed-clause-loaders g c =
     rw (← c.self.view_is) (forgot-kept (state_of c.self.inside.session) (state_of c.begin_all.new.self) c.begin_all.ensures.forgot)

@@ -11,7 +11,7 @@ returns-in-Ok-clause-kept g c =
     record {
       holds = record {
         enough = enough;
-        round = (round.0, taken-with g.P.Execute.program g.P.Execute.text_of (state_of c.self.inside.session) c.in-Out.field-0 c.in-Out.pending.items c.args.number c.args.reply c.take_reply.new.pending.items c.in-Ok.ensures.taken round.1, round.2);
+        round = (round.0, taken-with g.P.Execute.program g.P.Execute.text_of (state_of c.self.inside.session) c.in-Out.field-0.value c.in-Out.pending.items c.args.number c.args.reply c.take_reply.new.pending.items c.in-Ok.ensures.taken round.1, round.2);
         within = rw c.in-Out.is at (rw (← c.self.view_is) at c.requires.within);
       };
       plans = rw (← c.self.view_is) refl;
@@ -24,9 +24,9 @@ returns-in-Ok-clause-underway g c =
     let round = rw c.in-Out.is at (rw (← c.self.view_is) at c.requires.round) in
     let t = c.in-Ok.ensures.taken in
     rw (← c.self.view_is, c.in-Out.is, t.was)
-    (λ can begun h. (h.0, h.1, taken-told g.P.Execute.program g.P.Execute.text_of g.S.LocalSource.may_tell (state_of c.self.inside.session) c.in-Out.field-0 c.in-Out.pending.items c.args.number c.args.reply c.take_reply.new.pending.items t round.1 can h.2))
+    (λ can begun h. (h.0, h.1, taken-told g.P.Execute.program g.P.Execute.text_of g.S.LocalSource.may_tell (state_of c.self.inside.session) c.in-Out.field-0.value c.in-Out.pending.items c.args.number c.args.reply c.take_reply.new.pending.items t round.1 can h.2))
 
 pub returns-in-Err-NoMemory-clause-stopped : goal.returns-in-Err-NoMemory-clause-stopped
 returns-in-Err-NoMemory-clause-stopped g c = λ begun h.
     let own = rw c.in-Out.is at (rw (← c.self.view_is) at h) in
-    stopped-all g.P.Execute.program g.P.Execute.text_of g.P.Execute.loaders g.P.Execute.fits g.S.LocalSource.may_tell (state_of begun) (state_of c.self.inside.session) c.self.inside.plans.value.items c.in-Out.field-0 own.0 own.1
+    stopped-all g.P.Execute.program g.P.Execute.text_of g.P.Execute.loaders g.P.Execute.fits g.S.LocalSource.may_tell (state_of begun) (state_of c.self.inside.session) c.self.inside.plans.value.items c.in-Out.field-0.value own.0 own.1

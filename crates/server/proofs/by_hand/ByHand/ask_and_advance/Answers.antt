@@ -4,9 +4,9 @@ use Rattle.std.specs.Prelude.{IfOk}
 use Rattle.load_rounds.specs.SharedRounds.{report_of}
 use Rattle.load_rounds.specs.declared.answer.Answer.{Answer}
 use Rattle.rounds_by_hand.specs.declared.progress.Progress.TheVariants.{Done}
-use Rattle.server.specs.Hands.{GoesOn, Responds, planned_of, refusals_in}
+use Rattle.server.specs.Hands.{Responds, planned_of, refusals_in}
 use Rattle.server.specs.Planned.{IsResponseOf}
-use Rattle.server.proofs.Handing.{goes, held, holds-on, overrun-responds, refusal-responds, responds, told}
+use Rattle.server.proofs.Handing.{goes-on, held, holds-on, overrun-responds, refusal-responds, responds, told}
 use Rattle.server.proofs.by_hand.ByHand.ask_and_advance.Goals as goal
 
 pub returns-then-self-clause-answered : goal.returns-then-self-clause-answered
@@ -24,35 +24,23 @@ invariant_of-self g c = holds-on c.self.inside.queries c.self.inside.max_answer 
 
 pub returns-in_err-overrun-in-Err-Over-clause-underway : goal.returns-in_err-overrun-in-Err-Over-clause-underway
 returns-in_err-overrun-in-Err-Over-clause-underway g c =
-    let hand = c.self.inside.hand in
-    let planned = planned_of c.self.inside.form c.self.inside.loaders hand.plans in
-    let e = c.ask_and_advance.ensures in
-    rw (← c.self.view_is) (told c.self.inside.queries c.self.inside.max_answer c.self.inside.limits c.self.inside.form c.self.inside.loaders hand c.ask_and_advance.new.self (GoesOn g.S.LocalSource.may_tell (held c.self.inside.queries c.self.inside.max_answer c.self.inside.limits planned hand)) e.kept.plans
-    (goes c.self.inside.queries c.self.inside.max_answer c.self.inside.limits planned g.S.LocalSource.may_tell hand c.ask_and_advance.new.self refl e.kept.plans e.underway))
+    rw (← c.self.view_is)
+    (goes-on c.self.inside.queries c.self.inside.max_answer c.self.inside.limits c.self.inside.form c.self.inside.loaders g.S.LocalSource.may_tell c.self.inside.hand c.ask_and_advance.new.self c.ask_and_advance.ensures.kept.plans c.ask_and_advance.ensures.underway)
 
 pub returns-in-Err-Over-clause-underway : goal.returns-in-Err-Over-clause-underway
 returns-in-Err-Over-clause-underway g c =
-    let hand = c.self.inside.hand in
-    let planned = planned_of c.self.inside.form c.self.inside.loaders hand.plans in
-    let e = c.ask_and_advance.ensures in
-    rw (← c.self.view_is) (told c.self.inside.queries c.self.inside.max_answer c.self.inside.limits c.self.inside.form c.self.inside.loaders hand c.ask_and_advance.new.self (GoesOn g.S.LocalSource.may_tell (held c.self.inside.queries c.self.inside.max_answer c.self.inside.limits planned hand)) e.kept.plans
-    (goes c.self.inside.queries c.self.inside.max_answer c.self.inside.limits planned g.S.LocalSource.may_tell hand c.ask_and_advance.new.self refl e.kept.plans e.underway))
+    rw (← c.self.view_is)
+    (goes-on c.self.inside.queries c.self.inside.max_answer c.self.inside.limits c.self.inside.form c.self.inside.loaders g.S.LocalSource.may_tell c.self.inside.hand c.ask_and_advance.new.self c.ask_and_advance.ensures.kept.plans c.ask_and_advance.ensures.underway)
 
 pub returns-in-Err-NoMemory-clause-underway : goal.returns-in-Err-NoMemory-clause-underway
 returns-in-Err-NoMemory-clause-underway g c =
-    let hand = c.self.inside.hand in
-    let planned = planned_of c.self.inside.form c.self.inside.loaders hand.plans in
-    let e = c.ask_and_advance.ensures in
-    rw (← c.self.view_is) (told c.self.inside.queries c.self.inside.max_answer c.self.inside.limits c.self.inside.form c.self.inside.loaders hand c.ask_and_advance.new.self (GoesOn g.S.LocalSource.may_tell (held c.self.inside.queries c.self.inside.max_answer c.self.inside.limits planned hand)) e.kept.plans
-    (goes c.self.inside.queries c.self.inside.max_answer c.self.inside.limits planned g.S.LocalSource.may_tell hand c.ask_and_advance.new.self refl e.kept.plans e.underway))
+    rw (← c.self.view_is)
+    (goes-on c.self.inside.queries c.self.inside.max_answer c.self.inside.limits c.self.inside.form c.self.inside.loaders g.S.LocalSource.may_tell c.self.inside.hand c.ask_and_advance.new.self c.ask_and_advance.ensures.kept.plans c.ask_and_advance.ensures.underway)
 
 pub returns-clause-underway : goal.returns-clause-underway
 returns-clause-underway g c =
-    let hand = c.self.inside.hand in
-    let planned = planned_of c.self.inside.form c.self.inside.loaders hand.plans in
-    let e = c.ask_and_advance.ensures in
-    rw (← c.self.view_is) (told c.self.inside.queries c.self.inside.max_answer c.self.inside.limits c.self.inside.form c.self.inside.loaders hand c.ask_and_advance.new.self (GoesOn g.S.LocalSource.may_tell (held c.self.inside.queries c.self.inside.max_answer c.self.inside.limits planned hand)) e.kept.plans
-    (goes c.self.inside.queries c.self.inside.max_answer c.self.inside.limits planned g.S.LocalSource.may_tell hand c.ask_and_advance.new.self refl e.kept.plans e.underway))
+    rw (← c.self.view_is)
+    (goes-on c.self.inside.queries c.self.inside.max_answer c.self.inside.limits c.self.inside.form c.self.inside.loaders g.S.LocalSource.may_tell c.self.inside.hand c.ask_and_advance.new.self c.ask_and_advance.ensures.kept.plans c.ask_and_advance.ensures.underway)
 
 pub returns-in-Err-Over-clause-answered : goal.returns-in-Err-Over-clause-answered
 returns-in-Err-Over-clause-answered g c =

@@ -1,10 +1,10 @@
 use Rattle.std.proofs.Common.{List, refl, subst, sym}
-use Rattle.std.specs.Prelude.{IfSome, OnErr, OnOk, slice_get}
+use Rattle.std.specs.Prelude.{IfSome, OnOk, slice_get}
 use Rattle.std.proofs.lemmas.Result.{on_err_weaker}
 use Rattle.gq_resolve.specs.PreparedPlans.{LimitedPlanOf}
 use Rattle.rounds_by_hand.specs.Hands.{pending_in}
-use Rattle.server.specs.Hands.{GoesOn, GoesOnIfMay, planned_of}
-use Rattle.server.proofs.Handing.{goes, goes-if-may, held}
+use Rattle.server.specs.Hands.{GoesOnIfMay, planned_of}
+use Rattle.server.proofs.Handing.{goes-if-may, goes-on, held}
 use Rattle.server.proofs.by_hand.ByHand.reply.Goals as goal
 
 pub returns-clause-underway : goal.returns-clause-underway
@@ -19,10 +19,7 @@ returns-clause-underway g c =
 
 pub returns-clause-stopped : goal.returns-clause-stopped
 returns-clause-stopped g c =
-    let hand = c.self.inside.hand in
-    let form = c.self.inside.form in
-    let planned = planned_of form c.self.inside.loaders hand.plans in
-    let went = on_err_weaker c.reply.result (λ went. goes c.self.inside.queries c.self.inside.max_answer c.self.inside.limits planned g.S.LocalSource.may_tell hand c.reply.new.self refl c.reply.ensures.kept.plans went) c.reply.ensures.stopped in
     rw (← c.self.view_is)
-    (subst (λ (ps : List LimitedPlanOf). OnErr c.reply.result (GoesOn g.S.LocalSource.may_tell (held c.self.inside.queries c.self.inside.max_answer c.self.inside.limits planned hand) (held c.self.inside.queries c.self.inside.max_answer c.self.inside.limits (planned_of form c.self.inside.loaders ps) c.reply.new.self)))
-    (sym c.reply.ensures.kept.plans) went)
+    (on_err_weaker c.reply.result
+    (goes-on c.self.inside.queries c.self.inside.max_answer c.self.inside.limits c.self.inside.form c.self.inside.loaders g.S.LocalSource.may_tell c.self.inside.hand c.reply.new.self c.reply.ensures.kept.plans)
+    c.reply.ensures.stopped)
