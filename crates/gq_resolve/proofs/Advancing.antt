@@ -1,36 +1,28 @@
 -- Lemmas on how far an execution comes: what waits is what the plan still asks.
 use Rattle.std.specs.Arc.{arc_value}
-use Rattle.std.proofs.Common.{◌≡◌, ◌≢◌, ℕ, ◌<◌, ◌+◌, true, false, List, [], ◌∷◌, ◌++◌, Vec, Global, length, refl, sym, ap, subst, ◌∙◌, arith, append_assoc, append-nil, length-append, codes}
-use Rattle.std.specs.List.{flat_map, sum_by}
-use Rattle.std.proofs.lemmas.Bool.{and_parts}
+use Rattle.std.proofs.Common.{◌≡◌, ◌≢◌, ℕ, ◌<◌, false, List, [], ◌∷◌, ◌++◌, Vec, Global, length, refl, sym, ap, subst, ◌∙◌, arith, append_assoc, append-nil, length-append}
+use Rattle.std.specs.List.{flat_map}
 use Rattle.std.proofs.lemmas.Grind.{flat_map-append}
 use Rattle.std.proofs.lemmas.List.{flat_map_more}
-use Rattle.std.proofs.lemmas.List.Folds.{list_all-append}
-use Rattle.std.proofs.lemmas.List.Sums.{sum_by-append}
 use Rattle.std.proofs.Math.Seq.{get_or-append_seam}
-use Rattle.json.specs.Token.{begin_object, end_object, key}
-use Rattle.json.specs.Json.{object, member, no_members}
-use Rattle.json.specs.Tree.{json_tokens}
 use Rattle.load_memory.specs.Keys.{KeyOf, key_of}
 use Rattle.load_memory.specs.Pairs.{MemoryOf}
 use Rattle.execution.specs.Loads.{Load, Reader, AnswersMore}
-use Rattle.execution.specs.Program.{ObjectOf, Key, FieldPosition, Program, Under, Programs, Tree, tree}
-use Rattle.execution.specs.Completion.{ErrorOf, top_position}
-use Rattle.execution.specs.Executed.{response, completed}
-use Rattle.execution.specs.Reads.{count_read, counted}
+use Rattle.execution.specs.Program.{ObjectOf, Program, Under, Programs}
+use Rattle.execution.specs.Reads.{counted}
 use Rattle.execution.specs.Residual.{unanswered}
 use Rattle.execution.proofs.Fitting.{more-self}
 use Rattle.gq_check.specs.Plans.{PlanOf}
 use Rattle.plan_program.specs.PlanPrograms.{read_key, root_prepared, plan_program, asked_program, object_program, fields_of, most_levels}
-use Rattle.gq_resolve.specs.Answered.{json_of, errors_before, answered_json}
 use Rattle.plan_walk.specs.Groups.{AreKnown, members_seen, Makes, AreMade, AreRight, Grows, view_of}
-use Rattle.plan_walk.specs.Puts.{Put, Begins, Ends, Enters, View, puts}
+use Rattle.plan_walk.specs.Puts.{Put, View, puts}
 use Rattle.plan_walk.specs.Positions.{onward_of}
 use Rattle.plan_walk.specs.Reading.{lookup}
 use Rattle.gq_resolve.specs.Suspended.{IsRooted, MayGoOn, load_of, loads_of, GoesOver, Searched, Advanced}
 use Rattle.plan_walk.specs.Walks.{Goes}
 use Rattle.gq_resolve.specs.Composing.{puts-more, within-rises, asks-narrow}
-use Rattle.gq_resolve.specs.Written.{is_plain, put_tokens, put_reads, asks, put_asks, thinned, left_of, all_asks, AreWithin, IsWithin, IsWriting, Puts}
+use Rattle.gq_resolve.specs.Written.{asks, put_asks, thinned, left_of, all_asks, AreWithin}
+use Rattle.gq_resolve.specs.Outputs.{IsWithin, Puts}
 use Rattle.plan_walk.specs.declared.loading_fields.LoadingField.{LoadingField}
 use Rattle.plan_walk.specs.declared.loading_fields.Member.{Member}
 use Rattle.plan_walk.specs.declared.waiting.BlockedPosition.{BlockedPosition}
@@ -40,7 +32,10 @@ use Rattle.gq_resolve.specs.declared.advance.FinishedWalk.{FinishedWalk}
 use Rattle.plan_walk.specs.declared.walk.Progress.{Progress}
 use Rattle.plan_walk.proofs.Grouping.{covers-view, makes-more}
 use Rattle.plan_walk.proofs.Touring.{Putting, Below, Laws, goes-then, goes-as}
-use Rattle.gq_resolve.proofs.Putting.{puts_ask, puts_tokens, asks-puts, waits-puts, puts-read, IsPlain, plain-puts}
+use Rattle.gq_resolve.specs.AnswerTexts.{IsTextOf}
+use Rattle.gq_resolve.proofs.Numbering.{numbered-plan}
+use Rattle.gq_resolve.proofs.ReadingBack.{puts-order}
+use Rattle.gq_resolve.proofs.Putting.{puts_ask, asks-puts, waits-puts, puts-read}
 
 -- ---- roots
 
@@ -96,60 +91,10 @@ left-over plan m r ps a b rooted none put later now =
     }
 
 -- something waits after a search
-pub still-waits : (plan : PlanOf) (m : MemoryOf) (w : FinishedWalk Output) → w.out.blocked ≢ [] → Searched plan m w → Advanced plan m w
-still-waits plan m w some s = record { searched = s; loads = λ none. absurd (some none); written = λ writing. absurd (some writing.whole) }
+pub still-waits : (plan : PlanOf) (m : MemoryOf) (most : ℕ) (w : FinishedWalk Output) → w.out.blocked ≢ [] → Searched plan m w → Advanced plan m most w
+still-waits plan m most w some s = record { searched = s; loads = λ none. absurd (some none); written = λ none. absurd (some none) }
 
 -- ---- from the root
-
--- the answer is an object with the member `data`
-abbrev pub data_position : FieldPosition
-data_position = record { part = Key (codes "data"); non_null = false; place = record { line = 1; column = 1 } }
-
--- gives what is put of the whole answer
-abbrev answer_puts : PlanOf → MemoryOf → List Put
-answer_puts plan m = Begins ObjectOf ∷ Enters ObjectOf data_position ∷ (puts false (plan_program plan) (lookup m) ++ Ends ObjectOf ∷ [])
-
-answer-asks : (plan : PlanOf) (m : MemoryOf) (Q : Reader) → puts_ask Q (answer_puts plan m) ≡ puts_ask Q (puts false (plan_program plan) (lookup m))
-answer-asks plan m Q = flat_map-append (put_asks Q) (puts false (plan_program plan) (lookup m)) (Ends ObjectOf ∷ []) ∙ append-nil (puts_ask Q (puts false (plan_program plan) (lookup m)))
-
--- the loads of an answer were counted
-answer-reads : (plan : PlanOf) (m : MemoryOf) (v : View) (a b : Output) → a.loads ≡ 0 → Puts v (answer_puts plan m) a b → counted b.loads ≡ counted (count_read (plan_program plan) (lookup m))
-answer-reads plan m v a b none put =
-    let inner : List Put = puts false (plan_program plan) (lookup m) in
-    let all : sum_by put_reads (answer_puts plan m) ≡ count_read (plan_program plan) (lookup m) + 0 =
-    sum_by-append put_reads inner (Ends ObjectOf ∷ []) ∙ ap (λ n. n + 0) (puts-read false (plan_program plan) (lookup m)) in
-    put.loads ∙ ap counted (omega (arith, none, all))
-
--- the tokens of an answer that was written
-answer-tokens : (plan : PlanOf) (m : MemoryOf) (v : View) (a b : Output) → a.writer.tokens ≡ [] → Puts v (answer_puts plan m) a b → IsWriting b → b.writer.tokens ≡ json_tokens (answered_json (completed (tree (plan_program plan) (lookup m))))
-answer-tokens plan m v a b none put writing =
-    let t : Tree = tree (plan_program plan) (lookup m) in
-    let inner : List Put = puts false (plan_program plan) (lookup m) in
-    let w = put.written writing in
-    let parts = and_parts _ _ (sym (list_all-append is_plain inner (Ends ObjectOf ∷ [])) ∙ w.1) in
-    let here : IsPlain false t (puts_tokens inner) = plain-puts false (plan_program plan) (lookup m) parts.0 in
-    w.2 ∙ ap (λ ts. ts ++ puts_tokens (answer_puts plan m)) none
-    ∙ ap (λ ts. begin_object ∷ key (codes "data") ∷ ts) (flat_map-append put_tokens inner (Ends ObjectOf ∷ []))
-    ∙ sym (ap (λ (es : List ErrorOf). json_tokens (object (errors_before es (member (codes "data") (json_of (response t)) no_members)))) (here.errors (top_position t).place [])
-    ∙ ap (λ ts. begin_object ∷ key (codes "data") ∷ (ts ++ end_object ∷ [])) here.tokens)
-
--- the whole answer was put, one thing after another
-pub answer-written : (plan : PlanOf) (m : MemoryOf) (old : RootObject) (w : FinishedWalk Output) (a b c d : Output) → a.blocked ≡ [] → a.writer.tokens ≡ [] → a.loads ≡ 0 → ((v : View) → Puts v (Begins ObjectOf ∷ []) a b) → ((v : View) → Puts v (Enters ObjectOf data_position ∷ []) b c)
-    → (IsWithin (length old.groups.items) c → GoesOver Puts plan m c w) → ((v : View) → Puts v (Ends ObjectOf ∷ []) w.out d) → Advanced plan m (record { rooted = w.rooted; out = d })
-answer-written plan m old w a b c d none empty zero begun entered over ended =
-    let v : View = view_of plan w.rooted.groups.items in
-    let at : View = view_of plan old.groups.items in
-    let over' : GoesOver Puts plan m c w = over ((entered at).within ((begun at).within (subst (AreWithin at.count) (sym none) (λ k d lt. absurd (omega (arith, lt)))))) in
-    let inner : List Put = puts false (plan_program plan) (lookup m) in
-    let put : Puts v (answer_puts plan m) a d =
-    puts-more v (Begins ObjectOf ∷ []) (Enters ObjectOf data_position ∷ (inner ++ Ends ObjectOf ∷ [])) a b d (begun v)
-    (puts-more v (Enters ObjectOf data_position ∷ []) (inner ++ Ends ObjectOf ∷ []) b c d (entered v) (puts-more v inner (Ends ObjectOf ∷ []) c w.out d over'.put (ended v))) in
-    record {
-      searched = left-over plan m w.rooted (answer_puts plan m) a d over'.rooted none put (λ Q more. ap (thinned []) (answer-asks plan m Q ∙ asks-puts false (plan_program plan) (lookup m) Q more))
-          (ap (thinned []) (answer-asks plan m unanswered ∙ waits-puts false (plan_program plan) (lookup m)));
-      loads = λ whole. answer-reads plan m v a d zero put;
-      written = answer-tokens plan m v a d empty put;
-    }
 
 -- where nothing waits, nothing waits at a later group
 pub none-waits : (n : ℕ) (a : Output) → a.blocked ≡ [] → IsWithin n a
@@ -160,6 +105,16 @@ pub root-searched : (plan : PlanOf) (m : MemoryOf) (w : FinishedWalk Output) (a 
 root-searched plan m w a none over =
     left-over plan m w.rooted (puts false (plan_program plan) (lookup m)) a w.out over.rooted none over.put
     (λ Q more. ap (thinned []) (asks-puts false (plan_program plan) (lookup m) Q more)) (ap (thinned []) (waits-puts false (plan_program plan) (lookup m)))
+
+-- the answer was put from its start on
+pub answer-written : (plan : PlanOf) (m : MemoryOf) (most : ℕ) (w : FinishedWalk Output) (a : Output) → a.blocked ≡ [] → a.loads ≡ 0 → IsTextOf most [] a.text → GoesOver Puts plan m a w → Advanced plan m most w
+answer-written plan m most w a none zero begun over =
+    let ps : List Put = puts false (plan_program plan) (lookup m) in
+    record {
+      searched = root-searched plan m w a none over;
+      loads = λ whole. over.put.loads ∙ ap counted (omega (arith, zero, puts-read false (plan_program plan) (lookup m)));
+      written = λ whole. over.put.written whole most [] _ (puts-order false (plan_program plan) (lookup m) [] (numbered-plan plan)) begun;
+    }
 
 -- ---- positions that go on
 

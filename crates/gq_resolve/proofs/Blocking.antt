@@ -11,7 +11,8 @@ use Rattle.execution.specs.Loads.{Load, Reader}
 use Rattle.plan_walk.specs.Puts.{Waits, View, waiting}
 use Rattle.plan_walk.specs.Positions.{onward_of}
 use Rattle.plan_walk.specs.Noted.{is_onward, is_position, with_position, IsNoted}
-use Rattle.gq_resolve.specs.Written.{asks, thinned, left_of, all_asks, AreWithin, Puts}
+use Rattle.gq_resolve.specs.Written.{asks, thinned, left_of, all_asks, AreWithin}
+use Rattle.gq_resolve.specs.Outputs.{Puts}
 use Rattle.gq_resolve.specs.Composing.{thinned-append}
 use Rattle.plan_walk.specs.declared.positions.Onward.{Onward}
 use Rattle.plan_walk.specs.declared.waiting.BlockedPosition.{BlockedPosition}
@@ -60,7 +61,7 @@ waits-noted v b old new lt read is = record {
       (ap (thinned []) (sym (flat_map_more (λ (x : BlockedPosition). asks (left_of v x) R) [] ks b)) ∙ thinned-append [] (all_asks v ks R) (asks (left_of v b) R)
       ∙ ap (thinned (thinned [] (all_asks v ks R))) (sym (append-nil (asks (left_of v b) R))));
   loads = omega (arith, read);
-  written = λ w. absurd (noted (λ bs. bs ≡ [] → ⊥) (λ e none. let f : false ≡ true = sym (ap (list_any (is_position b)) none) ∙ e in cc f) (λ none. omega (arith, length-append ks (b ∷ []), ap length none)) w.whole);
+  written = λ empty. absurd (noted (λ bs. bs ≡ [] → ⊥) (λ e none. let f : false ≡ true = sym (ap (list_any (is_position b)) none) ∙ e in cc f) (λ none. omega (arith, length-append ks (b ∷ []), ap length none)) empty);
 }
   where
     ks : List BlockedPosition

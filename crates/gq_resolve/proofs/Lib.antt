@@ -3,6 +3,9 @@ pub mod Loaders
 pub mod Evaluating
 pub mod AddingNew
 pub mod Thinning
+pub mod ReadingBack
+pub mod Taking
+pub mod Numbering
 pub mod Putting
 pub mod Blocking
 pub mod Advancing

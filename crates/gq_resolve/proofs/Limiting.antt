@@ -1,19 +1,26 @@
 -- Lemmas on the text of an answer that may have errors, and when it is too long.
-use Rattle.std.proofs.Common.{◌≡◌, ◌<◌, ◌∷◌, ◌++◌, [], ℕ, Bool, true, false, List, length, length-append, append_assoc, sym, ap, ◌∙◌, refl, arith, fold, Some, None, codes}
+use Rattle.std.proofs.lemmas.Bool.{lt-ltb}
+use Rattle.std.proofs.Common.{if◌then◌else◌, ◌≡◌, ◌<◌, ◌∷◌, ◌++◌, [], ℕ, Bool, true, false, List, length, length-append, append_assoc, sym, ap, ◌∙◌, refl, arith, fold, Some, None, codes}
+use Rattle.std.specs.List.{list_all, flat_map}
 use Rattle.json.specs.Token.{Token, begin_object, end_object, begin_array, key}
 use Rattle.json.specs.Print.{print, print_from, ends}
+use Rattle.json.specs.Json.{object, member, no_members}
 use Rattle.json.specs.Tree.{json_tokens, items_tokens}
 use Rattle.json.proofs.Printed.Tokens.{print_from-append, ends_push}
 use Rattle.answer_json.specs.Answer.{errors_json, answer_front, errors_tokens}
 use Rattle.execution.specs.Loads.{Reader}
-use Rattle.execution.specs.Program.{Program, tree}
-use Rattle.execution.specs.Completion.{AnsweredOf, ErrorOf, ResponseOf, is_open}
-use Rattle.execution.specs.Executed.{completed}
-use Rattle.gq_resolve.specs.Answered.{json_of, answered_json, answer_text}
+use Rattle.execution.specs.Program.{Program, Tree, tree}
+use Rattle.execution.specs.Completion.{AnsweredOf, ErrorOf, ResponseOf, is_open, top_position}
+use Rattle.execution.specs.Executed.{response, completed}
+use Rattle.gq_resolve.specs.Answered.{json_of, errors_before, answered_json, answer_text}
 use Rattle.plan_walk.specs.Puts.{puts}
 use Rattle.gq_resolve.specs.Texted.{WrittenOf, put_all, nothing_written}
 use Rattle.gq_resolve.proofs.Rooms.{is-text, are-errors}
 use Rattle.gq_resolve.proofs.Sizes.{answer-sure}
+use Rattle.gq_resolve.specs.AnswerTexts.{data_tokens}
+use Rattle.gq_resolve.specs.Limited.{too_long_text, limited_text}
+use Rattle.gq_resolve.specs.Written.{is_plain, put_tokens}
+use Rattle.gq_resolve.proofs.Putting.{puts_tokens, IsPlain, plain-puts}
 use Rattle.gq_resolve.proofs.Texting.{whole-settled}
 
 -- ---- the parts of a text
@@ -80,3 +87,20 @@ module _ (p : Program) (R : Reader) (most : ℕ) (w : WrittenOf) (is : w ≡ put
       (e ∙ ap (λ x. x.errors) found ∙ (are-errors answer.errors most []).some left (sym (ap (λ x. x.room) found) ∙ some))
       ∙ ap (λ (bytes : List ℕ). (print (answer_front answer.errors) ++ bytes) ++ 125 ∷ []) (ap (λ x. x.bytes) text ∙ (is-text (json_tokens (json_of answer.response)) most [] false).some room (sym (ap (λ x. x.room) text) ∙ fits))
       ∙ sym parts
+
+-- ---- limits
+
+-- a text that is longer than the limit is refused
+pub limited-over : (most : ℕ) (text : List ℕ) → most < length text → limited_text most text ≡ too_long_text
+limited-over most text lt = ap (λ (b : Bool). if b then too_long_text else text) (lt-ltb most (length text) lt)
+
+-- ---- answers without errors
+
+-- the tokens of an answer that was written without an error
+pub plain-answer : (p : Program) (R : Reader) → list_all is_plain (puts false p R) ≡ true
+    → data_tokens (flat_map put_tokens (puts false p R)) ++ end_object ∷ [] ≡ json_tokens (answered_json (completed (tree p R)))
+plain-answer p R plain =
+    let t : Tree = tree p R in
+    let here : IsPlain false t (puts_tokens (puts false p R)) = plain-puts false p R plain in
+    sym (ap (λ (es : List ErrorOf). json_tokens (object (errors_before es (member (codes "data") (json_of (response t)) no_members)))) (here.errors (top_position t).place [])
+    ∙ ap (λ ts. begin_object ∷ key (codes "data") ∷ (ts ++ end_object ∷ [])) here.tokens)

@@ -1,5 +1,6 @@
 -- Lemmas on what a poll answers, and that it may go on over each larger memory.
-use Rattle.std.proofs.Common.{◌≡◌, ◌≢◌, ◌⊎◌, ◌<◌, ◌≤◌, ◌^◌, ℕ, arith, false, List, [], ◌∷◌, length, inl, inr, refl, sym, ap, ◌∙◌, subst, Some}
+use Rattle.std.proofs.Common.{◌≡◌, ◌≢◌, ◌⊎◌, ◌<◌, ◌≤◌, ◌^◌, ℕ, arith, false, List, [], ◌∷◌, length, inl, inr, refl, sym, ap, ◌∙◌, subst, Option, None, Some}
+use Rattle.std.specs.Prelude.{unwrap_or}
 use Rattle.load_memory.specs.Pairs.{MemoryOf}
 use Rattle.load_queue.specs.Wanted.{WantedOf}
 use Rattle.execution.specs.Loads.{Load}
@@ -17,7 +18,11 @@ use Rattle.plan_program.specs.PlanPrograms.{plan_program}
 use Rattle.gq_resolve.specs.Evaluated.{front_over, AddsPart}
 use Rattle.plan_walk.specs.Reading.{reader, lookup}
 use Rattle.gq_resolve.specs.Suspended.{IsRooted, MayGoOn, FitsWaiting, loads_of, Advanced, lacking}
+use Rattle.plan_walk.specs.Puts.{puts}
+use Rattle.gq_resolve.specs.AnswerTexts.{IsTextOf}
+use Rattle.gq_resolve.specs.Within.{IsWritten}
 use Rattle.gq_resolve.specs.Written.{asks, thinned}
+use Rattle.gq_resolve.specs.declared.answer_text.AnswerText.{AnswerText}
 use Rattle.gq_resolve.specs.declared.advance.RootObject.{RootObject}
 use Rattle.gq_resolve.specs.declared.advance.FinishedWalk.{FinishedWalk}
 use Rattle.plan_walk.specs.declared.waiting.BlockedPosition.{BlockedPosition}
@@ -30,7 +35,7 @@ use Rattle.plan_walk.proofs.Lookups.{lookup-more}
 -- ---- larger memories
 
 -- positions that are kept fit each larger memory, and so does a root
-pub still-fits : (plan : PlanOf) (m n : MemoryOf) (w : FinishedWalk Output) (waiting : List BlockedPosition) → Advanced plan m w → (waiting ≡ []) ⊎ (waiting ≡ w.out.blocked) → GrowsTo m n
+pub still-fits : {most : ℕ} (plan : PlanOf) (m n : MemoryOf) (w : FinishedWalk Output) (waiting : List BlockedPosition) → Advanced plan m most w → (waiting ≡ []) ⊎ (waiting ≡ w.out.blocked) → GrowsTo m n
     → FitsWaiting plan n w.rooted waiting
 still-fits plan m n w [] a h grown = a.searched.goes_on.rooted
 still-fits plan m n w (b ∷ bs) a (inl none) grown = absurd (cc none)
@@ -66,7 +71,7 @@ lookup-tree plan m le = sym (held-rest (plan_program plan) (lookup m)) ∙ ap (�
 pub loads-counted : (plan : PlanOf) (m : MemoryOf) (loads : ℕ) → length plan.bindings.loaders ≤ length m.modes → loads < 2 ^ 64 → counted loads ≡ counted (count_read (plan_program plan) (lookup m)) → loads ≡ counted (count_read (plan_program plan) (reader m))
 loads-counted plan m loads enough small is = let same : count_read (plan_program plan) (lookup m) ≡ count_read (plan_program plan) (reader m) = ap (λ (ls : List Load). length ls) (plan-same plan m enough).0 in omega (arith, small, is, same)
 
-module _ (plan : PlanOf) (m : MemoryOf) (old : List WantedOf) (w : FinishedWalk Output) (can : CanExecute (length plan.bindings.loaders) m old) (a : Advanced plan m w) where
+module _ {most : ℕ} (plan : PlanOf) (m : MemoryOf) (old : List WantedOf) (w : FinishedWalk Output) (can : CanExecute (length plan.bindings.loaders) m old) (a : Advanced plan m most w) where
   -- the loads of what waits are those that are missing, each once
   same-loads : thinned [] (loads_of w.out.blocked) ≡ thinned [] (lacking plan m)
   same-loads = a.searched.lacks ∙ ap (thinned []) (lookup-asks plan m can.enough)
@@ -100,3 +105,8 @@ module _ (plan : PlanOf) (m : MemoryOf) (old : List WantedOf) (w : FinishedWalk 
       let shut : is_open (tree (plan_program plan) (reader m)) ≡ false = closed-tree m (plan_program plan) front in
       let same = lookup-tree plan m can.enough in
       (front, exec-whole (plan_program plan) (reader m) shut ∙ ap (λ x. Some x) (sym (h (ap is_open same ∙ shut) ∙ ap completed same)))
+
+-- the answer was written within the limit, if there is one
+pub answer-within : (most : Option ℕ) (limit none : ℕ) (plan : PlanOf) (m : MemoryOf) (a : AnswerText) → limit ≡ unwrap_or most none → IsTextOf limit (puts false (plan_program plan) (lookup m)) a → IsWritten most plan m a
+answer-within None limit none plan m a e text = (limit, text)
+answer-within (Some most) limit none plan m a e text = subst (λ (n : ℕ). IsTextOf n (puts false (plan_program plan) (lookup m)) a) e text

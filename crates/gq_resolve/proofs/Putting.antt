@@ -20,11 +20,13 @@ use Rattle.execution.specs.Residual.{rest, all_rest, unanswered}
 use Rattle.execution.proofs.Fitting.{missing-append, asks-rest}
 use Rattle.gq_resolve.specs.Answered.{json_of, items_json, members_json}
 use Rattle.plan_walk.specs.Puts.{Put, Ends, Reads, View, reads, puts, all_puts}
-use Rattle.gq_resolve.specs.Written.{is_plain, opening, closing, leaf_value_tokens, part_tokens, put_tokens, put_reads, IsCounted, asks, put_asks, thinned, all_asks, AreWithin, Puts}
-use Rattle.gq_resolve.specs.Texted.{WrittenOf, put_all}
+use Rattle.gq_resolve.specs.Written.{is_plain, opening, closing, leaf_value_tokens, part_tokens, put_tokens, put_reads, IsCounted, asks, put_asks, thinned, all_asks, AreWithin}
+use Rattle.gq_resolve.specs.Outputs.{Puts}
+use Rattle.gq_resolve.specs.AnswerTexts.{TakesAll, Takes}
 use Rattle.gq_resolve.specs.WorkLeft.{TakesWork, takes-none}
 use Rattle.gq_resolve.specs.declared.output.Output.{Output}
 use Rattle.gq_resolve.proofs.Evaluating.{needs-rest}
+use Rattle.gq_resolve.proofs.Taking.{takes-reads}
 
 -- ---- loads
 
@@ -43,7 +45,7 @@ mutual
   asked-rest non_null (Is leaf_value) R Q = refl
   asked-rest non_null (Read load next) R Q = read-asked non_null load next R Q (R load) refl (λ o. asked-rest non_null (next o) R Q)
   asked-rest non_null (Under kind below) R Q =
-      flat_map-append (put_asks Q) (all_puts kind below R) (Ends kind ∷ []) ∙ append-nil (puts_ask Q (all_puts kind below R)) ∙ all-asked-rest kind below R Q
+      flat_map-append (put_asks Q) (all_puts kind below R) (Ends kind non_null ∷ []) ∙ append-nil (puts_ask Q (all_puts kind below R)) ∙ all-asked-rest kind below R Q
 
   all-asked-rest : (kind : Kind) (ps : Programs) (R Q : Reader) → puts_ask Q (all_puts kind ps R) ≡ missing Q (all_needs (all_rest ps R) Q)
   all-asked-rest kind End R Q = refl
@@ -80,7 +82,7 @@ mutual
   puts-read non_null (Is leaf_value) R = refl
   puts-read non_null (Read load next) R = read-counted non_null load next R (R load) refl (λ o. puts-read non_null (next o) R)
   puts-read non_null (Under kind below) R =
-      let ended : sum_by put_reads (all_puts kind below R ++ Ends kind ∷ []) ≡ sum_by put_reads (all_puts kind below R) + 0 = sum_by-append put_reads (all_puts kind below R) (Ends kind ∷ []) in
+      let ended : sum_by put_reads (all_puts kind below R ++ Ends kind non_null ∷ []) ≡ sum_by put_reads (all_puts kind below R) + 0 = sum_by-append put_reads (all_puts kind below R) (Ends kind non_null ∷ []) in
       omega (arith, ended, all-puts-read kind below R)
 
   all-puts-read : (kind : Kind) (ps : Programs) (R : Reader) → sum_by put_reads (all_puts kind ps R) ≡ length (all_needs ps R)
@@ -99,31 +101,30 @@ reads-silent : {A : Type 0} (says : Put → List A) (n : ℕ) → says Reads ≡
 reads-silent says zero none = refl
 reads-silent says (suc n) none = rw none (reads-silent says n none)
 
-reads-plain : (n : ℕ) → list_all is_plain (reads n) ≡ true
-reads-plain zero = refl
-reads-plain (suc n) = reads-plain n
-
 -- they were counted
-pub reads-put : (v : View) (n : ℕ) (old new : Output) → new.blocked ≡ old.blocked → new.is_plain ≡ old.is_plain → new.writer ≡ old.writer → IsCounted n old.loads new.loads → Puts v (reads n) old new
-reads-put v n old new blocked plain writer counted = record {
+pub reads-put : (v : View) (n : ℕ) (old new : Output) → new.blocked ≡ old.blocked → new.text ≡ old.text → IsCounted n old.loads new.loads → Puts v (reads n) old new
+reads-put v n old new blocked text counted = record {
   first = ([], blocked ∙ sym (append-nil old.blocked));
   within = λ h. subst (AreWithin v.count) (sym blocked) h;
   asked = λ R. ap (λ bs. thinned [] (all_asks v bs R)) blocked ∙ ap (thinned (thinned [] (all_asks v old.blocked R))) (sym (reads-silent (put_asks R) n refl));
   loads = rw (reads-counted n) counted;
-  written = λ w. (
-    record { plain = sym plain ∙ w.plain; whole = sym blocked ∙ w.whole },
-    reads-plain n,
-    ap (λ x. x.tokens) writer ∙ sym (ap (λ ts. old.writer.tokens ++ ts) (reads-silent put_tokens n refl) ∙ append-nil old.writer.tokens),
-  );
+  written = λ none. subst (TakesAll (reads n) old.text) (sym text) (takes-reads n old.text);
+}
+
+-- one put, which asks for nothing, and which the text takes where nothing waits
+pub one-put : (v : View) (p : Put) (old new : Output) → new.blocked ≡ old.blocked → new.loads ≡ old.loads → ((R : Reader) → put_asks R p ≡ []) → put_reads p ≡ 0 → (new.blocked ≡ [] → Takes p old.text new.text) → Puts v (p ∷ []) old new
+one-put v p old new blocked loads silent none takes = record {
+  first = ([], blocked ∙ sym (append-nil old.blocked));
+  within = λ h. subst (AreWithin v.count) (sym blocked) h;
+  asked = λ R. ap (λ bs. thinned [] (all_asks v bs R)) blocked
+      ∙ ap (λ ls. thinned (thinned [] (all_asks v old.blocked R)) (ls ++ [])) (sym (silent R));
+  loads = rw none (omega (arith, loads));
+  written = takes;
 }
 
 pub reads-taken : (n : ℕ) (left : Option ℕ) → TakesWork (reads n) left left
 reads-taken zero left = takes-none left
 reads-taken (suc n) left = reads-taken n left
-
-pub reads-written : (n : ℕ) (w : WrittenOf) → put_all (reads n) w ≡ w
-reads-written zero w = refl
-reads-written (suc n) w = reads-written n w
 
 -- ---- text
 
@@ -180,8 +181,8 @@ mutual
   plain-puts non_null (Is (Fault text)) R h = absurd (cc h)
   plain-puts non_null (Read load next) R h = read-plain non_null load next R (R load) refl (λ o. plain-puts non_null (next o) R) h
   plain-puts non_null (Under kind below) R h =
-      let parts = and_parts _ _ (sym (list_all-append is_plain (all_puts kind below R) (Ends kind ∷ [])) ∙ h) in
-      subst (λ (ts : List Token). IsPlain non_null (Over kind (trees below R)) (opening kind ∷ ts)) (sym (flat_map-append put_tokens (all_puts kind below R) (Ends kind ∷ [])))
+      let parts = and_parts _ _ (sym (list_all-append is_plain (all_puts kind below R) (Ends kind non_null ∷ [])) ∙ h) in
+      subst (λ (ts : List Token). IsPlain non_null (Over kind (trees below R)) (opening kind ∷ ts)) (sym (flat_map-append put_tokens (all_puts kind below R) (Ends kind non_null ∷ [])))
       (under-put non_null kind (trees below R) (puts_tokens (all_puts kind below R)) (all-plain-puts kind below R parts.0))
 
   all-plain-puts : (kind : Kind) (ps : Programs) (R : Reader) → puts_plain (all_puts kind ps R) ≡ true → ArePlain kind (trees ps R) (puts_tokens (all_puts kind ps R))

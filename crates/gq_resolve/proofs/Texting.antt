@@ -40,18 +40,17 @@ tokens-after (t ∷ ts) before x =
 
 -- a position was put: its errors are there, it pulls down what is around it or not, and its tokens are written unless they are muted
 record Settles (es : List ErrorOf) (down : Bool) (ts : List Token) (old new : WrittenOf) : Type 0 where
-  pub state : new ≡ record old { muted = old.muted || down; text = new.text; found = with_errors es old.found }
+  pub state : new ≡ record old { place = new.place; muted = old.muted || down; text = new.text; found = with_errors es old.found }
   pub whole : (old.muted || down) ≡ false → new.text ≡ with_tokens ts old.text
 
 -- an object or a list has ended, inside these
-abbrev shut : Bool → OpenOf → List OpenOf → List Part → TextOf → ErrorsOf → WrittenOf
-shut pulled l ls path x found = record {
+abbrev shut : Bool → Bool → OpenOf → List OpenOf → List Part → Place → TextOf → ErrorsOf → WrittenOf
+shut pulled non_null l ls path place x found = record {
   levels = ls;
   path = path;
-  non_null = l.non_null;
-  place = l.place;
-  muted = pulled && (l.muted || l.non_null);
-  text = if pulled then text_with (l.muted || l.non_null) (null ∷ []) l.before else text_after l.before x;
+  place = place;
+  muted = pulled && (l.muted || non_null);
+  text = if pulled then text_with (l.muted || non_null) (null ∷ []) l.before else text_after l.before x;
   found = found;
 }
 
@@ -74,21 +73,21 @@ kind-none ObjectOf = refl
 
 -- no position more was put
 ended-last : (muted : Bool) (kind : Kind) (l : OpenOf) (ls : List OpenOf) (path base : List Part) (non_null : Bool) (place : Place) (x : TextOf) (found : ErrorsOf) → take l.depth path ≡ base
-    → (if muted then nulled l.muted l.before (left l ls (record { levels = l ∷ ls; path = path; non_null = non_null; place = place; muted = muted; text = x; found = found }))
-    else closed kind l.before (left l ls (record { levels = l ∷ ls; path = path; non_null = non_null; place = place; muted = muted; text = x; found = found })))
-    ≡ shut (muted || false) l ls base (with_tokens (kind_tokens kind NoResponses) x) found
+    → (if muted then nulled non_null l.muted l.before (left l ls (record { levels = l ∷ ls; path = path; place = place; muted = muted; text = x; found = found }))
+    else closed kind l.before (left l ls (record { levels = l ∷ ls; path = path; place = place; muted = muted; text = x; found = found })))
+    ≡ shut (muted || false) non_null l ls base place (with_tokens (kind_tokens kind NoResponses) x) found
 ended-last true kind l ls path base non_null place x found p = rw p refl
 ended-last false kind l ls path base non_null place x found p = rw (p, kind-none kind) refl
 
 -- one position was put, and then those after it
-level-more : (muted down rest : Bool) (l : OpenOf) (ls : List OpenOf) (base : List Part) (x y : TextOf) (kind : Kind) (part : Part) (r : ResponseOf) (rs : ResponsesOf) (es fs : List ErrorOf) (found : ErrorsOf)
+level-more : (muted down rest non_null : Bool) (l : OpenOf) (ls : List OpenOf) (base : List Part) (place : Place) (x y : TextOf) (kind : Kind) (part : Part) (r : ResponseOf) (rs : ResponsesOf) (es fs : List ErrorOf) (found : ErrorsOf)
     → ((muted || down) ≡ false → y ≡ with_tokens (json_tokens (json_of r)) (text_with muted (part_tokens kind part) x))
-    → shut ((muted || down) || rest) l ls base (with_tokens (kind_tokens kind rs) y) (with_errors fs (with_errors es found))
-    ≡ shut (muted || (down || rest)) l ls base (with_tokens (kind_tokens kind (Responding part r rs)) x) (with_errors (es ++ fs) found)
-level-more true down rest l ls base x y kind part r rs es fs found h = rw (errors-append es fs found) refl
-level-more false true rest l ls base x y kind part r rs es fs found h = rw (errors-append es fs found) refl
-level-more false false true l ls base x y kind part r rs es fs found h = rw (errors-append es fs found) refl
-level-more false false false l ls base x y kind part r rs es fs found h =
+    → shut ((muted || down) || rest) non_null l ls base place (with_tokens (kind_tokens kind rs) y) (with_errors fs (with_errors es found))
+    ≡ shut (muted || (down || rest)) non_null l ls base place (with_tokens (kind_tokens kind (Responding part r rs)) x) (with_errors (es ++ fs) found)
+level-more true down rest non_null l ls base place x y kind part r rs es fs found h = rw (errors-append es fs found) refl
+level-more false true rest non_null l ls base place x y kind part r rs es fs found h = rw (errors-append es fs found) refl
+level-more false false true non_null l ls base place x y kind part r rs es fs found h = rw (errors-append es fs found) refl
+level-more false false false non_null l ls base place x y kind part r rs es fs found h =
     let first : List Token = json_tokens (json_of r) in
     let text : with_tokens (kind_tokens kind rs) y ≡ with_tokens (kind_tokens kind (Responding part r rs)) x =
     ap (with_tokens (kind_tokens kind rs)) (h refl)
@@ -102,15 +101,15 @@ text-whole x kind rs = rw (kind-whole kind rs) (sym (tokens-after (opening kind 
     ∙ ap (λ (bs : List ℕ). with_tokens (opening kind ∷ kind_tokens kind rs) (record x { bytes = bs })) (append-nil x.bytes))
 
 -- it was all of this object or list
-level-settled : (muted non_null pulled : Bool) (levels : List OpenOf) (path : List Part) (place : Place) (x : TextOf) (found : ErrorsOf) (es : List ErrorOf) (kind : Kind) (rs : ResponsesOf)
-    → Settles es (non_null && pulled) (json_tokens (json_of (if pulled then NullResponse else Holding kind rs))) (record { levels = levels; path = path; non_null = non_null; place = place; muted = muted; text = x; found = found })
-    (shut (muted || pulled) (record { depth = length path; non_null = non_null; place = place; muted = muted; before = x }) levels path
+level-settled : (muted non_null pulled : Bool) (levels : List OpenOf) (path : List Part) (place after : Place) (x : TextOf) (found : ErrorsOf) (es : List ErrorOf) (kind : Kind) (rs : ResponsesOf)
+    → Settles es (non_null && pulled) (json_tokens (json_of (if pulled then NullResponse else Holding kind rs))) (record { levels = levels; path = path; place = place; muted = muted; text = x; found = found })
+    (shut (muted || pulled) non_null (record { kind = kind; depth = length path; muted = muted; before = x }) levels path after
     (with_tokens (kind_tokens kind rs) (text_with muted (opening kind ∷ []) (record x { bytes = [] }))) (with_errors es found))
-level-settled true non_null pulled levels path place x found es kind rs = record { state = refl; whole = λ h. absurd (cc h) }
-level-settled false true true levels path place x found es kind rs = record { state = refl; whole = λ h. absurd (cc h) }
-level-settled false false true levels path place x found es kind rs = record { state = refl; whole = λ h. refl }
-level-settled false true false levels path place x found es kind rs = record { state = refl; whole = λ h. text-whole x kind rs }
-level-settled false false false levels path place x found es kind rs = record { state = refl; whole = λ h. text-whole x kind rs }
+level-settled true non_null pulled levels path place after x found es kind rs = record { state = refl; whole = λ h. absurd (cc h) }
+level-settled false true true levels path place after x found es kind rs = record { state = refl; whole = λ h. absurd (cc h) }
+level-settled false false true levels path place after x found es kind rs = record { state = refl; whole = λ h. refl }
+level-settled false true false levels path place after x found es kind rs = record { state = refl; whole = λ h. text-whole x kind rs }
+level-settled false false false levels path place after x found es kind rs = record { state = refl; whole = λ h. text-whole x kind rs }
 
 leaf-pulls : (non_null : Bool) (leaf_value : LeafValue) → pulls non_null leaf_value ≡ (non_null && nulls (At leaf_value))
 leaf-pulls non_null (Value leaf) = sym (and-false non_null)
@@ -129,57 +128,60 @@ leaf-settled true ts x h = absurd (cc h)
 leaf-settled false ts x h = refl
 
 mutual
-  settles : (p : Program) (R : Reader) (w : WrittenOf) → is_open (tree p R) ≡ false
-      → Settles (errors w.non_null w.place w.path (tree p R)) (w.non_null && nulls (tree p R)) (json_tokens (json_of (response (tree p R)))) w (put_all (puts w.non_null p R) w)
-  settles (Is leaf_value) R w h =
-      let es : List ErrorOf = errors w.non_null w.place w.path (At leaf_value) in
-      rw (sym (leaf-pulls w.non_null leaf_value), leaf-tokens leaf_value) (record { state = refl; whole = λ none. leaf-settled (w.muted || pulls w.non_null leaf_value) (leaf_token leaf_value ∷ []) w.text none })
-  settles (Read load next) R w h =
+  settles : (non_null : Bool) (p : Program) (R : Reader) (w : WrittenOf) → is_open (tree p R) ≡ false
+      → Settles (errors non_null w.place w.path (tree p R)) (non_null && nulls (tree p R)) (json_tokens (json_of (response (tree p R)))) w (put_all (puts non_null p R) w)
+  settles non_null (Is leaf_value) R w h =
+      rw (sym (leaf-pulls non_null leaf_value), leaf-tokens leaf_value) (record { state = refl; whole = λ none. leaf-settled (w.muted || pulls non_null leaf_value) (leaf_token leaf_value ∷ []) w.text none })
+  settles non_null (Read load next) R w h =
       elim (R load) as (λ o. is_open (given o Open (λ outcome. tree (next outcome) R)) ≡ false
-      → Settles (errors w.non_null w.place w.path (given o Open (λ outcome. tree (next outcome) R))) (w.non_null && nulls (given o Open (λ outcome. tree (next outcome) R)))
+      → Settles (errors non_null w.place w.path (given o Open (λ outcome. tree (next outcome) R))) (non_null && nulls (given o Open (λ outcome. tree (next outcome) R)))
       (json_tokens (json_of (response (given o Open (λ outcome. tree (next outcome) R))))) w
-      (put_all (given o (Waits (Read load next) ∷ []) (λ outcome. puts w.non_null (next outcome) R)) w)) [
+      (put_all (given o (Waits (Read load next) ∷ []) (λ outcome. puts non_null (next outcome) R)) w)) [
         | None ↦ λ closed. absurd (cc closed)
-        | Some outcome ↦ λ closed. settles (next outcome) R w closed
+        | Some outcome ↦ λ closed. settles non_null (next outcome) R w closed
       ] h
-  settles (Under kind below) R w h =
-      let l : OpenOf = record { depth = length w.path; non_null = w.non_null; place = w.place; muted = w.muted; before = w.text } in
+  settles non_null (Under kind below) R w h =
+      let l : OpenOf = record { kind = kind; depth = length w.path; muted = w.muted; before = w.text } in
       let ts : Trees = trees below R in
       let es : List ErrorOf = all_errors w.path ts in
-      subst (λ (new : WrittenOf). Settles es (w.non_null && pulls_down ts) (json_tokens (json_of (if pulls_down ts then NullResponse else Holding kind (responses ts)))) w new)
-      (sym (shuts below R kind l w.levels w.path w.path [] w.non_null w.place w.muted (text_with w.muted (opening kind ∷ []) (record w.text { bytes = [] })) w.found (sym (append-nil w.path)) refl h))
-      (level-settled w.muted w.non_null (pulls_down ts) w.levels w.path w.place w.text w.found es kind (responses ts))
+      let last = shuts below R kind non_null l w.levels w.path w.path [] w.place w.muted (text_with w.muted (opening kind ∷ []) (record w.text { bytes = [] })) w.found (sym (append-nil w.path)) refl h in
+      subst (λ (new : WrittenOf). Settles es (non_null && pulls_down ts) (json_tokens (json_of (if pulls_down ts then NullResponse else Holding kind (responses ts)))) w new)
+      (sym last.1) (level-settled w.muted non_null (pulls_down ts) w.levels w.path w.place last.0 w.text w.found es kind (responses ts))
 
-  shuts : (ps : Programs) (R : Reader) (kind : Kind) (l : OpenOf) (ls : List OpenOf) (path base extra : List Part) (non_null : Bool) (place : Place) (muted : Bool) (x : TextOf) (found : ErrorsOf)
+  -- the rest of an object or a list is put, and where the errors of what was put last are
+  shuts : (ps : Programs) (R : Reader) (kind : Kind) (non_null : Bool) (l : OpenOf) (ls : List OpenOf) (path base extra : List Part) (place : Place) (muted : Bool) (x : TextOf) (found : ErrorsOf)
       → path ≡ base ++ extra → length base ≡ l.depth → any_open (trees ps R) ≡ false
-      → put_all (all_puts kind ps R ++ Ends kind ∷ []) (record { levels = l ∷ ls; path = path; non_null = non_null; place = place; muted = muted; text = x; found = found })
-      ≡ shut (muted || pulls_down (trees ps R)) l ls base (with_tokens (kind_tokens kind (responses (trees ps R))) x) (with_errors (all_errors base (trees ps R)) found)
-  shuts End R kind l ls path base extra non_null place muted x found p d h =
-      ended-last muted kind l ls path base non_null place x found (ap (take l.depth) p ∙ take_at base extra l.depth d)
-  shuts (With position q rest) R kind l ls path base extra non_null place muted x found p d h =
+      → (after : Place) × (put_all (all_puts kind ps R ++ Ends kind non_null ∷ []) (record { levels = l ∷ ls; path = path; place = place; muted = muted; text = x; found = found })
+      ≡ shut (muted || pulls_down (trees ps R)) non_null l ls base after (with_tokens (kind_tokens kind (responses (trees ps R))) x) (with_errors (all_errors base (trees ps R)) found))
+  shuts End R kind non_null l ls path base extra place muted x found p d h =
+      (place, ended-last muted kind l ls path base non_null place x found (ap (take l.depth) p ∙ take_at base extra l.depth d))
+  shuts (With position q rest) R kind non_null l ls path base extra place muted x found p d h =
       let t : Tree = tree q R in
       let ts : Trees = trees rest R in
       let y : TextOf = text_with muted (part_tokens kind position.part) x in
-      let at : List Part → WrittenOf = λ (steps : List Part). record { levels = l ∷ ls; path = steps; non_null = position.non_null; place = position.place; muted = muted; text = y; found = found } in
+      let at : List Part → WrittenOf = λ (steps : List Part). record { levels = l ∷ ls; path = steps; place = position.place; muted = muted; text = y; found = found } in
       let steps : List Part = base ++ position.part ∷ [] in
       let first : List Put = puts position.non_null q R in
       let others : List Put = all_puts kind rest R in
-      let end : List Put = Ends kind ∷ [] in
+      let end : List Put = Ends kind non_null ∷ [] in
       let open_none : (is_open t ≡ false) × (any_open ts ≡ false) = or_parts (is_open t) (any_open ts) h in
-      let one = settles q R (at steps) open_none.0 in
-      let z : TextOf = (put_all first (at steps)).text in
-      ap (λ (start : List Part). put_all ((first ++ others) ++ end) (at (start ++ position.part ∷ []))) (ap (take l.depth) p ∙ take_at base extra l.depth d)
-      ∙ ap (λ xs. put_all xs (at steps)) (append_assoc first others end)
-      ∙ put_all-append first (others ++ end) (at steps)
-      ∙ ap (put_all (others ++ end)) one.state
-      ∙ shuts rest R kind l ls steps base (position.part ∷ []) position.non_null position.place (muted || (position.non_null && nulls t)) z
-      (with_errors (errors position.non_null position.place steps t) found) refl d open_none.1
-      ∙ level-more muted (position.non_null && nulls t) (pulls_down ts) l ls base x z kind position.part (response t) (responses ts) (errors position.non_null position.place steps t) (all_errors base ts) found one.whole
+      let one = settles position.non_null q R (at steps) open_none.0 in
+      let put : WrittenOf = put_all first (at steps) in
+      let last = shuts rest R kind non_null l ls steps base (position.part ∷ []) put.place (muted || (position.non_null && nulls t)) put.text
+      (with_errors (errors position.non_null position.place steps t) found) refl d open_none.1 in (
+        last.0,
+        ap (λ (start : List Part). put_all ((first ++ others) ++ end) (at (start ++ position.part ∷ []))) (ap (take l.depth) p ∙ take_at base extra l.depth d)
+            ∙ ap (λ xs. put_all xs (at steps)) (append_assoc first others end)
+            ∙ put_all-append first (others ++ end) (at steps)
+            ∙ ap (put_all (others ++ end)) one.state
+            ∙ last.1
+            ∙ level-more muted (position.non_null && nulls t) (pulls_down ts) non_null l ls base last.0 x put.text kind position.part (response t) (responses ts) (errors position.non_null position.place steps t) (all_errors base ts) found one.whole,
+      )
 
 -- of a whole program: its text, and its errors
 pub whole-settled : (p : Program) (R : Reader) (most : ℕ) → is_open (tree p R) ≡ false
     → ((put_all (puts false p R) (nothing_written most)).text ≡ with_tokens (json_tokens (json_of (response (tree p R)))) (nothing_written most).text)
     × ((put_all (puts false p R) (nothing_written most)).found ≡ with_errors (completed (tree p R)).errors (nothing_written most).found)
 whole-settled p R most h =
-    let one = settles p R (nothing_written most) h in
+    let one = settles false p R (nothing_written most) h in
     (one.whole refl, ap (λ (w : WrittenOf). w.found) one.state)

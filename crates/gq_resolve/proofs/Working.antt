@@ -26,8 +26,8 @@ mutual
   puts-work non_null (Read load next) R = puts-read non_null load next R (R load) refl (λ o. puts-work non_null (next o) R)
   puts-work non_null (Under kind below) R =
       let inner : List Put = all_puts kind below R in
-      let begun : sum_by put_work (puts non_null (Under kind below) R) ≡ 1 + sum_by put_work (inner ++ Ends kind ∷ []) = sum_by-append put_work (Begins kind ∷ []) (inner ++ Ends kind ∷ []) in
-      omega (arith, begun, sum_by-append put_work inner (Ends kind ∷ []), all-puts-work kind below R)
+      let begun : sum_by put_work (puts non_null (Under kind below) R) ≡ 1 + sum_by put_work (inner ++ Ends kind non_null ∷ []) = sum_by-append put_work (Begins kind ∷ []) (inner ++ Ends kind non_null ∷ []) in
+      omega (arith, begun, sum_by-append put_work inner (Ends kind non_null ∷ []), all-puts-work kind below R)
 
   all-puts-work : (kind : Kind) (ps : Programs) (R : Reader) → sum_by put_work (all_puts kind ps R) ≡ count_all_positions (trees ps R)
   all-puts-work kind End R = refl

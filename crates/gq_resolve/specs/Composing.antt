@@ -1,11 +1,9 @@
 -- Definitions of what is put into an output, one part after another. These are proofs, which the laws of its
 -- sink need here.
 use Rattle.std.proofs.Common.{◌≡◌, ◌<◌, ◌≤◌, ◌+◌, ℕ, List, [], ◌∷◌, ◌++◌, refl, sym, ap, ◌∙◌, subst, arith, append_assoc, append-nil, length, take}
-use Rattle.std.specs.List.{list_all, flat_map, sum_by}
+use Rattle.std.specs.List.{flat_map, sum_by}
 use Rattle.std.proofs.lemmas.Grind.{flat_map-append}
-use Rattle.std.proofs.lemmas.List.Folds.{list_all-append}
 use Rattle.std.proofs.lemmas.List.Sums.{sum_by-append}
-use Rattle.std.proofs.lemmas.Bool.{and_from}
 use Rattle.std.proofs.lemmas.List.{take_all, take_at}
 use Rattle.std.proofs.lemmas.List.Elements.{All-head, All-tail}
 use Rattle.std.proofs.Math.Nat.{le_refl, lt_of_lt_of_le}
@@ -17,7 +15,10 @@ use Rattle.execution.specs.Reads.{counted}
 use Rattle.plan_program.specs.PlanPrograms.{read_key}
 use Rattle.plan_walk.specs.Puts.{Put, OnwardOf, View}
 use Rattle.plan_walk.specs.Positions.{onward_of}
-use Rattle.gq_resolve.specs.Written.{is_plain, put_tokens, put_reads, IsCounted, asks, put_asks, thinned, with_load, left_of, all_asks, AreWithin, IsWithin, count_waiting, Puts}
+use Rattle.gq_resolve.specs.Written.{put_reads, IsCounted, asks, put_asks, thinned, with_load, left_of, all_asks, AreWithin}
+use Rattle.gq_resolve.specs.ReadBack.{StandsAt, AreInOrder, at_root}
+use Rattle.gq_resolve.specs.AnswerTexts.{IsTextOf}
+use Rattle.gq_resolve.specs.Outputs.{IsWithin, count_waiting, Puts}
 use Rattle.plan_walk.specs.declared.waiting.BlockedPosition.{BlockedPosition}
 use Rattle.gq_resolve.specs.declared.output.Output.{Output}
 
@@ -30,13 +31,26 @@ thinned-append noted (x ∷ xs) ys = thinned-append (with_load noted x) xs ys
 counted-more : (n m a b c : ℕ) → IsCounted n a b → IsCounted m b c → IsCounted (n + m) a c
 counted-more n m a b c p q = omega (arith, p, q)
 
+-- of puts in order the first are in order
+pub in-order-first : (ps qs : List Put) (s u : StandsAt) → AreInOrder (ps ++ qs) s u
+    → (t : StandsAt) × AreInOrder ps s t × AreInOrder qs t u
+in-order-first [] qs s u h = (s, refl, h)
+in-order-first (x ∷ ps) qs s u (v, next, h) =
+    let rest = in-order-first ps qs v u h in
+    (rest.0, (v, next, rest.1), rest.2)
+
+-- the first of two lists that are empty together
+left-empty : (bs cs : List BlockedPosition) → bs ++ cs ≡ [] → bs ≡ []
+left-empty [] cs e = refl
+left-empty (b ∷ bs) cs e = absurd (cc e)
+
 pub puts-none : (v : View) (o : Output) → Puts v [] o o
 puts-none v o = record {
   first = ([], sym (append-nil o.blocked));
   within = λ h. h;
   asked = λ R. refl;
   loads = ap counted (omega arith);
-  written = λ w. (w, refl, sym (append-nil o.writer.tokens));
+  written = λ none most qs t order is. rw (append-nil qs) is;
 }
 
 pub puts-more : (v : View) (ps qs : List Put) (a b c : Output)
@@ -54,16 +68,13 @@ puts-more v ps qs a b c p q = record {
       (sym (flat_map-append (put_asks R) ps qs));
   loads = counted-more (sum_by put_reads ps) (sum_by put_reads qs) a.loads b.loads c.loads p.loads q.loads
       ∙ ap (λ n. counted (a.loads + n)) (sym (sum_by-append put_reads ps qs));
-  written = λ w.
-      let u = q.written w in
-      let t = p.written u.0 in (
-        t.0,
-        list_all-append is_plain ps qs
-            ∙ and_from (list_all is_plain ps) (list_all is_plain qs) t.1 u.1,
-        u.2 ∙ ap (λ ts. ts ++ flat_map put_tokens qs) t.2
-            ∙ append_assoc a.writer.tokens (flat_map put_tokens ps) (flat_map put_tokens qs)
-            ∙ ap (λ ts. a.writer.tokens ++ ts) (sym (flat_map-append put_tokens ps qs)),
-      );
+  written = λ none most rs t order is.
+      let whole : b.blocked ≡ [] = left-empty b.blocked q.first.0 (sym q.first.1 ∙ none) in
+      let all : AreInOrder ((rs ++ ps) ++ qs) at_root t =
+      subst (λ (xs : List Put). AreInOrder xs at_root t) (sym (append_assoc rs ps qs)) order in
+      let first = in-order-first (rs ++ ps) qs at_root t all in
+      subst (λ (xs : List Put). IsTextOf most xs c.text) (append_assoc rs ps qs)
+      (q.written none most (rs ++ ps) t all (p.written whole most rs first.0 first.1 is));
 }
 
 -- ---- positions of the first groups

@@ -5,6 +5,9 @@ pub mod Composing
 pub mod Suspended
 pub mod PreparedPlans
 pub mod Texted
+pub mod ReadBack
+pub mod AnswerTexts
+pub mod Outputs
 pub mod Limited
 pub mod Within
 pub mod KeyByKey

@@ -1,17 +1,12 @@
 -- *Limited text*: an answer whose text is longer than a limit is refused.
-use Rattle.std.specs.Prelude.{◌≡◌, ◌<◌, ℕ, Option, false, List, [], length, nat_lt, if◌then◌else◌, Some, None, String, string_bytes, codes}
+use Rattle.std.specs.Prelude.{◌≡◌, ◌<◌, ℕ, Option, false, List, length, nat_lt, if◌then◌else◌, Some, None, String, string_bytes, codes}
 use Rattle.std.specs.declared.alloc.Global.{Global}
 use Rattle.answer_json.specs.Answer.{json_text, refusal_json}
 use Rattle.execution.specs.Completion.{is_open}
 use Rattle.execution.specs.Executed.{completed}
 use Rattle.execution.specs.Loads.{Reader}
 use Rattle.execution.specs.Program.{Program, tree}
-use Rattle.load_memory.specs.Pairs.{MemoryOf}
-use Rattle.gq_check.specs.Plans.{PlanOf}
 use Rattle.gq_resolve.specs.Answered.{answer_text}
-use Rattle.gq_resolve.specs.Suspended.{Advanced}
-use Rattle.gq_resolve.specs.declared.advance.FinishedWalk.{FinishedWalk}
-use Rattle.gq_resolve.specs.declared.output.Output.{Output}
 
 -- the refusal of an answer that is too long
 abbrev pub too_long_text : List ℕ
@@ -27,7 +22,3 @@ AnswersWithin most p R (Some text) = is_open (tree p R) ≡ false
     → string_bytes text ≡ answer_text (completed (tree p R))
 AnswersWithin most p R None = is_open (tree p R) ≡ false
     → most < length (answer_text (completed (tree p R)))
-
--- the execution has come to its end
-abbrev pub IsDone : PlanOf → MemoryOf → FinishedWalk Output → Type 0
-IsDone plan m w = Advanced plan m w × (w.out.blocked ≡ [])

@@ -1,25 +1,20 @@
 -- *Suspended resolvers*: an execution that has stopped, and when it may go on.
-use Rattle.std.specs.Prelude.{◌≡◌, ◌≢◌, ℕ, false, List, [], ◌∷◌, map, length, Option, Some, None}
+use Rattle.std.specs.Prelude.{◌≡◌, ℕ, false, List, [], ◌∷◌, map, length, Option, Some, None}
 use Rattle.std.specs.Arc.{arc_value}
-use Rattle.json.specs.Tree.{json_tokens}
 use Rattle.load_memory.specs.Keys.{key_of}
 use Rattle.load_memory.specs.Pairs.{MemoryOf}
-use Rattle.load_queue.specs.Wanted.{WantedOf}
 use Rattle.execution.specs.Loads.{Load, Reader, AnswersMore}
-use Rattle.execution.specs.Program.{tree}
-use Rattle.execution.specs.Executed.{completed}
-use Rattle.execution.specs.Front.{wanting}
 use Rattle.execution.specs.Reads.{count_read, counted}
 use Rattle.gq_check.specs.Plans.{PlanOf, plan_of}
 use Rattle.plan_program.specs.PlanPrograms.{root_prepared, plan_program}
-use Rattle.gq_resolve.specs.Answered.{answered_json}
-use Rattle.gq_resolve.specs.Evaluated.{front_over, missing_over}
+use Rattle.gq_resolve.specs.AnswerTexts.{IsTextOf}
+use Rattle.gq_resolve.specs.Evaluated.{missing_over}
 use Rattle.plan_walk.specs.Reading.{lookup}
 use Rattle.gq_variables.specs.Variables.{VariableOf}
 use Rattle.plan_program.specs.OtherVariables.{AgreesOnDirectives, with_variables}
 use Rattle.plan_walk.specs.Groups.{view_of, Makes, AreRight, AreServed, IsOtherwise}
 use Rattle.plan_walk.specs.Puts.{Put, View, puts}
-use Rattle.gq_resolve.specs.Written.{asks, thinned, all_asks, AreWithin, IsWriting}
+use Rattle.gq_resolve.specs.Written.{asks, thinned, all_asks, AreWithin}
 use Rattle.plan_walk.specs.declared.waiting.BlockedPosition.{BlockedPosition}
 use Rattle.gq_resolve.specs.declared.output.Output.{Output}
 use Rattle.gq_resolve.specs.declared.advance.RootObject.{RootObject}
@@ -105,20 +100,14 @@ pub record Searched (plan : PlanOf) (m : MemoryOf) (w : FinishedWalk Output) : T
   pub goes_on : MayGoOn plan m w.rooted w.out.blocked
   pub lacks : thinned [] (loads_of w.out.blocked) ≡ thinned [] (asks (plan_program plan) (lookup m))
 
--- Where nothing waits, the loads that are read were counted; and where no error was met either, the answer was written.
-pub record Advanced (plan : PlanOf) (m : MemoryOf) (w : FinishedWalk Output) : Type 0 where
+-- Where nothing waits, the loads that are read were counted, and the answer was written within the limit.
+pub record Advanced (plan : PlanOf) (m : MemoryOf) (most : ℕ)
+    (w : FinishedWalk Output) : Type 0 where
   pub searched : Searched plan m w
   pub loads : w.out.blocked ≡ []
       → counted w.out.loads ≡ counted (count_read (plan_program plan) (lookup m))
-  pub written : IsWriting w.out → w.out.writer.tokens
-      ≡ json_tokens (answered_json (completed (tree (plan_program plan) (lookup m))))
-
--- It came to the end, and the wants are as they were. Else something is missing, and the wants got it.
-abbrev pub IsAdvanced : List WantedOf → List WantedOf → PlanOf
-    → MemoryOf → Option (FinishedWalk Output) → Type 0
-IsAdvanced old new plan m (Some w) = Advanced plan m w × (w.out.blocked ≡ []) × (new ≡ old)
-IsAdvanced old new plan m None = (front_over m (plan_program plan) ≢ [])
-    × (new ≡ wanting old (front_over m (plan_program plan)))
+  pub written : w.out.blocked ≡ []
+      → IsTextOf most (puts false (plan_program plan) (lookup m)) w.out.text
 
 -- the loads that the plan needs and the memory lacks
 abbrev pub lacking : PlanOf → MemoryOf → List Load

@@ -12,7 +12,7 @@ use Rattle.execution.specs.Completion.{ErrorOf, own_errors}
 use Rattle.answer_json.specs.Answer.{part_of, errors_of}
 use Rattle.gq_resolve.specs.Written.{opening, closing, part_tokens}
 use Rattle.plan_walk.specs.Puts.{Put, Begins, Ends, Enters, Has, Reads, Waits}
-use Rattle.plan_walk.specs.Positions.{is_non_null}
+use Rattle.plan_walk.specs.Positions.{kind_of}
 use Rattle.gq_resolve.specs.declared.bounded.BoundedText.{BoundedText}
 use Rattle.gq_resolve.specs.declared.bounded.BoundedErrors.{BoundedErrors}
 use Rattle.gq_resolve.specs.declared.completed_text.OpenLevel.{OpenLevel}
@@ -75,21 +75,19 @@ with_errors (e ∷ es) k = with_errors es (with_error e k)
 
 -- ---- what is written
 
--- Says of an object or a list that has begun: how many steps lead to it, its type, and where its errors are; whether what is around
--- it is muted, and the text before it.
+-- Says of an object or a list that has begun: which of them it is, how many steps lead to it, whether what is around it is muted, and the
+-- text before it.
 pub record OpenOf : Type 0 where
+  pub kind : Kind
   pub depth : ℕ
-  pub non_null : Bool
-  pub place : Place
   pub muted : Bool
   pub before : TextOf
 
--- Says what is written so far: what has begun and not ended, innermost first; the position of what is put next; whether it stands in
--- something that becomes null, and so isn't written; the text since what was begun last; and the errors.
+-- Says what is written so far: what has begun and not ended, innermost first; the steps to what is put next, and where its errors are;
+-- whether it stands in something that becomes null, and so isn't written; the text since what was begun last; and the errors.
 pub record WrittenOf : Type 0 where
   pub levels : List OpenOf
   pub path : List Part
-  pub non_null : Bool
   pub place : Place
   pub muted : Bool
   pub text : TextOf
@@ -105,28 +103,18 @@ written ts w = record w { text = text_with w.muted ts w.text }
 
 abbrev pub begun : Kind → WrittenOf → WrittenOf
 begun kind w = written (opening kind ∷ []) (record w {
-  levels = record {
-    depth = length w.path;
-    non_null = w.non_null;
-    place = w.place;
-    muted = w.muted;
-    before = w.text;
-  } ∷ w.levels;
+  levels = record { kind = kind; depth = length w.path; muted = w.muted; before = w.text }
+      ∷ w.levels;
   text = record w.text { bytes = [] };
 })
 
 abbrev pub left : OpenOf → List OpenOf → WrittenOf → WrittenOf
-left l ls w = record w {
-  levels = ls;
-  path = take l.depth w.path;
-  non_null = l.non_null;
-  place = l.place;
-}
+left l ls w = record w { levels = ls; path = take l.depth w.path }
 
 -- what was begun last is null, and pulls down what is around it where its type is non-null
-abbrev pub nulled : Bool → TextOf → WrittenOf → WrittenOf
-nulled muted before w =
-    written (null ∷ []) (record w { muted = muted || w.non_null; text = before })
+abbrev pub nulled : Bool → Bool → TextOf → WrittenOf → WrittenOf
+nulled non_null muted before w =
+    written (null ∷ []) (record w { muted = muted || non_null; text = before })
 
 abbrev pub text_after : TextOf → TextOf → TextOf
 text_after before x = record x { bytes = before.bytes ++ x.bytes }
@@ -135,19 +123,18 @@ abbrev pub closed : Kind → TextOf → WrittenOf → WrittenOf
 closed kind before w =
     record w { text = text_after before (with_tokens (closing kind ∷ []) w.text) }
 
-abbrev pub ended_in : List OpenOf → Kind → WrittenOf → WrittenOf
-ended_in [] kind w = w
-ended_in (l ∷ ls) kind w = if w.muted then nulled l.muted l.before (left l ls w)
+abbrev pub ended_in : List OpenOf → Kind → Bool → WrittenOf → WrittenOf
+ended_in [] kind non_null w = w
+ended_in (l ∷ ls) kind non_null w = if w.muted then nulled non_null l.muted l.before (left l ls w)
     else closed kind l.before (left l ls w)
 
 abbrev pub depth_in : List OpenOf → ℕ
 depth_in [] = 0
 depth_in (l ∷ ls) = l.depth
 
-abbrev pub entered_at : Part → Bool → Place → WrittenOf → WrittenOf
-entered_at part non_null place w = record w {
+abbrev pub entered_at : Part → Place → WrittenOf → WrittenOf
+entered_at part place w = record w {
   path = take (depth_in w.levels) w.path ++ part ∷ [];
-  non_null = non_null;
   place = place;
 }
 
@@ -179,9 +166,9 @@ given_leaf_value non_null leaf_value w = written (leaf_token leaf_value ∷ [])
 
 abbrev pub put_one : Put → WrittenOf → WrittenOf
 put_one (Begins kind) w = begun kind w
-put_one (Ends kind) w = ended_in w.levels kind w
+put_one (Ends kind non_null) w = ended_in w.levels kind non_null w
 put_one (Enters kind position) w = written (part_tokens kind position.part)
-    (entered_at position.part position.non_null position.place w)
+    (entered_at position.part position.place w)
 put_one (Has non_null leaf_value) w = given_leaf_value non_null leaf_value w
 put_one Reads w = w
 put_one (Waits p) w = w
@@ -202,12 +189,11 @@ pub put_all-more : (ps qs : List Put) (a b c : WrittenOf)
     → b ≡ put_all ps a → c ≡ put_all qs b → c ≡ put_all (ps ++ qs) a
 put_all-more ps qs a b c f g = g ∙ ap (put_all qs) f ∙ sym (put_all-append ps qs a)
 
--- Nothing, of an answer that may have `most` bytes. The root is nullable, and an error there has the place of a text's first character.
+-- Nothing, of an answer that may have `most` bytes. An error at its root has the place of a text's first character.
 abbrev pub nothing_written : ℕ → WrittenOf
 nothing_written most = record {
   levels = [];
   path = [];
-  non_null = false;
   place = record { line = 1; column = 1 };
   muted = false;
   text = record { bytes = []; after_value = false; room = Some most };
@@ -227,13 +213,8 @@ error_at message place path =
     record { message = message; place = place; path = map part_of path }
 
 abbrev pub level_seen : OpenLevel → OpenOf
-level_seen l = record {
-  depth = l.depth;
-  non_null = is_non_null l.nullability;
-  place = l.place;
-  muted = l.muted;
-  before = text_of l.before;
-}
+level_seen l =
+    record { kind = kind_of l.kind; depth = l.depth; muted = l.muted; before = text_of l.before }
 
 abbrev pub levels_seen : List OpenLevel → List OpenOf
 levels_seen ls = reverse (map level_seen ls)
@@ -242,7 +223,6 @@ abbrev pub written_of : CompletedText → WrittenOf
 written_of t = record {
   levels = levels_seen t.levels.items;
   path = map part_of t.path.items;
-  non_null = is_non_null t.nullability;
   place = t.place;
   muted = t.muted;
   text = text_of t.text;

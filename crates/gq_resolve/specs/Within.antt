@@ -9,12 +9,21 @@ use Rattle.gq_check.specs.Plans.{PlanOf}
 use Rattle.plan_program.specs.PlanPrograms.{plan_program}
 use Rattle.gq_resolve.specs.Answered.{answer_text}
 use Rattle.gq_resolve.specs.Limited.{limited_text}
+use Rattle.plan_walk.specs.Puts.{puts}
 use Rattle.plan_walk.specs.Reading.{lookup}
+use Rattle.gq_resolve.specs.AnswerTexts.{IsTextOf}
+use Rattle.gq_resolve.specs.declared.answer_text.AnswerText.{AnswerText}
 
 -- the text of an answer: without a limit that of its response, and else its limited text
 abbrev pub text_within : Option ℕ → AnsweredOf → List ℕ
 text_within None = answer_text
 text_within (Some most) = λ answered. limited_text most (answer_text answered)
+
+-- a plan's answer was written, up to the limit if there is one
+abbrev pub IsWritten : Option ℕ → PlanOf → MemoryOf → AnswerText → Type 0
+IsWritten None plan m a =
+    (most : ℕ) × IsTextOf most (puts false (plan_program plan) (lookup m)) a
+IsWritten (Some most) plan m a = IsTextOf most (puts false (plan_program plan) (lookup m)) a
 
 -- the text of a plan's answer, of which nothing is missing
 abbrev pub IsAnswerText : Option ℕ → PlanOf → MemoryOf → String Global → Type 0

@@ -16,7 +16,7 @@ plan_work plan m = work (plan_program plan) (reader m)
 -- gives how many positions are put
 abbrev pub put_work : Put → ℕ
 put_work (Begins kind) = 1
-put_work (Ends kind) = 0
+put_work (Ends kind non_null) = 0
 put_work (Enters kind position) = 0
 put_work (Has non_null leaf_value) = 1
 put_work Reads = 0

@@ -1,25 +1,19 @@
 //! Executions that begin, stop where a load is missing, and go on.
 
-ghost use Rattle.std.specs.Prelude.{[], length, IfOk, OnErr};
+ghost use Rattle.std.specs.Prelude.{[], IfOk};
 ghost use Rattle.std.specs.Arc.{arc_value};
-ghost use Rattle.load_memory.specs.Pairs.{MemoryOf};
-ghost use Rattle.execution.specs.Executes.{CanExecute, GrowsTo};
 ghost use Rattle.gq_check.specs.Plans.{PlanOf, plan_of};
 ghost use Rattle.plan_program.specs.PlanPrograms.{root_prepared};
 ghost use Rattle.plan_walk.specs.Groups.{AreMade};
-ghost use Rattle.gq_resolve.specs.Evaluated.{AddsPart};
-ghost use Rattle.gq_resolve.specs.Suspended.{plan_on, IsAlike, IsReusable, IsRooted, WaitsBelow, GoesOverTour, MayGoOn, Searched, Advanced, FitsStopped, FitsTour, IsAdvanced, lacking};
+ghost use Rattle.gq_resolve.specs.Suspended.{plan_on, IsAlike, IsReusable, IsRooted, WaitsBelow, GoesOverTour, MayGoOn, Searched, Advanced, FitsTour};
 
 use crate::output::Output;
-use crate::wanting::add_wants;
 use gq_check::Plan;
-use gq_lexer::Place;
-use load_memory::{Probe, Row, Text};
-use load_queue::Wants;
+use load_memory::{Probe, Row};
 use plan_program::{ObjectType, collect};
 use plan_walk::again::members_again;
 use plan_walk::loading_fields::{LoadingField, Member, copy_of, members_of};
-use plan_walk::positions::{MemberPosition, Nullability, PositionKind};
+use plan_walk::positions::Nullability;
 use plan_walk::sink::Sink;
 use plan_walk::waiting::Waiting;
 use plan_walk::walk::{LoadingPosition, Progress, Walk};
@@ -118,7 +112,13 @@ pub fn go_over<S: Sink + Drop>(
         probe: Probe::new(),
         out,
     };
-    walk.object(&mut at, MOST_LEVELS, &rooted.members, &rooted.row)?;
+    walk.object(
+        &mut at,
+        MOST_LEVELS,
+        Nullability::Nullable,
+        &rooted.members,
+        &rooted.row,
+    )?;
     Ok(FinishedWalk {
         rooted: RootObject {
             groups: at.groups,
@@ -136,15 +136,15 @@ fn search_root(walk: &Walk<'_>, rooted: RootObject) -> Result<FinishedWalk<Outpu
     go_over(walk, rooted, Output::waiting_only(walk.alloc))
 }
 
-// Goes over the whole plan, and writes as long as nothing is missing and the text isn't too long. Over a memory that has no pair a root that
-// loads can't be answered, so it looks for the loads first, and writes nothing where there are some.
+// Goes over the whole plan, and writes as long as nothing is missing. Over a memory that has no pair a root that loads can't be answered,
+// so it looks for the loads first, and writes nothing where there are some.
 fn begin(
     walk: &Walk<'_>,
     most: usize,
     rooted: RootObject,
 ) -> Result<FinishedWalk<Output>, AllocError>
     ensures { IsRooted (plan_on walk.now) rooted
-        → IfOk result (Advanced (plan_on walk.now) walk.now.memory.now) }
+        → IfOk result (Advanced (plan_on walk.now) walk.now.memory.now most) }
 {
     let mut rooted = rooted;
     if !rooted.groups.is_empty() && walk.memory.is_empty() {
@@ -154,20 +154,18 @@ fn begin(
         }
         rooted = searched.rooted;
     }
-    let mut out = Output::new(walk.alloc, most)?;
-    out.begin(PositionKind::Object)?;
-    out.field(&MemberPosition {
-        key: Text::from_str(walk.alloc, "data")?,
-        nullability: Nullability::Nullable,
-        place: Place { line: 1, column: 1 },
-    })?;
     let mut at = Progress {
         groups: rooted.groups,
         probe: Probe::new(),
-        out,
+        out: Output::new(walk.alloc, most)?,
     };
-    walk.object(&mut at, MOST_LEVELS, &rooted.members, &rooted.row)?;
-    at.out.end(PositionKind::Object)?;
+    walk.object(
+        &mut at,
+        MOST_LEVELS,
+        Nullability::Nullable,
+        &rooted.members,
+        &rooted.row,
+    )?;
     Ok(FinishedWalk {
         rooted: RootObject {
             groups: at.groups,
@@ -191,7 +189,7 @@ fn search_waiting(
         probe: Probe::new(),
         out: Output::waiting_only(walk.alloc),
     };
-    for position in waiting {
+    for position in waiting.as_slice() {
         let to = LoadingPosition {
             onward: position.onward,
             nullability: Nullability::Nullable,
@@ -215,7 +213,7 @@ fn go_on(
     waiting: Waiting,
 ) -> Result<FinishedWalk<Output>, AllocError>
     ensures { MayGoOn (plan_on walk.now) walk.now.memory.now rooted waiting
-        → IfOk result (Advanced (plan_on walk.now) walk.now.memory.now) }
+        → IfOk result (Advanced (plan_on walk.now) walk.now.memory.now most) }
 {
     let searched = search_waiting(walk, rooted, waiting)?;
     if searched.out.blocked.is_empty() {
@@ -224,39 +222,19 @@ fn go_on(
     Ok(searched)
 }
 
-/// Goes on with each load that the memory has. Where nothing is missing, it comes to the end, and has written an answer without
-/// errors that isn't longer than `most` bytes. Else it adds what is missing to the wants, and keeps where it stopped.
+/// Goes on with each load that the memory has, from where an execution stopped. Where nothing is missing, it comes to the end, and has
+/// written the answer, up to `most` bytes.
 pub fn advance(
     walk: &Walk<'_>,
     most: usize,
-    stopped: &mut Option<Suspension>,
-    wants: &mut Wants,
-) -> Result<Option<FinishedWalk<Output>>, AllocError>
-    requires { CanExecute (length (plan_on walk.now).bindings.loaders)
-        walk.now.memory.now wants.old }
-    ensures ok { FitsTour walk.now stopped.old
-        → IfOk result (IsAdvanced wants.old wants.new (plan_on walk.now) walk.now.memory.now) }
-    ensures err { FitsTour walk.now stopped.old → OnErr result
-        (AddsPart wants.old wants.new (lacking (plan_on walk.now) walk.now.memory.now)) }
-    ensures grown { (m : MemoryOf) → FitsTour walk.now stopped.old
-        → GrowsTo walk.now.memory.now m → FitsStopped (plan_on walk.now) m stopped.new }
+    stopped: Option<Suspension>,
+) -> Result<FinishedWalk<Output>, AllocError>
+    ensures { FitsTour walk.now stopped → IfOk result
+        (Advanced (plan_on walk.now) walk.now.memory.now most) }
 {
-    let walked = match stopped.take() {
-        None => begin(walk, most, prepare_root(walk)?)?,
-        Some(Suspension { rooted, waiting }) if waiting.is_empty() => begin(walk, most, rooted)?,
-        Some(Suspension { rooted, waiting }) => go_on(walk, most, rooted, waiting)?,
-    };
-    if walked.out.blocked.is_empty() {
-        return Ok(Some(walked));
+    match stopped {
+        None => begin(walk, most, prepare_root(walk)?),
+        Some(Suspension { rooted, waiting }) if waiting.is_empty() => begin(walk, most, rooted),
+        Some(Suspension { rooted, waiting }) => go_on(walk, most, rooted, waiting),
     }
-    let FinishedWalk { rooted, out } = walked;
-    let waiting = add_wants(
-        walk.alloc,
-        &rooted.groups,
-        out.blocked,
-        walk.memory.modes().len(),
-        wants,
-    )?;
-    *stopped = Some(Suspension { rooted, waiting });
-    Ok(None)
 }

@@ -5,11 +5,13 @@ ghost use Rattle.json.specs.Token.{Token};
 ghost use Rattle.answer_json.specs.Answer.{part_of, errors_of};
 ghost use Rattle.gq_resolve.specs.Texted.{room_after, text_after, text_of, IsTokenText, with_token, error_at, with_error, errors_kept};
 
-use crate::output::FIRST_ROOM;
 use answer_json::{FieldError, PathSegment};
 use gq_lexer::Place;
 use std::alloc::{AllocError, Global};
 use std::mem;
+
+/// The room that a text has from the start.
+pub const FIRST_ROOM: usize = 128;
 
 /// A JSON text that is written token by token, up to a limit.
 #[derive(Drop)]

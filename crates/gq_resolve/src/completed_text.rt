@@ -1,47 +1,48 @@
 //! The text of an answer with its errors, as it is completed (sections 6.4.3 and 6.4.4).
 
-ghost use Rattle.std.specs.Prelude.{◌≡◌, ◌∷◌, [], ℕ, false, IfOk, OnOk};
+ghost use Rattle.std.specs.Prelude.{◌≡◌, ◌≢◌, ◌∷◌, [], ℕ, false, drop, map, IfOk, OnOk};
 ghost use Rattle.std.specs.Fmt.{signed_decimal};
-ghost use Rattle.execution.specs.Loads.{Reader};
-ghost use Rattle.execution.specs.Program.{Program};
+ghost use Rattle.execution.specs.Loads.{Reader as LoadReader};
+ghost use Rattle.execution.specs.Program.{ListOf, ObjectOf, Key, Program};
+ghost use Rattle.json.specs.Lex.{tokens};
 ghost use Rattle.json.specs.Print.{IsPrintable, begins, ends, print};
 ghost use Rattle.json.specs.Reads.{token_of};
-ghost use Rattle.json.specs.Token.{Token as JsonToken, number};
+ghost use Rattle.json.specs.Token.{Token as JsonToken, key, number};
+ghost use Rattle.json.specs.declared.token.Token as declared;
 ghost use Rattle.plan_program.specs.Prepared.{leaf_value_seen};
-ghost use Rattle.plan_walk.specs.Positions.{is_non_null, kind_of};
-ghost use Rattle.plan_walk.specs.Puts.{puts};
+ghost use Rattle.plan_walk.specs.Cells.{leaf_seen};
+ghost use Rattle.plan_walk.specs.Positions.{is_non_null, item_position, kind_of, member_position};
+ghost use Rattle.plan_walk.specs.Puts.{Begins, Ends, Enters, Has, puts};
 ghost use Rattle.answer_json.specs.Answer.{part_of};
+ghost use Rattle.gq_resolve.specs.AnswerTexts.{IsReadBackOf, after_puts};
 ghost use Rattle.gq_resolve.specs.Limited.{AnswersWithin};
-ghost use Rattle.gq_resolve.specs.Texted.{IsTokenText, text_of, written, nulled, closed, entered_at, depth_in, faulted, given_leaf_value, nothing_written, put_all, put_all-more, written_of};
+ghost use Rattle.gq_resolve.specs.ReadBack.{item_entered, next_item, taken};
+ghost use Rattle.gq_resolve.specs.Texted.{IsTokenText, text_of, written, begun, nulled, closed, ended_in, entered_at, depth_in, faulted, nothing_written, put_one, written_of};
 
-use crate::bounded::{BoundedErrors, BoundedText};
-use crate::output::FIRST_ROOM;
+use crate::bounded::{BoundedErrors, BoundedText, FIRST_ROOM};
 use answer_json::{PathSegment, begin_answer, writer_text};
 use gq_lexer::Place;
-use json::{Token, Writer};
-use load_memory::{Cell, KeyRef};
+use json::{Reader, Scratch, Token, Writer};
+use load_memory::Cell;
 use plan_program::LeafValue;
 use plan_walk::cells::{CellValue, cell_value, leaf_of};
-use plan_walk::positions::{Items, Leaf, MemberPosition, Nullability, Onward, PositionKind};
-use plan_walk::sink::Sink;
+use plan_walk::positions::{Items, Leaf, MemberPosition, Nullability, PositionKind};
 use std::alloc::{AllocError, Global};
 use std::mem;
 
 /// An object or a list that has begun.
 #[derive(Drop)]
 pub struct OpenLevel {
+    kind: PositionKind,
     /// Says how many steps lead to it.
     depth: usize,
-    nullability: Nullability,
-    /// The place of its errors.
-    place: Place,
     /// Tells whether what is around it becomes null.
     muted: bool,
     /// The text before it.
     before: BoundedText,
 }
 
-/// Holds what a walk has written of an answer, up to a limit, and the errors that it met.
+/// Holds what is written of an answer, up to a limit, and the errors that it met.
 ///
 /// Each object and each list has a text of its own until it ends. Where an error makes it null, that text is let go, and
 /// nothing more of it is written.
@@ -52,7 +53,7 @@ pub struct CompletedText {
     levels: Vec<OpenLevel>,
     /// The steps to the position of what is put next.
     path: Vec<PathSegment>,
-    nullability: Nullability,
+    /// The place of the errors of that position.
     place: Place,
     /// Tells whether what was begun last becomes null.
     muted: bool,
@@ -80,16 +81,26 @@ fn ends(token: Token<'_>) -> bool
     )
 }
 
+// Returns the number of the item that follows a step into a list.
+fn item_after(step: &PathSegment) -> Result<usize, AllocError>
+    ensures { IfOk result
+        (λ number. number ≡ next_item (part_of step.now ∷ [])) }
+{
+    match step {
+        PathSegment::Item(number) => Ok(number.checked_add(1).ok_or(AllocError)?),
+        PathSegment::Key(_) => Ok(0),
+    }
+}
+
 impl CompletedText {
     /// Nothing yet, at the root of an answer that may have `most` bytes.
-    pub fn new(alloc: Global, most: usize) -> CompletedText
+    fn new(alloc: Global, most: usize) -> CompletedText
         ensures { written_of result ≡ nothing_written most }
     {
         CompletedText {
             alloc,
             levels: Vec::new(alloc),
             path: Vec::new(alloc),
-            nullability: Nullability::Nullable,
             place: Place { line: 1, column: 1 },
             muted: false,
             text: BoundedText::new(alloc, most),
@@ -98,10 +109,39 @@ impl CompletedText {
         }
     }
 
+    /// Reads the text of an answer back that was written so far without an error, up to a limit: what has begun and not ended, and the
+    /// steps to what is put next, whose errors have this place. Keys stand in the text, and items are counted.
+    #[cold]
+    #[inline(never)]
+    pub fn read_back(
+        alloc: Global,
+        most: usize,
+        place: Place,
+        text: &str,
+    ) -> Result<CompletedText, AllocError>
+        ensures { IfOk result (IsReadBackOf (tokens text.now) most place) }
+    {
+        let mut scratch = Scratch::new(alloc);
+        let mut reader = Reader::new(text, &mut scratch)?;
+        // The object that the data stands in.
+        reader.next();
+        reader.next();
+        let mut back = CompletedText::new(alloc, most);
+        while let Some(token) = reader.next() {
+            back.take(token)?;
+        }
+        back.place = place;
+        Ok(back)
+    }
+
     /// The text of the answer, with its errors before its data. None where it is certain that it has too many bytes.
-    pub fn finish(self) -> Result<Option<String>, AllocError>
-        ensures { IfOk result (λ text. (most : ℕ) (p : Program) (R : Reader) → written_of self
-            ≡ put_all (puts false p R) (nothing_written most) → AnswersWithin most p R text) }
+    #[cold]
+    #[inline(never)]
+    #[cold]
+    #[inline(never)]
+    pub fn finish(&self) -> Result<Option<String>, AllocError>
+        ensures { IfOk result (λ t. (most : ℕ) (p : Program) (R : LoadReader)
+            → written_of self.now ≡ after_puts most (puts false p R) → AnswersWithin most p R t) }
     {
         let Some(errors) = self.errors.whole() else {
             return Ok(None);
@@ -175,14 +215,14 @@ impl CompletedText {
         self.put(Token::Null)
     }
 
-    // Puts an own value, and its error.
-    fn put_leaf_value(
+    /// A position with nothing below it: its own value, and its error.
+    pub fn leaf_value(
         &mut self,
         leaf_value: &LeafValue,
         nullability: Nullability,
     ) -> Result<(), AllocError>
-        ensures { OnOk result (written_of self.new ≡ given_leaf_value
-            (is_non_null nullability) (leaf_value_seen leaf_value.now) (written_of self.old)) }
+        ensures { OnOk result (written_of self.new ≡ put_one (Has (is_non_null nullability)
+            (leaf_value_seen leaf_value.now)) (written_of self.old)) }
     {
         match (leaf_value, nullability) {
             (LeafValue::Text(text), _) => self.put(Token::String(text.as_str())),
@@ -208,29 +248,93 @@ impl CompletedText {
     }
 
     // Enters a position of what was begun last.
-    fn enter(
-        &mut self,
-        step: PathSegment,
-        nullability: Nullability,
-        place: Place,
-    ) -> Result<(), AllocError>
+    fn enter(&mut self, step: PathSegment, place: Place) -> Result<(), AllocError>
         ensures { OnOk result (written_of self.new
-            ≡ entered_at (part_of step) (is_non_null nullability) place (written_of self.old)) }
+            ≡ entered_at (part_of step) place (written_of self.old)) }
     {
         let depth = self.depth();
         self.path.truncate(depth);
         self.path.push(step)?;
-        self.nullability = nullability;
         self.place = place;
         Ok(())
     }
 
-    // Ends what is null, so that what stood before it is followed by a null.
-    fn end_null(&mut self, muted: bool, before: BoundedText) -> Result<(), AllocError>
-        ensures { OnOk result
-            (written_of self.new ≡ nulled muted (text_of before) (written_of self.old)) }
+    // Enters the field of a key.
+    fn enter_field(&mut self, name: &str, place: Place) -> Result<(), AllocError>
+        ensures { OnOk result (written_of self.new
+            ≡ written (key name.now ∷ []) (entered_at (Key name.now) place (written_of self.old))) }
     {
-        self.muted = muted || self.nullability.is_non_null();
+        let step = String::from_str(self.alloc, name)?;
+        self.enter(PathSegment::Key(step), place)?;
+        self.put(Token::Key(name))
+    }
+
+    // Returns the number of the next item of a list, which so many steps lead to.
+    fn next_item(&self, depth: usize) -> Result<usize, AllocError>
+        ensures { IfOk result (λ number. number
+            ≡ next_item (drop depth (map part_of self.now.path.items))) }
+    {
+        match self.path.get(depth) {
+            Some(step) => item_after(step),
+            None => Ok(0),
+        }
+    }
+
+    /// Enters the next item, where what was begun last is a list.
+    pub fn enter_item(&mut self) -> Result<(), AllocError>
+        ensures { OnOk result (written_of self.new
+            ≡ item_entered (written_of self.old).levels (written_of self.old)) }
+    {
+        let (kind, depth) = match self.levels.last() {
+            Some(level) => (level.kind, level.depth),
+            None => return Ok(()),
+        };
+        match kind {
+            PositionKind::Object => Ok(()),
+            PositionKind::List => {
+                let number = self.next_item(depth)?;
+                self.enter(PathSegment::Item(number), self.place)
+            }
+        }
+    }
+
+    // Takes a token of a text without errors.
+    fn take(&mut self, token: Token<'_>) -> Result<(), AllocError>
+        requires { token ≢ declared.Token.Bad → IsPrintable (token_of token) }
+        ensures { OnOk result
+            (written_of self.new ≡ taken (token_of token.entry) (written_of self.old)) }
+    {
+        match token {
+            Token::BeginObject => {
+                self.enter_item()?;
+                self.begin(PositionKind::Object)
+            }
+            Token::BeginArray => {
+                self.enter_item()?;
+                self.begin(PositionKind::List)
+            }
+            Token::EndObject => self.end(PositionKind::Object, Nullability::Nullable),
+            Token::EndArray => self.end(PositionKind::List, Nullability::Nullable),
+            Token::Key(name) => self.enter_field(name, self.place),
+            Token::Bad => Ok(()),
+            _ => {
+                self.enter_item()?;
+                self.put(token)
+            }
+        }
+    }
+
+    // Ends what is null, so that what stood before it is followed by a null.
+    fn end_null(
+        &mut self,
+        nullability: Nullability,
+        muted: bool,
+        before: BoundedText,
+    ) -> Result<(), AllocError>
+        ensures { OnOk result (written_of self.new
+            ≡ nulled (is_non_null nullability) muted (text_of before) (written_of self.old)) }
+    {
+        self.muted = muted || nullability.is_non_null();
         self.text = before;
         self.put(Token::Null)
     }
@@ -247,33 +351,16 @@ impl CompletedText {
         }
         self.text.end(before)
     }
-}
 
-impl Sink for CompletedText {
-    ghost use Rattle.std.specs.Prelude.{refl};
-
-    ghost goes = { λ v ps old new. written_of new ≡ put_all ps (written_of old) };
-
-    ghost below = { λ n s. Unit {0} };
-
-    ghost waits = { λ s. 0 };
-
-    ghost none = { λ v s. refl };
-
-    ghost more = { λ v ps qs a b c f g. put_all-more ps qs (written_of a) (written_of b) (written_of c) f g };
-
-    ghost rises = { λ n m s le h. h };
-
-    ghost stays = { λ v ps a b h w. w };
-
-    ghost narrow = { λ v w n ps a b le same below held h. h };
-
-    fn begin(&mut self, kind: PositionKind) -> Result<(), AllocError> {
+    /// An object or a list begins.
+    pub fn begin(&mut self, kind: PositionKind) -> Result<(), AllocError>
+        ensures { OnOk result
+            (written_of self.new ≡ put_one (Begins (kind_of kind)) (written_of self.old)) }
+    {
         let before = self.text.begin(self.alloc)?;
         self.levels.push(OpenLevel {
+            kind,
             depth: self.path.len(),
-            nullability: self.nullability,
-            place: self.place,
             muted: self.muted,
             before,
         })?;
@@ -283,61 +370,48 @@ impl Sink for CompletedText {
         }
     }
 
-    fn end(&mut self, kind: PositionKind) -> Result<(), AllocError> {
+    /// It ends. Its position may be null or not.
+    pub fn end(&mut self, kind: PositionKind, nullability: Nullability) -> Result<(), AllocError>
+        ensures { OnOk result (written_of self.new ≡ put_one
+            (Ends (kind_of kind) (is_non_null nullability)) (written_of self.old)) }
+    {
         let Some(level) = self.levels.pop() else {
             return Ok(());
         };
         self.path.truncate(level.depth);
-        self.nullability = level.nullability;
-        self.place = level.place;
         if !self.muted {
             return self.end_kept(kind, level.before);
         }
-        self.end_null(level.muted, level.before)
+        self.end_null(nullability, level.muted, level.before)
     }
 
-    fn field(&mut self, position: &MemberPosition) -> Result<(), AllocError> {
-        let key = String::from_str(self.alloc, position.key.as_str())?;
-        self.enter(PathSegment::Key(key), position.nullability, position.place)?;
-        self.put(Token::Key(position.key.as_str()))
+    /// A field of the object follows.
+    pub fn field(&mut self, position: &MemberPosition) -> Result<(), AllocError>
+        ensures { OnOk result (written_of self.new ≡ put_one
+            (Enters ObjectOf (member_position position.now)) (written_of self.old)) }
+    {
+        self.enter_field(position.key.as_str(), position.place)
     }
 
-    fn item(&mut self, items: Items, number: usize) -> Result<(), AllocError> {
-        self.enter(PathSegment::Item(number), items.nullability, items.place)
+    /// The item of a number follows, from 0.
+    pub fn item(&mut self, items: Items, number: usize) -> Result<(), AllocError>
+        ensures { OnOk result (written_of self.new ≡ put_one
+            (Enters ListOf (item_position items number)) (written_of self.old)) }
+    {
+        self.enter(PathSegment::Item(number), items.place)
     }
 
-    fn leaf_value(
-        &mut self,
-        leaf_value: &LeafValue,
-        nullability: Nullability,
-    ) -> Result<(), AllocError> {
-        self.put_leaf_value(leaf_value, nullability)
-    }
-
-    // A text is put without a copy.
-    fn cell(&mut self, leaf: Leaf<'_>, nullability: Nullability) -> Result<(), AllocError> {
+    /// A position that is bound to a column. A text is put without a copy.
+    pub fn cell(&mut self, leaf: Leaf<'_>, nullability: Nullability) -> Result<(), AllocError>
+        ensures { OnOk result (written_of self.new ≡ put_one
+            (Has (is_non_null nullability) (leaf_seen leaf.entry)) (written_of self.old)) }
+    {
         if let Cell::Text(text) = leaf.row.get(leaf.column) {
             if let Some(CellValue::Text(text)) = leaf_of(leaf.schema, leaf.ty, text) {
                 return self.put(Token::String(text));
             }
         }
         let leaf_value = cell_value(self.alloc, leaf.schema, leaf.column, leaf.ty, leaf.row)?;
-        self.put_leaf_value(&leaf_value, nullability)
-    }
-
-    fn loads(&mut self, _count: usize) {}
-
-    fn waiting(&self) -> usize {
-        0
-    }
-
-    // No answer is completed where a position waits.
-    fn wait(
-        &mut self,
-        _onward: Onward,
-        _loader: usize,
-        _key: KeyRef<'_>,
-    ) -> Result<(), AllocError> {
-        Ok(())
+        self.leaf_value(&leaf_value, nullability)
     }
 }

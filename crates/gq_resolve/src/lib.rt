@@ -10,6 +10,7 @@
 #![tactic(auto)]
 
 mod advance;
+mod answer_text;
 mod bounded;
 mod completed_text;
 pub mod law;

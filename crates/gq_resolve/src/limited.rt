@@ -1,20 +1,18 @@
 //! The texts of answers, which may have a limit in bytes.
 
 ghost use Rattle.std.specs.Prelude.{◌≡◌, IfOk, string_bytes};
-ghost use Rattle.plan_program.specs.PlanPrograms.{plan_program};
-ghost use Rattle.plan_walk.specs.Reading.{lookup};
-ghost use Rattle.gq_resolve.specs.Limited.{too_long_text, limited_text, AnswersWithin, IsDone};
-ghost use Rattle.gq_resolve.specs.Suspended.{plan_on};
-ghost use Rattle.gq_resolve.specs.Within.{IsAnswerText};
+ghost use Rattle.load_memory.specs.Pairs.{MemoryOf};
+ghost use Rattle.gq_check.specs.Plans.{PlanOf};
+ghost use Rattle.gq_resolve.specs.Limited.{too_long_text, limited_text};
+ghost use Rattle.gq_resolve.specs.Within.{IsAnswerText, IsWritten};
 
-use crate::advance::{FinishedWalk, go_over};
-use crate::completed_text::CompletedText;
-use crate::output::{NO_LIMIT, Output};
+use crate::answer_text::AnswerText;
 use answer_json::write_refusal;
-use plan_walk::walk::Walk;
 use std::alloc::{AllocError, Global};
 
 // The refusal of an answer that is too long.
+#[cold]
+#[inline(never)]
 fn too_long(alloc: Global) -> Result<String, AllocError>
     ensures { IfOk result
         (λ text. string_bytes text ≡ too_long_text) }
@@ -33,41 +31,20 @@ fn limit_text(alloc: Global, text: String, most: usize) -> Result<String, AllocE
     Ok(text)
 }
 
-/// The text of an answer of which nothing is missing. None only where it is certain that it has more than `most` bytes.
-///
-/// An answer without errors was written, if it isn't too long. Any other is completed now, since an error can make null what was
-/// written around it.
-fn completed_text(
-    walk: &Walk<'_>,
-    walked: FinishedWalk<Output>,
-    most: usize,
-) -> Result<Option<String>, AllocError>
-    ensures { IsDone (plan_on walk.now) walk.now.memory.now walked → IfOk result
-        (AnswersWithin most (plan_program (plan_on walk.now)) (lookup walk.now.memory.now)) }
-{
-    let FinishedWalk { rooted, out } = walked;
-    if out.is_plain {
-        return Ok(Some(out.into_text()));
-    }
-    drop(out);
-    let walked = go_over(walk, rooted, CompletedText::new(walk.alloc, most))?;
-    walked.out.finish()
-}
-
-/// The text of an answer of which nothing is missing, or its refusal where it has more than `most` bytes.
+/// The text of an answer, which was written within `most` bytes if there is such a limit, or its refusal where it has more.
 pub fn whole_text(
-    walk: &Walk<'_>,
-    walked: FinishedWalk<Output>,
+    alloc: Global,
+    written: &mut AnswerText,
     most: Option<usize>,
 ) -> Result<String, AllocError>
-    ensures { IsDone (plan_on walk.now) walk.now.memory.now walked
-        → IfOk result (IsAnswerText most (plan_on walk.now) walk.now.memory.now) }
+    ensures { (plan : PlanOf) (m : MemoryOf) → IsWritten most plan m written.old
+        → IfOk result (IsAnswerText most plan m) }
 {
-    let Some(most) = most else {
-        return completed_text(walk, walked, NO_LIMIT)?.ok_or(AllocError);
-    };
-    match completed_text(walk, walked, most)? {
-        Some(text) => limit_text(walk.alloc, text, most),
-        None => too_long(walk.alloc),
+    match (written.finish()?, most) {
+        (Some(text), Some(most)) => limit_text(alloc, text, most),
+        (Some(text), None) => Ok(text),
+        (None, Some(_)) => too_long(alloc),
+        // No text is longer than any limit.
+        (None, None) => Err(AllocError),
     }
 }

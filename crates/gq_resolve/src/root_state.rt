@@ -13,6 +13,7 @@ use crate::advance::{RootObject, Suspension, advance};
 use crate::limited::whole_text;
 use crate::most_groups::most_groups_of;
 use crate::output::NO_LIMIT;
+use crate::wanting::add_wants;
 use execution::ExecutionResult;
 use futures::task::Poll;
 use gq_check::Plan;
@@ -73,7 +74,8 @@ impl RootState {
     }
 
     /// Goes on with each load that the memory has. It is ready with the text of the answer (section 7.1) and the count of the loads
-    /// that it reads where nothing is missing, and else adds what is needed and missing to the wants, depth first. An answer without errors is written straight from the rows.
+    /// that it reads where nothing is missing, and else adds what is needed and missing to the wants, depth first. An answer without
+    /// errors is written straight from the rows.
     ///
     /// With a limit the text may have `most` bytes and no more: a longer one is refused, and the text is that of its refusal. What it
     /// holds of the answer at any time is in proportion to that limit.
@@ -104,13 +106,17 @@ impl RootState {
             memory,
             most: self.most,
         };
-        match advance(&walk, most.unwrap_or(NO_LIMIT), &mut self.stopped, wants)? {
-            Some(walked) => {
-                let loads = walked.out.loads;
-                let text = whole_text(&walk, walked, most)?;
-                Ok(Poll::Ready(ExecutionResult { text, loads }))
-            }
-            None => Ok(Poll::Pending),
+        let mut walked = advance(&walk, most.unwrap_or(NO_LIMIT), self.stopped.take())?;
+        if walked.out.blocked.is_empty() {
+            let loads = walked.out.loads;
+            let text = whole_text(alloc, &mut walked.out.text, most)?;
+            return Ok(Poll::Ready(ExecutionResult { text, loads }));
         }
+        let out = walked.out;
+        let rooted = walked.rooted;
+        let modes = memory.modes().len();
+        let waiting = add_wants(alloc, &rooted.groups, out.blocked, modes, wants)?;
+        self.stopped = Some(Suspension { rooted, waiting });
+        Ok(Poll::Pending)
     }
 }

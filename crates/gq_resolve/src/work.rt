@@ -55,7 +55,7 @@ impl Sink for WorkLeft {
         Ok(())
     }
 
-    fn end(&mut self, _kind: PositionKind) -> Result<(), AllocError> {
+    fn end(&mut self, _kind: PositionKind, _nullability: Nullability) -> Result<(), AllocError> {
         Ok(())
     }
 

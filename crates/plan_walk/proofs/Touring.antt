@@ -1,5 +1,5 @@
 -- Lemmas on what a walk puts, one thing after another.
-use Rattle.std.proofs.Common.{◌≡◌, ◌⊎◌, inl, inr, ℕ, suc, ◌<◌, ◌≤◌, ◌+◌, ◌-◌, Bool, false, List, [], ◌∷◌, ◌++◌, map, take, drop, length, get_or, refl, sym, ap, ◌∙◌, subst, arith, append_assoc, append-nil, None}
+use Rattle.std.proofs.Common.{◌≡◌, ◌⊎◌, inl, inr, ℕ, suc, ◌<◌, ◌≤◌, ◌+◌, ◌-◌, Bool, List, [], ◌∷◌, ◌++◌, map, take, drop, length, get_or, refl, sym, ap, ◌∙◌, subst, arith, append_assoc, append-nil, None}
 use Rattle.std.proofs.lemmas.List.{take_more, take_all, take-append-drop, drop_all, map_push, map-append, length-map, length-take-le}
 use Rattle.std.proofs.Math.Path.{fun_ext}
 use Rattle.schema_syntax.specs.Tree.{Definition}
@@ -96,10 +96,10 @@ module _ {S : Type 0} {goes : Putting S} {below : Below S} {most : ℕ} {plan : 
       goes-as (goes-then laws link (goes-then laws (λ k. k) p here) s) (λ k v cov. append_assoc (before v) (entered ∷ []) (inner v))
 
   -- the end of an object or a list
-  pub goes-ended : {known : Type 0} {before : View → List Put} {kind : Kind} {a b c : Progress S} → Laws goes below → Goes goes below most plan known before a b
-      → c.groups.items ≡ b.groups.items → ((v : View) → goes v (Ends kind ∷ []) b.out c.out) → Goes goes below most plan known (λ v. before v ++ Ends kind ∷ []) a c
-  goes-ended {known} {kind = kind} {b = b} {c = c} laws p same q =
-      let here : Goes goes below most plan known (λ v. Ends kind ∷ []) b c = goes-put same (λ k v _. q v) in
+  pub goes-ended : {known : Type 0} {before : View → List Put} {kind : Kind} {non_null : Bool} {a b c : Progress S} → Laws goes below → Goes goes below most plan known before a b
+      → c.groups.items ≡ b.groups.items → ((v : View) → goes v (Ends kind non_null ∷ []) b.out c.out) → Goes goes below most plan known (λ v. before v ++ Ends kind non_null ∷ []) a c
+  goes-ended {known} {kind = kind} {non_null = non_null} {b = b} {c = c} laws p same q =
+      let here : Goes goes below most plan known (λ v. Ends kind non_null ∷ []) b c = goes-put same (λ k v _. q v) in
       goes-then laws (λ k. k) p here
 
   -- what is left to put changes a full sink no more
@@ -111,7 +111,7 @@ module _ {S : Type 0} {goes : Putting S} {below : Below S} {most : ℕ} {plan : 
 
   -- an object of a type, whose members were prepared first
   pub goes-made : {known : Type 0} (non_null : Bool) (R : Reader) (levels n group : ℕ) (ty : List ℕ) (row : RowOf) (a mid b : Progress S) (ms : List Member) → Laws goes below → levels ≡ suc n → mid.out ≡ a.out
-      → IsShaped plan most a.groups.items mid.groups.items group ty ms → Goes goes below most plan (AreKnown (length mid.groups.items) ms) (λ v. puts false (Under ObjectOf (members_seen plan.definitions v n row ms)) R) mid b
+      → IsShaped plan most a.groups.items mid.groups.items group ty ms → Goes goes below most plan (AreKnown (length mid.groups.items) ms) (λ v. puts non_null (Under ObjectOf (members_seen plan.definitions v n row ms)) R) mid b
       → Goes goes below most plan known (λ v. puts non_null (object_program plan levels ty (children_at a.groups.items group).below row) R) a b
   goes-made non_null R levels n group ty row a mid b ms laws above same shaped p = record {
     grows = grows-then plan a.groups.items mid.groups.items b.groups.items shaped.grows p.grows;
@@ -122,7 +122,7 @@ module _ {S : Type 0} {goes : Putting S} {below : Below S} {most : ℕ} {plan : 
         subst (below (length mid.groups.items)) (sym same) (laws.rises (length a.groups.items) (length mid.groups.items) a.out shaped.grows.longer wait) in
         subst (λ (s : S). goes v (puts non_null (object_program plan levels ty (children_at a.groups.items group).below row) R) s b.out) same
         (subst (λ (l : ℕ). goes v (puts non_null (object_program plan l ty (children_at a.groups.items group).below row) R) mid.out b.out) (sym above)
-        (subst (λ (us : Programs). goes v (puts false (Under ObjectOf us) R) mid.out b.out) (made.members v (p.grows.covers v cov) n row) (p.puts made.known (shaped.grows.right rt) from v cov)));
+        (subst (λ (us : Programs). goes v (puts non_null (Under ObjectOf us) R) mid.out b.out) (made.members v (p.grows.covers v cov) n row) (p.puts made.known (shaped.grows.right rt) from v cov)));
   }
 
   -- groups that were met on the way may be let go
@@ -172,16 +172,16 @@ fields-more defs levels row R ms i m v lt is =
     ∙ ap (λ xs. fields_put defs levels row R xs v) (sym (take_more ms i m lt ∙ ap (λ x. take i ms ++ x ∷ []) (sym is)))
 
 -- gives what is put of an object after some of its members
-abbrev pub fields_left : List Definition → ℕ → RowOf → Reader → List Member → View → List Put
-fields_left defs levels row R ms v = all_puts ObjectOf (members_seen defs v levels row ms) R ++ Ends ObjectOf ∷ []
+abbrev pub fields_left : List Definition → Bool → ℕ → RowOf → Reader → List Member → View → List Put
+fields_left defs non_null levels row R ms v = all_puts ObjectOf (members_seen defs v levels row ms) R ++ Ends ObjectOf non_null ∷ []
 
-pub fields-rest : (defs : List Definition) (levels : ℕ) (row : RowOf) (R : Reader) (ms : List Member) (i : ℕ) (v : View)
-    → fields_put defs levels row R (take i ms) v ++ fields_left defs levels row R (drop i ms) v ≡ puts false (Under ObjectOf (members_seen defs v levels row ms)) R
-fields-rest defs levels row R ms i v =
+pub fields-rest : (defs : List Definition) (non_null : Bool) (levels : ℕ) (row : RowOf) (R : Reader) (ms : List Member) (i : ℕ) (v : View)
+    → fields_put defs levels row R (take i ms) v ++ fields_left defs non_null levels row R (drop i ms) v ≡ puts non_null (Under ObjectOf (members_seen defs v levels row ms)) R
+fields-rest defs non_null levels row R ms i v =
     let seen = members_seen defs v levels row in
-    sym (append_assoc (fields_put defs levels row R (take i ms) v) (all_puts ObjectOf (seen (drop i ms)) R) (Ends ObjectOf ∷ []))
-    ∙ ap (λ us. Begins ObjectOf ∷ (us ++ Ends ObjectOf ∷ [])) (sym (puts-chained ObjectOf (seen (take i ms)) (seen (drop i ms)) R))
-    ∙ ap (λ us. Begins ObjectOf ∷ (all_puts ObjectOf us R ++ Ends ObjectOf ∷ [])) (sym (members-append defs v levels row (take i ms) (drop i ms)) ∙ ap seen (take-append-drop i ms))
+    sym (append_assoc (fields_put defs levels row R (take i ms) v) (all_puts ObjectOf (seen (drop i ms)) R) (Ends ObjectOf non_null ∷ []))
+    ∙ ap (λ us. Begins ObjectOf ∷ (us ++ Ends ObjectOf non_null ∷ [])) (sym (puts-chained ObjectOf (seen (take i ms)) (seen (drop i ms)) R))
+    ∙ ap (λ us. Begins ObjectOf ∷ (all_puts ObjectOf us R ++ Ends ObjectOf non_null ∷ [])) (sym (members-append defs v levels row (take i ms) (drop i ms)) ∙ ap seen (take-append-drop i ms))
 
 -- one of several known members asks for what is known
 pub known-at : (n k : ℕ) (ms : List Member) (i : ℕ) (m : Member) → n ≤ k → i < length ms → m ≡ get_or ms i m → AreKnown n ms → IsAsked k m.asks
@@ -210,25 +210,25 @@ items-more non_null place R f xs i x v lt is =
     ∙ ap (λ qs. Begins ListOf ∷ all_puts ListOf (places non_null place 0 qs) R) (sym (ap (map (f v)) (take_more xs i x lt ∙ ap (λ y. take i xs ++ y ∷ []) (sym is)) ∙ map_push (f v) (take i xs) x))
 
 -- all of them
-pub items-whole : {A : Type 0} (non_null to_be : Bool) (place there : Place) (R : Reader) (f : View → A → Program) (xs : List A) (i : ℕ) (v : View) → non_null ≡ to_be → place ≡ there → length xs ≤ i
-    → items_put non_null place R f (take i xs) v ++ Ends ListOf ∷ [] ≡ puts false (Under ListOf (places to_be there 0 (map (f v) xs))) R
-items-whole non_null to_be place there R f xs i v e g le =
-    let put = λ (s : Bool) (p : Place). puts false (Under ListOf (places s p 0 (map (f v) xs))) R in
-    ap (λ ys. items_put non_null place R f ys v ++ Ends ListOf ∷ []) (take_all i xs le) ∙ ap (λ s. put s place) e ∙ ap (λ p. put to_be p) g
+pub items-whole : {A : Type 0} (list non_null to_be : Bool) (place there : Place) (R : Reader) (f : View → A → Program) (xs : List A) (i : ℕ) (v : View) → non_null ≡ to_be → place ≡ there → length xs ≤ i
+    → items_put non_null place R f (take i xs) v ++ Ends ListOf list ∷ [] ≡ puts list (Under ListOf (places to_be there 0 (map (f v) xs))) R
+items-whole list non_null to_be place there R f xs i v e g le =
+    let put = λ (s : Bool) (p : Place). puts list (Under ListOf (places s p 0 (map (f v) xs))) R in
+    ap (λ ys. items_put non_null place R f ys v ++ Ends ListOf list ∷ []) (take_all i xs le) ∙ ap (λ s. put s place) e ∙ ap (λ p. put to_be p) g
 
 -- gives what is put of a list after some of its items
-abbrev pub items_left : {A : Type 0} → Bool → Place → Reader → (View → A → Program) → List A → ℕ → View → List Put
-items_left non_null place R f xs i v = all_puts ListOf (places non_null place (0 + length (map (f v) (take i xs))) (map (f v) (drop i xs))) R ++ Ends ListOf ∷ []
+abbrev pub items_left : {A : Type 0} → Bool → Bool → Place → Reader → (View → A → Program) → List A → ℕ → View → List Put
+items_left list non_null place R f xs i v = all_puts ListOf (places non_null place (0 + length (map (f v) (take i xs))) (map (f v) (drop i xs))) R ++ Ends ListOf list ∷ []
 
-pub items-rest : {A : Type 0} (non_null to_be : Bool) (place there : Place) (R : Reader) (f : View → A → Program) (xs : List A) (i : ℕ) (v : View) → non_null ≡ to_be → place ≡ there
-    → items_put non_null place R f (take i xs) v ++ items_left non_null place R f xs i v ≡ puts false (Under ListOf (places to_be there 0 (map (f v) xs))) R
-items-rest non_null to_be place there R f xs i v e g =
-    let put = λ (s : Bool) (p : Place) (ps : List Program). puts false (Under ListOf (places s p 0 ps)) R in
+pub items-rest : {A : Type 0} (list non_null to_be : Bool) (place there : Place) (R : Reader) (f : View → A → Program) (xs : List A) (i : ℕ) (v : View) → non_null ≡ to_be → place ≡ there
+    → items_put non_null place R f (take i xs) v ++ items_left list non_null place R f xs i v ≡ puts list (Under ListOf (places to_be there 0 (map (f v) xs))) R
+items-rest list non_null to_be place there R f xs i v e g =
+    let put = λ (s : Bool) (p : Place) (ps : List Program). puts list (Under ListOf (places s p 0 ps)) R in
     let ps : List Program = map (f v) (take i xs) in
     let qs : List Program = map (f v) (drop i xs) in
-    sym (append_assoc (items_put non_null place R f (take i xs) v) (all_puts ListOf (places non_null place (0 + length ps) qs) R) (Ends ListOf ∷ []))
-    ∙ ap (λ us. Begins ListOf ∷ (us ++ Ends ListOf ∷ [])) (sym (puts-chained ListOf (places non_null place 0 ps) (places non_null place (0 + length ps) qs) R))
-    ∙ ap (λ us. Begins ListOf ∷ (all_puts ListOf us R ++ Ends ListOf ∷ [])) (sym (places-append non_null place 0 ps qs))
+    sym (append_assoc (items_put non_null place R f (take i xs) v) (all_puts ListOf (places non_null place (0 + length ps) qs) R) (Ends ListOf list ∷ []))
+    ∙ ap (λ us. Begins ListOf ∷ (us ++ Ends ListOf list ∷ [])) (sym (puts-chained ListOf (places non_null place 0 ps) (places non_null place (0 + length ps) qs) R))
+    ∙ ap (λ us. Begins ListOf ∷ (all_puts ListOf us R ++ Ends ListOf list ∷ [])) (sym (places-append non_null place 0 ps qs))
     ∙ ap (put non_null place) (sym (map-append (f v) (take i xs) (drop i xs)) ∙ ap (map (f v)) (take-append-drop i xs))
     ∙ ap (λ s. put s place (map (f v) xs)) e ∙ ap (λ p. put to_be p (map (f v) xs)) g
 
@@ -337,7 +337,7 @@ module _ {S : Type 0} {goes : Putting S} {below : Below S} {most : ℕ} {plan : 
 
   -- of the members that are kept
   pub goes-only : {known : Type 0} (non_null : Bool) (R : Reader) (onward : OnwardOf) (n : ℕ) (row : RowOf) (a b : Progress S) (ms : List Member) → onward.levels ≡ suc n → AreOnly a.groups.items onward.group ms → (known → onward.group < length a.groups.items)
-      → Goes goes below most plan (AreKnown (length a.groups.items) ms) (λ v. puts false (Under ObjectOf (members_seen plan.definitions v n row ms)) R) a b
+      → Goes goes below most plan (AreKnown (length a.groups.items) ms) (λ v. puts non_null (Under ObjectOf (members_seen plan.definitions v n row ms)) R) a b
       → Goes goes below most plan known (λ v. puts non_null (v.after (later_of 0 onward) (row ∷ [])) R) a b
   goes-only non_null R onward n row a b ms above only among p = record {
     grows = p.grows;

@@ -7,9 +7,9 @@ use Rattle.execution.specs.Program.{LeafValue, Kind, FieldPosition, Program, Is,
 use Rattle.plan_program.specs.PlanPrograms.{read_key}
 
 pub data Put : Type 0 where
-  -- an object or a list begins, and ends
+  -- an object or a list begins; and ends, whose type is non-null or not
   Begins : Kind → Put
-  Ends : Kind → Put
+  Ends : Kind → Bool → Put
   -- a position of an object or a list follows
   Enters : Kind → FieldPosition → Put
   -- a position with nothing below it, whose type is non-null or not
@@ -30,7 +30,8 @@ abbrev mutual
   puts non_null (Is leaf_value) R = Has non_null leaf_value ∷ []
   puts non_null (Read load next) R = Reads ∷ given (R load) (Waits (Read load next) ∷ [])
       (λ outcome. puts non_null (next outcome) R)
-  puts non_null (Under kind below) R = Begins kind ∷ (all_puts kind below R ++ Ends kind ∷ [])
+  puts non_null (Under kind below) R =
+      Begins kind ∷ (all_puts kind below R ++ Ends kind non_null ∷ [])
 
   pub all_puts : Kind → Programs → Reader → List Put
   all_puts kind End R = []

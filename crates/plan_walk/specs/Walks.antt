@@ -1,5 +1,5 @@
 -- Definitions of what a walk puts into its sink, and what it does to the groups on its way.
-use Rattle.std.specs.Prelude.{◌≡◌, ◌<◌, ◌≤◌, ◌⊎◌, ℕ, Bool, false, List, [], ◌∷◌, length, map, take, Option}
+use Rattle.std.specs.Prelude.{◌≡◌, ◌<◌, ◌≤◌, ◌⊎◌, ℕ, Bool, List, [], ◌∷◌, length, map, take, Option}
 use Rattle.load_memory.specs.Keys.{KeyOf}
 use Rattle.load_memory.specs.Rows.{RowOf}
 use Rattle.execution.specs.Program.{Program, Under, ListOf, ObjectOf}
@@ -13,7 +13,6 @@ use Rattle.plan_walk.specs.declared.loading_fields.FieldResolver.{FieldResolver}
 use Rattle.plan_walk.specs.declared.loading_fields.LoadingField.{LoadingField}
 use Rattle.plan_walk.specs.declared.loading_fields.Member.{Member}
 use Rattle.plan_walk.specs.declared.positions.Items.{Items}
-use Rattle.plan_walk.specs.declared.positions.Onward.{Onward}
 use Rattle.plan_walk.specs.declared.walk.LoadingPosition.{LoadingPosition}
 use Rattle.plan_walk.specs.declared.walk.Progress.{Progress}
 use Rattle.plan_walk.specs.declared.walk.Walk.{Walk}
@@ -38,9 +37,10 @@ Walks goes below walk known non_null program old new = Goes goes below walk.most
 
 -- it puts an object of these members over a row
 abbrev pub WalksMembers : {S : Type 0} (goes : View → List Put → S → S → Type 0)
-    (below : ℕ → S → Type 0) → Walk → ℕ → RowOf → List Member → Progress S → Progress S → Type 0
-WalksMembers goes below walk levels row ms old new =
-    Walks goes below walk (AreKnown (length old.groups.items) ms) false (λ v.
+    (below : ℕ → S → Type 0) → Walk → ℕ → Bool → RowOf → List Member
+    → Progress S → Progress S → Type 0
+WalksMembers goes below walk levels non_null row ms old new =
+    Walks goes below walk (AreKnown (length old.groups.items) ms) non_null (λ v.
     Under ObjectOf (members_seen (plan_of walk.plan.now).definitions v levels row ms)) old new
 
 -- it puts what a position asks for over a row
@@ -60,12 +60,6 @@ WalksAt goes below walk to program old new = Walks goes below walk
 -- gives what a position that loads goes on to, with the rows of its load
 abbrev pub after_load : LoadingPosition → View → List RowOf → Program
 after_load to v = v.after (onward_of to.onward)
-
--- it puts a list, whose items go on so
-abbrev pub WalksList : {S : Type 0} (goes : View → List Put → S → S → Type 0)
-    (below : ℕ → S → Type 0) → Walk → Onward → (View → Program) → Progress S → Progress S → Type 0
-WalksList goes below walk onward program old new =
-    Walks goes below walk (onward.group < length old.groups.items) false program old new
 
 -- it puts what `left` later loaders come to from the first of some rows
 abbrev pub WalksLater : {S : Type 0} (goes : View → List Put → S → S → Type 0)

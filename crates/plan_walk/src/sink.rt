@@ -33,9 +33,10 @@ pub trait Sink {
         ensures { OnOk result
             ((v : View) → goes v (Begins (kind_of kind) ∷ []) self.old self.new) };
 
-    /// It ends.
-    fn end(&mut self, kind: PositionKind) -> Result<(), AllocError>
-        ensures { OnOk result ((v : View) → goes v (Ends (kind_of kind) ∷ []) self.old self.new) };
+    /// It ends. Its position may be null or not.
+    fn end(&mut self, kind: PositionKind, nullability: Nullability) -> Result<(), AllocError>
+        ensures { OnOk result ((v : View)
+            → goes v (Ends (kind_of kind) (is_non_null nullability) ∷ []) self.old self.new) };
 
     /// A field of the object follows.
     fn field(&mut self, position: &MemberPosition) -> Result<(), AllocError>

@@ -12,7 +12,7 @@ ghost use Rattle.plan_program.specs.Prepared.{keys_seen};
 ghost use Rattle.plan_program.specs.PlanPrograms.{with_rows, read_key, read_if};
 ghost use Rattle.plan_walk.specs.Groups.{AreOnly};
 ghost use Rattle.plan_walk.specs.Positions.{is_non_null, onward_of};
-ghost use Rattle.plan_walk.specs.Walks.{WalksMembers, WalksAsks, WalksAt, WalksList, WalksLater, WalksRow, WalksTyped, LetsGo, after_load, items_after, items_read};
+ghost use Rattle.plan_walk.specs.Walks.{WalksMembers, WalksAsks, WalksAt, WalksLater, WalksRow, WalksTyped, LetsGo, after_load, items_after, items_read};
 
 use crate::cells::{TypeOf, type_of_row};
 use crate::following::{ViaRows, follow_steps};
@@ -57,17 +57,18 @@ pub struct LoadingPosition {
 }
 
 impl<'w> Walk<'w> {
-    /// An object over a row, with `levels` levels of objects below it.
+    /// An object over a row, at a position that may be null or not, with `levels` levels of objects below it.
     #[cycle(walk)]
     pub fn object<S: Sink>(
         &self,
         at: &mut Progress<S>,
         levels: u32,
+        nullability: Nullability,
         members: &[Member],
         row: &Row,
     ) -> Result<(), AllocError>
-        ensures { OnOk result
-            (WalksMembers S.goes S.below self.now levels row.now members.now at.old at.new) }
+        ensures { OnOk result (WalksMembers S.goes S.below self.now levels
+            (is_non_null nullability) row.now members.now at.old at.new) }
     {
         at.out.begin(PositionKind::Object)?;
         for member in members {
@@ -75,10 +76,9 @@ impl<'w> Walk<'w> {
                 return Ok(());
             }
             at.out.field(&member.position)?;
-            let nullability = member.position.nullability;
-            self.ask(at, levels, nullability, &member.asks, row)?;
+            self.ask(at, levels, member.position.nullability, &member.asks, row)?;
         }
-        at.out.end(PositionKind::Object)
+        at.out.end(PositionKind::Object, nullability)
     }
 
     // Returns what a position asks for over a row.
@@ -97,16 +97,13 @@ impl<'w> Walk<'w> {
         match asks {
             FieldResolver::Known(leaf_value) => at.out.leaf_value(leaf_value, nullability),
             FieldResolver::Cell { column, ty } => {
-                let schema = self.plan.schema();
-                at.out.cell(
-                    Leaf {
-                        schema,
-                        column: column.as_str(),
-                        ty,
-                        row,
-                    },
-                    nullability,
-                )
+                let leaf = Leaf {
+                    schema: self.plan.schema(),
+                    column: column.as_str(),
+                    ty,
+                    row,
+                };
+                at.out.cell(leaf, nullability)
             }
             FieldResolver::Load { loader, key, group } => {
                 let to = LoadingPosition {
@@ -127,7 +124,13 @@ impl<'w> Walk<'w> {
                 keys,
                 items,
                 group,
-            } => self.each(at, Onward::at(*group, levels), *loader, keys, *items),
+            } => {
+                let to = LoadingPosition {
+                    onward: Onward::at(*group, levels),
+                    nullability,
+                };
+                self.each(at, to, *loader, keys, *items)
+            }
         }
     }
 
@@ -191,7 +194,7 @@ impl<'w> Walk<'w> {
         }
         match taken_of(&at.groups, to.onward.group) {
             TakenRows::First => self.first(at, to, 0, rows),
-            TakenRows::All(left) => self.all(at, to.onward, left, rows),
+            TakenRows::All(left) => self.all(at, to, left, rows),
         }
     }
 
@@ -217,16 +220,16 @@ impl<'w> Walk<'w> {
     fn all<S: Sink>(
         &self,
         at: &mut Progress<S>,
-        onward: Onward,
+        to: LoadingPosition,
         left: usize,
         rows: &[Row],
     ) -> Result<(), AllocError>
-        ensures { OnOk result (WalksList S.goes S.below self.now onward (λ v.
-            items_after v at.old.groups.items (onward_of onward) left rows.now) at.old at.new) }
+        ensures { OnOk result (WalksAt S.goes S.below self.now to (λ v.
+            items_after v at.old.groups.items (onward_of to.onward) left rows.now) at.old at.new) }
     {
-        let items = items_of(&at.groups, onward.group);
-        let to = LoadingPosition {
-            onward,
+        let items = items_of(&at.groups, to.onward.group);
+        let to_item = LoadingPosition {
+            onward: to.onward,
             nullability: items.nullability,
         };
         at.out.begin(PositionKind::List)?;
@@ -235,9 +238,9 @@ impl<'w> Walk<'w> {
                 return Ok(());
             }
             at.out.item(items, number)?;
-            self.follow(at, to, left, row)?;
+            self.follow(at, to_item, left, row)?;
         }
-        at.out.end(PositionKind::List)
+        at.out.end(PositionKind::List, to.nullability)
     }
 
     // Returns what the last `left` later loaders come to from a row. Where the memory lacks a load on the way, the position
@@ -278,16 +281,16 @@ impl<'w> Walk<'w> {
     fn each<S: Sink>(
         &self,
         at: &mut Progress<S>,
-        onward: Onward,
+        to: LoadingPosition,
         loader: usize,
         keys: &[Option<Key>],
         items: Items,
     ) -> Result<(), AllocError>
-        ensures { OnOk result (WalksList S.goes S.below self.now onward (λ v.
-            items_read v items (onward_of onward) loader (keys_seen keys.now)) at.old at.new) }
+        ensures { OnOk result (WalksAt S.goes S.below self.now to (λ v.
+            items_read v items (onward_of to.onward) loader (keys_seen keys.now)) at.old at.new) }
     {
-        let to = LoadingPosition {
-            onward,
+        let to_item = LoadingPosition {
+            onward: to.onward,
             nullability: items.nullability,
         };
         at.out.begin(PositionKind::List)?;
@@ -296,9 +299,9 @@ impl<'w> Walk<'w> {
                 return Ok(());
             }
             at.out.item(items, number)?;
-            self.read_if(at, to, loader, key)?;
+            self.read_if(at, to_item, loader, key)?;
         }
-        at.out.end(PositionKind::List)
+        at.out.end(PositionKind::List, to.nullability)
     }
 
     // The rows of a key, if there is one.
@@ -356,7 +359,7 @@ impl<'w> Walk<'w> {
         if levels == 0 {
             return at.out.leaf_value(&LeafValue::Null, to.nullability);
         }
-        self.object(at, levels - 1, members, row)
+        self.object(at, levels - 1, to.nullability, members, row)
     }
 
     // An object of a type over a row.
@@ -377,7 +380,7 @@ impl<'w> Walk<'w> {
         let count = at.groups.len();
         let held = at.out.waiting();
         let members = shape_of(self, &mut at.groups, to.onward.group, ty)?;
-        self.object(at, levels - 1, &members, row)?;
+        self.object(at, levels - 1, to.nullability, &members, row)?;
         let_go(at, self.most, count, held);
         Ok(())
     }

@@ -6,4 +6,4 @@ pub returns-then-is_empty : goal.returns-then-is_empty
 returns-then-is_empty c = λ may. c.begin.ensures (c.in_ok-searched.ensures may).goes_on.rooted
 
 pub returns : goal.returns
-returns c = λ may. still-waits (plan_of c.args.walk.now.plan.now) c.args.walk.now.memory.now c.in_ok-searched.searched (λ none. cc (c.if-is_empty.ensures.1 none)) (c.in_ok-searched.ensures may)
+returns c = λ may. still-waits (plan_of c.args.walk.now.plan.now) c.args.walk.now.memory.now c.args.most c.in_ok-searched.searched (λ none. cc (c.if-is_empty.ensures.1 none)) (c.in_ok-searched.ensures may)

@@ -3,4 +3,4 @@ use Rattle.gq_resolve.proofs.Putting.{reads-put}
 use Rattle.gq_resolve.proofs.output.OutputSink.loads.Goals as goal
 
 pub returns : goal.returns
-returns c = λ v. reads-put v c.args.count c.args.self.now _ refl refl refl (omega (arith, c.saturating_add-self.ensures))
+returns c = λ v. reads-put v c.args.count c.args.self.now _ refl refl (omega (arith, c.saturating_add-self.ensures))

@@ -1,4 +1,4 @@
-use Rattle.std.proofs.Common.{refl, rules}
+use Rattle.std.proofs.Common.{refl, rules, sym, subst}
 use Rattle.load_memory.specs.Pairs.{MemoryOf}
 use Rattle.execution.specs.Completion.{AnsweredOf}
 use Rattle.execution.specs.Executed.{completed}
@@ -6,15 +6,41 @@ use Rattle.execution.specs.Program.{tree}
 use Rattle.gq_check.specs.Plans.{PlanOf, plan_of}
 use Rattle.plan_program.specs.PlanPrograms.{plan_program}
 use Rattle.plan_walk.specs.Reading.{lookup}
-use Rattle.gq_resolve.proofs.Polling.{answer-done, answer-shut, loads-counted}
+use Rattle.gq_resolve.specs.Evaluated.{AddsPart}
+use Rattle.gq_resolve.specs.Suspended.{FitsMemory, FitsStopped, Advanced, lacking}
+use Rattle.gq_resolve.proofs.Evaluating.{on_err}
+use Rattle.gq_resolve.proofs.Polling.{answer-done, answer-shut, answer-within, front-added, loads-counted, part-wanted, still-fits}
 use Rattle.gq_resolve.proofs.root_state.RootState.poll_text.Goals as goal
+use Rattle.gq_resolve.proofs.root_state.RootState.poll_text.Goals.{After-is_empty}
 
-pub returns-in_ok-text-in-Some-clause-ok : goal.returns-in_ok-text-in-Some-clause-ok
-returns-in_ok-text-in-Some-clause-ok c = λ fits.
+-- the walk came as far as it could
+far : (c : After-is_empty) → FitsMemory (plan_of c.args.plan.now) c.args.self.now c.args.memory.now → Advanced (plan_of c.args.plan.now) c.args.memory.now c.unwrap_or.result c.in_ok-walked.walked
+far c fits = c.in_ok-walked.ensures (subst (FitsStopped (plan_of c.args.plan.now) c.args.memory.now) (sym c.take.ensures.value) fits)
+
+pub returns-then-is_empty-clause-ok : goal.returns-then-is_empty-clause-ok
+returns-then-is_empty-clause-ok c = λ fits.
     let plan : PlanOf = plan_of c.args.plan.now in
     let m : MemoryOf = c.args.memory.now in
-    let far = rw c.in-Some.is at (c.in_ok-walked.ensures.ok fits) in
+    let came = far (goal.at.returns-then-is_empty-clause-ok c).After-is_empty fits in
+    let none = c.if-is_empty.ensures.0 refl in
     let answer : AnsweredOf = completed (tree (plan_program plan) (lookup m)) in
-    let done = answer-done plan m c.args.wants.now _ c.requires far.0 answer far.1 (λ shut. refl) in
-    let text = c.in_ok-text-in-Some.ensures (far.0, far.1) (answer-shut plan m c.args.wants.now _ c.requires far.0 far.1) in
-    (done.0, record { answered = answer; executed = done.1; report = text }, loads-counted plan m c.in-Some.walked.out.loads c.requires.enough (search rules) (far.0.loads far.1), far.2)
+    let done = answer-done plan m c.args.wants.now _ c.requires came answer none (λ shut. refl) in
+    let within = answer-within c.args.most c.unwrap_or.result _ plan m _ c.unwrap_or.ensures (came.written none) in
+    let text = c.in_ok-text.ensures plan m within (answer-shut plan m c.args.wants.now _ c.requires came none) in
+    (done.0, record { answered = answer; executed = done.1; report = text }, loads-counted plan m c.in_ok-walked.walked.out.loads c.requires.enough (search rules) (came.loads none), refl)
+
+pub returns-in_err-waiting-clause-err : goal.returns-in_err-waiting-clause-err
+returns-in_err-waiting-clause-err c = λ fits.
+    let plan : PlanOf = plan_of c.args.plan.now in
+    let m : MemoryOf = c.args.memory.now in
+    on_err {P = AddsPart c.args.wants.now c.add_wants.new.wants (lacking plan m)} _
+    (part-wanted plan m c.args.wants.now c.in_ok-walked.walked c.requires (far (goal.at.returns-in_err-waiting-clause-err c).After-is_empty fits) c.add_wants.new.wants c.in_err-waiting.ensures.part)
+
+pub returns-clause-ok : goal.returns-clause-ok
+returns-clause-ok c = λ fits.
+    front-added (plan_of c.args.plan.now) c.args.memory.now c.args.wants.now c.in_ok-walked.walked c.requires (far (goal.at.returns-clause-ok c).After-is_empty fits) c.add_wants.new.wants
+    (λ none. cc (c.if-is_empty.ensures.1 none)) c.in_ok-waiting.ensures.ok
+
+pub returns-clause-grown : goal.returns-clause-grown
+returns-clause-grown c = λ n fits grown.
+    still-fits (plan_of c.args.plan.now) c.args.memory.now n c.in_ok-walked.walked c.in_ok-waiting.waiting (far (goal.at.returns-clause-grown c).After-is_empty fits) c.in_ok-waiting.ensures.kept grown

@@ -1,5 +1,5 @@
 use Rattle.std.specs.Arc.{arc_value}
-use Rattle.std.proofs.Common.{◌≡◌, ◌-◌, ◌∙◌, ◌<◌, ◌++◌, rules, ℕ, List, [], ◌∷◌, map, length, arith, sym, ap, subst, refl, Bool, Option, Some, None, Vec, Global, string_bytes, false}
+use Rattle.std.proofs.Common.{◌≡◌, ◌-◌, ◌∙◌, ◌<◌, ◌++◌, rules, ℕ, List, [], ◌∷◌, map, length, arith, sym, ap, subst, refl, Bool, Option, Some, None, Vec, Global, string_bytes}
 use Rattle.std.specs.Prelude.{OnOk}
 use Rattle.std.specs.Option.{option_map, option_copied}
 use Rattle.std.proofs.lemmas.List.{take_all}
@@ -23,7 +23,7 @@ use Rattle.plan_walk.specs.Groups.{children_at, then_at, steps_in, Covers, AreOn
 use Rattle.plan_walk.specs.Puts.{Put, Ends, Waits, View, OnwardOf, reads, puts}
 use Rattle.plan_walk.specs.Positions.{is_non_null, onward_of, later_of}
 use Rattle.plan_walk.specs.Reading.{lookup}
-use Rattle.plan_walk.specs.Walks.{WalksAt, WalksList, items_read}
+use Rattle.plan_walk.specs.Walks.{WalksAt, items_read}
 use Rattle.plan_program.specs.Prepared.{keys_seen}
 use Rattle.plan_walk.specs.declared.positions.Onward.{Onward}
 use Rattle.plan_walk.specs.Following.{come_to, followed_puts}
@@ -49,34 +49,34 @@ object-loop-member-preserved g t c =
 pub object-returns-then-is_full : goal.object-returns-then-is_full
 object-returns-then-is_full g t c =
     goes-as (goes-full _ (laws g) (c.is_full.ensures c.if-is_full.true) c.loop-member.invariant)
-    (λ k v cov. fields-rest (plan_of c.args.self.now.plan.now).definitions c.args.levels c.args.row.now (lookup c.args.self.now.memory.now) c.args.members.now c.loop-member.member-index v)
+    (λ k v cov. fields-rest (plan_of c.args.self.now.plan.now).definitions (is_non_null c.args.nullability) c.args.levels c.args.row.now (lookup c.args.self.now.memory.now) c.args.members.now c.loop-member.member-index v)
 
 pub object-returns : goal.object-returns
 object-returns g t c =
     on_ok_weaker c.end.result
     (λ q. goes-as (goes-ended (laws g) c.loop-member.invariant refl q)
-    (λ k v cov. ap (λ ms. fields_put (plan_of c.args.self.now.plan.now).definitions c.args.levels c.args.row.now (lookup c.args.self.now.memory.now) ms v ++ Ends ObjectOf ∷ []) (take_all c.loop-member.member-index c.args.members.now c.loop-member-test.false)))
+    (λ k v cov. ap (λ ms. fields_put (plan_of c.args.self.now.plan.now).definitions c.args.levels c.args.row.now (lookup c.args.self.now.memory.now) ms v ++ Ends ObjectOf (is_non_null c.args.nullability) ∷ []) (take_all c.loop-member.member-index c.args.members.now c.loop-member-test.false)))
     c.end.ensures
 
 pub all-loop-number-preserved : goal.all-loop-number-preserved
 all-loop-number-preserved g t c =
     goes-as (goes-entered (laws g) (λ lt. omega (arith, lt, c.loop-number.invariant.grows.longer)) c.loop-number.invariant refl c.in_ok-item.ensures c.in_ok-follow.ensures)
-    (λ k v cov. items-more _ _ _ (λ (v : View) (row : RowOf). v.after (later_of c.args.left (onward_of c.args.onward)) (row ∷ [])) c.args.rows.now c.loop-number.number c.index-rows-number.result v c.loop-number-test.true c.index-rows-number.is)
+    (λ k v cov. items-more _ _ _ (λ (v : View) (row : RowOf). v.after (later_of c.args.left (onward_of c.args.to.onward)) (row ∷ [])) c.args.rows.now c.loop-number.number c.index-rows-number.result v c.loop-number-test.true c.index-rows-number.is)
 
 pub all-returns-then-is_full : goal.all-returns-then-is_full
 all-returns-then-is_full g t c =
     goes-as (goes-full _ (laws g) (c.is_full.ensures c.if-is_full.true) c.loop-number.invariant)
-    (λ k v cov. items-rest _ _ _ _ _ (λ (v : View) (row : RowOf). v.after (later_of c.args.left (onward_of c.args.onward)) (row ∷ [])) c.args.rows.now c.loop-number.number v
-    (c.items_of-items.ensures.nullability ∙ ap (λ (gs : List LoadingField). (children_at gs c.args.onward.group).item_non_null) c.deref.ensures.value)
-    (c.items_of-items.ensures.place ∙ ap (λ (gs : List LoadingField). (children_at gs c.args.onward.group).place) c.deref.ensures.value))
+    (λ k v cov. items-rest _ _ _ _ _ _ (λ (v : View) (row : RowOf). v.after (later_of c.args.left (onward_of c.args.to.onward)) (row ∷ [])) c.args.rows.now c.loop-number.number v
+    (c.items_of-items.ensures.nullability ∙ ap (λ (gs : List LoadingField). (children_at gs c.args.to.onward.group).item_non_null) c.deref.ensures.value)
+    (c.items_of-items.ensures.place ∙ ap (λ (gs : List LoadingField). (children_at gs c.args.to.onward.group).place) c.deref.ensures.value))
 
 pub all-returns : goal.all-returns
 all-returns g t c =
     on_ok_weaker c.end.result
     (λ q. goes-as (goes-ended (laws g) c.loop-number.invariant refl q)
-    (λ k v cov. items-whole _ _ _ _ _ (λ (v : View) (row : RowOf). v.after (later_of c.args.left (onward_of c.args.onward)) (row ∷ [])) c.args.rows.now c.loop-number.number v
-    (c.items_of-items.ensures.nullability ∙ ap (λ (gs : List LoadingField). (children_at gs c.args.onward.group).item_non_null) c.deref.ensures.value)
-    (c.items_of-items.ensures.place ∙ ap (λ (gs : List LoadingField). (children_at gs c.args.onward.group).place) c.deref.ensures.value) c.loop-number-test.false))
+    (λ k v cov. items-whole _ _ _ _ _ _ (λ (v : View) (row : RowOf). v.after (later_of c.args.left (onward_of c.args.to.onward)) (row ∷ [])) c.args.rows.now c.loop-number.number v
+    (c.items_of-items.ensures.nullability ∙ ap (λ (gs : List LoadingField). (children_at gs c.args.to.onward.group).item_non_null) c.deref.ensures.value)
+    (c.items_of-items.ensures.place ∙ ap (λ (gs : List LoadingField). (children_at gs c.args.to.onward.group).place) c.deref.ensures.value) c.loop-number-test.false))
     c.end.ensures
 
 pub follow-returns-then-left-eq0 : goal.follow-returns-then-left-eq0
@@ -130,25 +130,25 @@ follow-returns-in-Missing g t c =
 
 pub each-loop-number-preserved : goal.each-loop-number-preserved
 each-loop-number-preserved g t c =
-    let item = λ (v : View) (k : Option Key). read_if c.args.loader (v.after (onward_of c.args.onward)) (option_map key_of k) in
+    let item = λ (v : View) (k : Option Key). read_if c.args.loader (v.after (onward_of c.args.to.onward)) (option_map key_of k) in
     goes-as (goes-entered (laws g) (λ lt. omega (arith, lt, c.loop-number.invariant.grows.longer)) c.loop-number.invariant refl c.in_ok-item.ensures c.in_ok-read_if.ensures)
     (λ k v cov. items-more _ _ _ item c.args.keys.now c.loop-number.number c.index-keys-number.result v c.loop-number-test.true c.index-keys-number.is)
 
 pub each-returns-then-is_full : goal.each-returns-then-is_full
 each-returns-then-is_full g t c =
-    let read = λ (v : View) (k : Option KeyOf). read_if c.args.loader (v.after (onward_of c.args.onward)) k in
-    let put = λ (ps : List Program). puts false (Under ListOf (places (is_non_null c.args.items.nullability) c.args.items.place 0 ps)) (lookup c.args.self.now.memory.now) in
+    let read = λ (v : View) (k : Option KeyOf). read_if c.args.loader (v.after (onward_of c.args.to.onward)) k in
+    let put = λ (ps : List Program). puts (is_non_null c.args.to.nullability) (Under ListOf (places (is_non_null c.args.items.nullability) c.args.items.place 0 ps)) (lookup c.args.self.now.memory.now) in
     goes-as (goes-full _ (laws g) (c.is_full.ensures c.if-is_full.true) c.loop-number.invariant)
-    (λ k v cov. items-rest _ _ _ _ _ (λ (v : View) (k : Option Key). read v (option_map key_of k)) c.args.keys.now c.loop-number.number v refl refl
+    (λ k v cov. items-rest _ _ _ _ _ _ (λ (v : View) (k : Option Key). read v (option_map key_of k)) c.args.keys.now c.loop-number.number v refl refl
     ∙ ap put (sym (map-map (read v) (λ (x : Option Key). option_map key_of x) c.args.keys.now)))
 
 pub each-returns : goal.each-returns
 each-returns g t c =
-    let read = λ (v : View) (k : Option KeyOf). read_if c.args.loader (v.after (onward_of c.args.onward)) k in
-    let put = λ (ps : List Program). puts false (Under ListOf (places (is_non_null c.args.items.nullability) c.args.items.place 0 ps)) (lookup c.args.self.now.memory.now) in
+    let read = λ (v : View) (k : Option KeyOf). read_if c.args.loader (v.after (onward_of c.args.to.onward)) k in
+    let put = λ (ps : List Program). puts (is_non_null c.args.to.nullability) (Under ListOf (places (is_non_null c.args.items.nullability) c.args.items.place 0 ps)) (lookup c.args.self.now.memory.now) in
     on_ok_weaker c.end.result
     (λ q. goes-as (goes-ended (laws g) c.loop-number.invariant refl q)
-    (λ k v cov. items-whole _ _ _ _ _ (λ (v : View) (k : Option Key). read v (option_map key_of k)) c.args.keys.now c.loop-number.number v refl refl c.loop-number-test.false
+    (λ k v cov. items-whole _ _ _ _ _ _ (λ (v : View) (k : Option Key). read v (option_map key_of k)) c.args.keys.now c.loop-number.number v refl refl c.loop-number-test.false
     ∙ ap put (sym (map-map (read v) (λ (x : Option Key). option_map key_of x) c.args.keys.now))))
     c.end.ensures
 
@@ -156,7 +156,8 @@ each-returns g t c =
 
 pub ask-returns-in-Each : goal.ask-returns-in-Each
 ask-returns-in-Each g t c =
-    let put = λ (o : Onward). WalksList g.S.Sink.goes g.S.Sink.below c.args.self.now o (λ v. items_read v c.in-Each.items (onward_of o) c.in-Each.loader (keys_seen c.deref.result.now)) c.args.at.now c.each.new.at in
+    let put = λ (o : Onward). WalksAt g.S.Sink.goes g.S.Sink.below c.args.self.now (record { onward = o; nullability = c.args.nullability })
+    (λ v. items_read v c.in-Each.items (onward_of o) c.in-Each.loader (keys_seen c.deref.result.now)) c.args.at.now c.each.new.at in
     rw (c.in-Each.is, ← c.deref.ensures.value) (subst (λ (o : Onward). OnOk c.each.result (put o)) c.at-in-Each.ensures c.each.ensures)
 
 -- a load by a key that is made of the row

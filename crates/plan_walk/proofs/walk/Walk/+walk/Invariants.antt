@@ -29,7 +29,7 @@ abbrev pub decreases-first : goal.decreases-first
 decreases-first g l = 30 * l.to.onward.levels + 3
 
 abbrev pub decreases-all : goal.decreases-all
-decreases-all g l = 30 * l.onward.levels + 3
+decreases-all g l = 30 * l.to.onward.levels + 3
 
 abbrev pub decreases-rows : goal.decreases-rows
 decreases-rows g l = 30 * l.to.onward.levels + 4
@@ -44,7 +44,7 @@ abbrev pub decreases-read_if : goal.decreases-read_if
 decreases-read_if g l = 30 * l.to.onward.levels + 7
 
 abbrev pub decreases-each : goal.decreases-each
-decreases-each g l = 30 * l.onward.levels + 8
+decreases-each g l = 30 * l.to.onward.levels + 8
 
 abbrev pub decreases-ask : goal.decreases-ask
 decreases-ask g l = 30 * l.levels + 24
@@ -59,10 +59,10 @@ invariant-object-loop-member g l =
 
 abbrev pub invariant-all-loop-number : goal.invariant-all-loop-number
 invariant-all-loop-number g l =
-    Goes g.S.Sink.goes g.S.Sink.below l.self.most (plan_of l.self.plan.now) (l.fn.onward.group < length l.fn.at.groups.items)
-    (items_put (is_non_null l.items.nullability) l.items.place (lookup l.self.memory.now) (λ (v : View) (row : RowOf). v.after (later_of l.left (onward_of l.fn.onward)) (row ∷ [])) (take l.number l.rows)) l.fn.at l.at
+    Goes g.S.Sink.goes g.S.Sink.below l.self.most (plan_of l.self.plan.now) (l.fn.to.onward.group < length l.fn.at.groups.items)
+    (items_put (is_non_null l.items.nullability) l.items.place (lookup l.self.memory.now) (λ (v : View) (row : RowOf). v.after (later_of l.left (onward_of l.fn.to.onward)) (row ∷ [])) (take l.number l.rows)) l.fn.at l.at
 
 abbrev pub invariant-each-loop-number : goal.invariant-each-loop-number
 invariant-each-loop-number g l =
-    Goes g.S.Sink.goes g.S.Sink.below l.self.most (plan_of l.self.plan.now) (l.fn.onward.group < length l.fn.at.groups.items)
-    (items_put (is_non_null l.items.nullability) l.items.place (lookup l.self.memory.now) (λ (v : View) (k : Option Key). read_if l.loader (v.after (onward_of l.fn.onward)) (option_map key_of k)) (take l.number l.keys)) l.fn.at l.at
+    Goes g.S.Sink.goes g.S.Sink.below l.self.most (plan_of l.self.plan.now) (l.fn.to.onward.group < length l.fn.at.groups.items)
+    (items_put (is_non_null l.items.nullability) l.items.place (lookup l.self.memory.now) (λ (v : View) (k : Option Key). read_if l.loader (v.after (onward_of l.fn.to.onward)) (option_map key_of k)) (take l.number l.keys)) l.fn.at l.at

@@ -1,7 +1,7 @@
 use Rattle.std.proofs.Common.{[], ◌∷◌, arith, length-append}
 use Rattle.json.specs.Print.{quoted}
 use Rattle.gq_resolve.proofs.Sizes.{in-quotes, takes-some}
-use Rattle.gq_resolve.proofs.output.least_bytes.Goals as goal
+use Rattle.gq_resolve.proofs.answer_text.least_bytes.Goals as goal
 
 pub returns-in-Key : goal.returns-in-Key
 returns-in-Key c = rw c.in-Key.is (omega (arith, c.text_bytes.ensures, in-quotes c.in-Key.text.now, length-append (quoted c.in-Key.text.now) (58 ∷ [])))
