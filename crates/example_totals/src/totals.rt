@@ -211,4 +211,15 @@ impl Execute<Anew> for FriendsTotal {
             }
         }
     }
+
+    // Nothing can be done ahead.
+    fn work_ahead(
+        &self,
+        _progress: &mut Anew,
+        _alloc: Global,
+        _memory: &Memory,
+        _steps: usize,
+    ) -> Result<bool, AllocError> {
+        Ok(true)
+    }
 }

@@ -59,4 +59,21 @@ pub trait Execute<E> {
             (IsExecuted (text_of self.now) wants.old wants.new (program self.now) memory.now) }
         ensures fits { OnOk result (FitsFrom (fits self.now progress.new) memory.now) }
         ensures within { HasLoaders (loaders self.now) (program self.now) };
+
+    /// Works ahead: does at most `steps` steps of what [`execute`](Execute::execute) has to do over this memory, and keeps what is done. Returns
+    /// true once no such step is left. What a step is, is the implementation's affair; `execute` does what is left at once.
+    ///
+    /// # Errors
+    ///
+    /// Only when out of memory. The trait says nothing then of the progress, which fails with its answer.
+    fn work_ahead(
+        &self,
+        progress: &mut E,
+        alloc: Global,
+        memory: &Memory,
+        steps: usize,
+    ) -> Result<bool, AllocError>
+        requires fits { fits self.now
+            progress.old memory.now }
+        ensures fits { OnOk result (FitsFrom (fits self.now progress.new) memory.now) };
 }

@@ -4,12 +4,15 @@ pub mod Evaluating
 pub mod AddingNew
 pub mod Thinning
 pub mod ReadingBack
+pub mod Pointing
+pub mod Stopping
 pub mod Taking
 pub mod Numbering
 pub mod Putting
 pub mod Blocking
 pub mod Advancing
 pub mod Reusing
+pub mod Ahead
 pub mod Polling
 pub mod Texting
 pub mod Sizes

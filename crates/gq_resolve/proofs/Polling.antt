@@ -17,13 +17,14 @@ use Rattle.gq_check.specs.Plans.{PlanOf}
 use Rattle.plan_program.specs.PlanPrograms.{plan_program}
 use Rattle.gq_resolve.specs.Evaluated.{front_over, AddsPart}
 use Rattle.plan_walk.specs.Reading.{reader, lookup}
-use Rattle.gq_resolve.specs.Suspended.{IsRooted, MayGoOn, FitsWaiting, loads_of, Advanced, lacking}
+use Rattle.gq_resolve.specs.Suspended.{IsRooted, MayGoOn, FitsStopped, FitsWaiting, loads_of, Searched, Advanced, lacking}
 use Rattle.plan_walk.specs.Puts.{puts}
 use Rattle.gq_resolve.specs.AnswerTexts.{IsTextOf}
 use Rattle.gq_resolve.specs.Within.{IsWritten}
 use Rattle.gq_resolve.specs.Written.{asks, thinned}
 use Rattle.gq_resolve.specs.declared.answer_text.AnswerText.{AnswerText}
 use Rattle.gq_resolve.specs.declared.advance.RootObject.{RootObject}
+use Rattle.gq_resolve.specs.declared.advance.Suspension.{Suspension}
 use Rattle.gq_resolve.specs.declared.advance.FinishedWalk.{FinishedWalk}
 use Rattle.plan_walk.specs.declared.waiting.BlockedPosition.{BlockedPosition}
 use Rattle.gq_resolve.specs.declared.output.Output.{Output}
@@ -44,6 +45,31 @@ still-fits plan m n w (b ∷ bs) a (inr all) grown = rw all (record {
   within = a.searched.goes_on.within;
   ask = λ R more. a.searched.goes_on.ask R (λ load outcome e. more load outcome (lookup-more m n grown load outcome e));
 })
+
+-- what stopped fits each larger memory
+pub stopped-more : (plan : PlanOf) (m n : MemoryOf) (s : Option Suspension) → GrowsTo m n → FitsStopped plan m s → FitsStopped plan n s
+stopped-more plan m n None grown fits = tt
+stopped-more plan m n (Some s) grown fits = waiting-more s.waiting fits
+  where
+    waiting-more : (bs : List BlockedPosition) → FitsWaiting plan m s.rooted bs → FitsWaiting plan n s.rooted bs
+    waiting-more [] rooted = rooted
+    waiting-more (b ∷ bs) may = record {
+      rooted = may.rooted;
+      within = may.within;
+      ask = λ R more. may.ask R (λ load outcome e. more load outcome (lookup-more m n grown load outcome e));
+    }
+
+-- what a search found fits each larger memory
+pub searched-more : (plan : PlanOf) (m n : MemoryOf) (w : FinishedWalk Output) → Searched plan m w → GrowsTo m n → FitsWaiting plan n w.rooted w.out.blocked
+searched-more plan m n w s grown = go w.out.blocked refl
+  where
+    go : (bs : List BlockedPosition) → bs ≡ w.out.blocked → FitsWaiting plan n w.rooted bs
+    go [] is = s.goes_on.rooted
+    go (b ∷ bs) is = rw is (record {
+      rooted = s.goes_on.rooted;
+      within = s.goes_on.within;
+      ask = λ R more. s.goes_on.ask R (λ load outcome e. more load outcome (lookup-more m n grown load outcome e));
+    })
 
 -- where none is kept, an execution begins at its root
 pub begins-again : (plan : PlanOf) (m : MemoryOf) (r : RootObject) (waiting : List BlockedPosition) → waiting ≡ [] → IsRooted plan r → FitsWaiting plan m r waiting

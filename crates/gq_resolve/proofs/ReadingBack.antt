@@ -197,7 +197,7 @@ read-one (Enters ObjectOf position) s t w z plain next h = go position.part refl
     go (Key k) is = subst (λ (p : Part). IsReadBack t (put_one (Enters ObjectOf position) w) (all_taken (part_tokens ObjectOf p) z)) (sym is) (read-field position k s t w z is next h)
     go (Item n) is = absurd (subst (λ (p : Part). IsStep ObjectOf next.1 p) is next.4)
 read-one (Has non_null leaf_value) s t w z plain next h = read-has non_null leaf_value s t w z plain next h
-read-one Reads s t w z plain next h = subst (λ (u : StandsAt). IsReadBack u w z) (sym next) h
+read-one Reads s t w z plain (e, f) h = subst (λ (u : StandsAt). IsReadBack u w z) (sym f) h
 read-one (Waits p) s t w z plain next h = absurd (cc plain)
 
 all_taken-append : (ts us : List Token) (z : WrittenOf) → all_taken (ts ++ us) z ≡ all_taken us (all_taken ts z)
@@ -226,7 +226,7 @@ mutual
   puts-order non_null (Is leaf_value) R ss numbered = (_, (refl, refl), refl)
   puts-order non_null (Read load next) R ss numbered = (
     _,
-    refl,
+    (refl, refl),
     elim (R load) as (λ o. AreInOrder (given o (Waits (Read load next) ∷ []) (λ outcome. puts non_null (next outcome) R)) (record { within = ss; entered = true }) (record { within = ss; entered = false })) [
       | None ↦ (_, (refl, refl), refl)
       | Some outcome ↦ puts-order non_null (next outcome) R ss (numbered outcome)

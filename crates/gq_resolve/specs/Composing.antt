@@ -28,7 +28,7 @@ thinned-append noted [] ys = refl
 thinned-append noted (x ∷ xs) ys = thinned-append (with_load noted x) xs ys
 
 -- two counts, one after another
-counted-more : (n m a b c : ℕ) → IsCounted n a b → IsCounted m b c → IsCounted (n + m) a c
+pub counted-more : (n m a b c : ℕ) → IsCounted n a b → IsCounted m b c → IsCounted (n + m) a c
 counted-more n m a b c p q = omega (arith, p, q)
 
 -- of puts in order the first are in order

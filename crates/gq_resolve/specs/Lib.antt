@@ -6,6 +6,8 @@ pub mod Suspended
 pub mod PreparedPlans
 pub mod Texted
 pub mod ReadBack
+pub mod Points
+pub mod Pauses
 pub mod AnswerTexts
 pub mod Outputs
 pub mod Limited

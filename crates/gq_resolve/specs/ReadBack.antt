@@ -39,7 +39,7 @@ IsNext (Enters kind position) s t = (s.entered ≡ false) × (n : ℕ) × (rest 
     × (s.within ≡ record { kind = kind; count = n } ∷ rest) × IsStep kind n position.part
     × (t ≡ record { within = record { kind = kind; count = suc n } ∷ rest; entered = true })
 IsNext (Has non_null leaf_value) s t = (s.entered ≡ true) × (t ≡ is_past s)
-IsNext Reads s t = t ≡ s
+IsNext Reads s t = (s.entered ≡ true) × (t ≡ s)
 IsNext (Waits p) s t = (s.entered ≡ true) × (t ≡ is_past s)
 
 abbrev pub AreInOrder : List Put → StandsAt → StandsAt → Type 0

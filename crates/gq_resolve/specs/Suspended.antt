@@ -1,5 +1,12 @@
 -- *Suspended resolvers*: an execution that has stopped, and when it may go on.
-use Rattle.std.specs.Prelude.{◌≡◌, ℕ, false, List, [], ◌∷◌, map, length, Option, Some, None}
+use Rattle.std.specs.Prelude.{◌≡◌, ◌≢◌, ◌⊎◌, ℕ, false, List, [], ◌∷◌, ◌++◌, map, length, Option, Some, None, IfSome, Box}
+use Rattle.std.specs.List.{sum_by}
+use Rattle.std.specs.declared.alloc.Global.{Global}
+use Rattle.futures.specs.declared.task.Poll.TheVariants.{Ready}
+use Rattle.execution.specs.Completion.{AnsweredOf}
+use Rattle.execution.specs.Executes.{CanExecute, IsExecuted}
+use Rattle.execution.specs.declared.execution_result.ExecutionResult.{ExecutionResult}
+use Rattle.load_queue.specs.Wanted.{WantedOf}
 use Rattle.std.specs.Arc.{arc_value}
 use Rattle.load_memory.specs.Keys.{key_of}
 use Rattle.load_memory.specs.Pairs.{MemoryOf}
@@ -8,13 +15,19 @@ use Rattle.execution.specs.Reads.{count_read, counted}
 use Rattle.gq_check.specs.Plans.{PlanOf, plan_of}
 use Rattle.plan_program.specs.PlanPrograms.{root_prepared, plan_program}
 use Rattle.gq_resolve.specs.AnswerTexts.{IsTextOf}
+use Rattle.gq_resolve.specs.Within.{IsTaken, IsWritten}
 use Rattle.gq_resolve.specs.Evaluated.{missing_over}
 use Rattle.plan_walk.specs.Reading.{lookup}
 use Rattle.gq_variables.specs.Variables.{VariableOf}
 use Rattle.plan_program.specs.OtherVariables.{AgreesOnDirectives, with_variables}
 use Rattle.plan_walk.specs.Groups.{view_of, Makes, AreRight, AreServed, IsOtherwise}
 use Rattle.plan_walk.specs.Puts.{Put, View, puts}
-use Rattle.gq_resolve.specs.Written.{asks, thinned, all_asks, AreWithin}
+use Rattle.gq_resolve.specs.Written.{asks, thinned, all_asks, AreWithin, put_reads, IsCounted}
+use Rattle.gq_resolve.specs.Points.{points_after, origin}
+use Rattle.gq_resolve.specs.Pauses.{point_of}
+use Rattle.gq_resolve.specs.declared.pausing.Course.TheVariants.{Back, Onward, Stopped}
+use Rattle.gq_resolve.specs.declared.pausing.Pausing.{Pausing}
+use Rattle.gq_resolve.specs.declared.answer_ahead.AnswerAhead.{AnswerAhead}
 use Rattle.plan_walk.specs.declared.waiting.BlockedPosition.{BlockedPosition}
 use Rattle.gq_resolve.specs.declared.output.Output.{Output}
 use Rattle.gq_resolve.specs.declared.advance.RootObject.{RootObject}
@@ -61,8 +74,40 @@ abbrev pub FitsStopped : PlanOf → MemoryOf → Option Suspension → Type 0
 FitsStopped plan m None = Unit {0}
 FitsStopped plan m (Some s) = FitsWaiting plan m s.rooted s.waiting
 
-abbrev pub FitsMemory : PlanOf → RootState → MemoryOf → Type 0
-FitsMemory plan s m = FitsStopped plan m s.stopped
+-- ---- answers that are written ahead
+
+-- nothing that the plan needs is missing
+abbrev pub IsSettled : PlanOf → MemoryOf → Type 0
+IsSettled plan m = asks (plan_program plan) (lookup m) ≡ []
+
+-- A first part of what the plan puts was written and counted: all of it, or the walk is stopped between two positions.
+pub record IsAhead (plan : PlanOf) (m : MemoryOf) (a : AnswerAhead) : Type 0 where
+  pub rooted : IsRooted plan a.rooted
+  pub settled : IsSettled plan m
+  pub taken : List Put
+  pub rest : List Put
+  pub all : puts false (plan_program plan) (lookup m) ≡ taken ++ rest
+  pub text : IsTaken a.most taken a.out.out.text
+  pub none : a.out.out.blocked ≡ []
+  pub loads : IsCounted (sum_by put_reads taken) 0 a.out.out.loads
+  pub point : point_of a.out ≡ points_after taken origin
+  pub course : ((a.out.course ≡ Onward) × (rest ≡ []))
+      ⊎ ((a.out.course ≡ Stopped) × (a.out.is_entered ≡ false))
+
+-- what a walk wrote is kept: nothing waits, and it isn't lost
+pub record IsKept (w : FinishedWalk (Pausing Output)) (most : Option ℕ)
+    (a : AnswerAhead) : Type 0 where
+  pub is : a ≡ record { rooted = w.rooted; out = w.out; most = most }
+  pub none : w.out.out.blocked ≡ []
+  pub found : w.out.course ≢ Back
+
+abbrev pub FitsAhead : PlanOf → MemoryOf → Option (Box AnswerAhead Global) → Type 0
+FitsAhead plan m None = Unit {0}
+FitsAhead plan m (Some a) = IsAhead plan m a.value
+
+pub record FitsMemory (plan : PlanOf) (s : RootState) (m : MemoryOf) : Type 0 where
+  pub stopped : FitsStopped plan m s.stopped
+  pub ahead : FitsAhead plan m s.ahead
 
 -- ---- how far a poll comes
 
@@ -108,6 +153,27 @@ pub record Advanced (plan : PlanOf) (m : MemoryOf) (most : ℕ)
       → counted w.out.loads ≡ counted (count_read (plan_program plan) (lookup m))
   pub written : w.out.blocked ≡ []
       → IsTextOf most (puts false (plan_program plan) (lookup m)) w.out.text
+
+-- the whole answer was written, up to the limit if there is one
+pub record IsWhole (plan : PlanOf) (m : MemoryOf) (most : Option ℕ)
+    (w : FinishedWalk Output) : Type 0 where
+  pub none : w.out.blocked ≡ []
+  pub limit : ℕ
+  pub advanced : Advanced plan m limit w
+  pub written : IsWritten most plan m w.out.text
+
+-- what is kept of an answer ahead, if something is
+abbrev pub KeepsAhead : Walk → Option AnswerAhead → Type 0
+KeepsAhead walk ahead = IfSome ahead (IsAhead (plan_on walk) walk.memory.now)
+
+abbrev pub GivesWhole : Walk → Option ℕ → Option (FinishedWalk Output) → Type 0
+GivesWhole walk most whole = IfSome whole (IsWhole (plan_on walk) walk.memory.now most)
+
+-- an execution is ready with this, where it can be made
+abbrev pub IsFinished : (AnsweredOf → List ℕ) → Walk → ExecutionResult → Type 0
+IsFinished text_of walk result = (wants : List WantedOf)
+    → CanExecute (length (plan_on walk).bindings.loaders) walk.memory.now wants
+    → IsExecuted text_of wants wants (plan_program (plan_on walk)) walk.memory.now (Ready result)
 
 -- the loads that the plan needs and the memory lacks
 abbrev pub lacking : PlanOf → MemoryOf → List Load

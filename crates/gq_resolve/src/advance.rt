@@ -128,8 +128,8 @@ pub fn go_over<S: Sink + Drop>(
     })
 }
 
-// Looks for the loads of the whole plan alone, and writes nothing.
-fn search_root(walk: &Walk<'_>, rooted: RootObject) -> Result<FinishedWalk<Output>, AllocError>
+/// Looks for the loads of the whole plan alone, and writes nothing.
+pub fn search_root(walk: &Walk<'_>, rooted: RootObject) -> Result<FinishedWalk<Output>, AllocError>
     ensures { IsRooted (plan_on walk.now) rooted
         → IfOk result (Searched (plan_on walk.now) walk.now.memory.now) }
 {
@@ -175,8 +175,8 @@ fn begin(
     })
 }
 
-// Goes on at the positions that wait, and looks for loads alone.
-fn search_waiting(
+/// Goes on at the positions that wait, and looks for loads alone.
+pub fn search_waiting(
     walk: &Walk<'_>,
     rooted: RootObject,
     waiting: Waiting,

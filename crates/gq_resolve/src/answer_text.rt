@@ -106,6 +106,12 @@ impl AnswerText {
         }
     }
 
+    /// Writes no more, and lets go what it wrote since the first error.
+    pub fn give_up(&mut self) {
+        self.is_plain = false;
+        self.completed = None;
+    }
+
     // Takes out what was written as a plain text.
     fn take_plain(&mut self) -> String
         ensures text { string_bytes result ≡ print self.old.writer.tokens }

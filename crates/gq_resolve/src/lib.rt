@@ -10,6 +10,7 @@
 #![tactic(auto)]
 
 mod advance;
+mod answer_ahead;
 mod answer_text;
 mod bounded;
 mod completed_text;
@@ -18,6 +19,7 @@ mod limited;
 pub mod limited_plan;
 mod most_groups;
 mod output;
+mod pausing;
 mod plan;
 mod prepared_plan;
 mod root_state;

@@ -110,6 +110,17 @@ impl Execute<RootState> for LimitedPlan {
         let plan = self.plan.plan();
         progress.poll_text(alloc, plan, memory, wants, self.most)
     }
+
+    fn work_ahead(
+        &self,
+        progress: &mut RootState,
+        alloc: Global,
+        memory: &Memory,
+        steps: usize,
+    ) -> Result<bool, AllocError> {
+        self.plan.begin(progress)?;
+        progress.work_ahead(alloc, self.plan.plan(), memory, self.most, steps)
+    }
 }
 
 impl CountWork<RootState> for LimitedPlan {

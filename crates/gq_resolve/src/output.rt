@@ -61,30 +61,18 @@ impl Sink for Output {
     ghost waits = { count_waiting };
 
     fn begin(&mut self, kind: PositionKind) -> Result<(), AllocError> {
-        if !self.blocked.is_empty() {
-            return Ok(());
-        }
         self.text.begin(kind)
     }
 
     fn end(&mut self, kind: PositionKind, nullability: Nullability) -> Result<(), AllocError> {
-        if !self.blocked.is_empty() {
-            return Ok(());
-        }
         self.text.end(kind, nullability)
     }
 
     fn field(&mut self, position: &MemberPosition) -> Result<(), AllocError> {
-        if !self.blocked.is_empty() {
-            return Ok(());
-        }
         self.text.field(position)
     }
 
     fn item(&mut self, items: Items, number: usize) -> Result<(), AllocError> {
-        if !self.blocked.is_empty() {
-            return Ok(());
-        }
         self.text.item(items, number)
     }
 
@@ -93,16 +81,10 @@ impl Sink for Output {
         leaf_value: &LeafValue,
         nullability: Nullability,
     ) -> Result<(), AllocError> {
-        if !self.blocked.is_empty() {
-            return Ok(());
-        }
         self.text.leaf_value(leaf_value, nullability)
     }
 
     fn cell(&mut self, leaf: Leaf<'_>, nullability: Nullability) -> Result<(), AllocError> {
-        if !self.blocked.is_empty() {
-            return Ok(());
-        }
         self.text.cell(leaf, nullability)
     }
 
@@ -115,6 +97,7 @@ impl Sink for Output {
     }
 
     fn wait(&mut self, onward: Onward, loader: usize, key: KeyRef<'_>) -> Result<(), AllocError> {
+        self.text.give_up();
         self.blocked.note(onward, loader, key)
     }
 

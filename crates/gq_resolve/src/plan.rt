@@ -35,4 +35,14 @@ impl Execute<RootState> for Plan {
     ) -> Result<Poll<ExecutionResult>, AllocError> {
         progress.poll_text(alloc, self, memory, wants, None)
     }
+
+    fn work_ahead(
+        &self,
+        progress: &mut RootState,
+        alloc: Global,
+        memory: &Memory,
+        steps: usize,
+    ) -> Result<bool, AllocError> {
+        progress.work_ahead(alloc, self, memory, None, steps)
+    }
 }

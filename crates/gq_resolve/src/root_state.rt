@@ -1,15 +1,16 @@
 //! The execution of a plan that is polled, and goes on where it stopped.
 
-ghost use Rattle.std.specs.Prelude.{length, IfOk, OnOk, OnErr};
+ghost use Rattle.std.specs.Prelude.{◌≡◌, length, None, IfOk, IfSome, OnOk, OnErr};
 ghost use Rattle.load_memory.specs.Pairs.{MemoryOf};
 ghost use Rattle.execution.specs.Executes.{CanExecute, IsExecuted, GrowsTo};
 ghost use Rattle.gq_check.specs.Plans.{PlanOf, plan_of};
 ghost use Rattle.plan_program.specs.PlanPrograms.{plan_program};
 ghost use Rattle.gq_resolve.specs.Evaluated.{missing_over, AddsPart};
-ghost use Rattle.gq_resolve.specs.Suspended.{FitsMemory, IsRooted};
+ghost use Rattle.gq_resolve.specs.Suspended.{FitsMemory, IsFinished, IsRooted, plan_on};
 ghost use Rattle.gq_resolve.specs.Within.{text_within};
 
-use crate::advance::{RootObject, Suspension, advance};
+use crate::advance::{FinishedWalk, RootObject, Suspension, advance};
+use crate::answer_ahead::{AnswerAhead, search};
 use crate::limited::whole_text;
 use crate::most_groups::most_groups_of;
 use crate::output::NO_LIMIT;
@@ -34,6 +35,8 @@ pub struct RootState {
     most: usize,
     /// Nothing before it is polled, after it has answered, and after it was out of memory: it then begins at its root.
     stopped: Option<Suspension>,
+    /// The answer, where it is written ahead.
+    ahead: Option<Box<AnswerAhead>>,
 }
 
 impl Drop for RootState {
@@ -41,6 +44,7 @@ impl Drop for RootState {
         let RootState {
             most: _,
             stopped: _stopped,
+            ahead: _ahead,
         } = self;
     }
 }
@@ -54,6 +58,7 @@ impl RootState {
         RootState {
             most: most_groups_of(plan),
             stopped: None,
+            ahead: None,
         }
     }
 
@@ -62,7 +67,7 @@ impl RootState {
         ensures { (plan : PlanOf) → OnOk result (IsRooted plan prepared.now → (m : MemoryOf)
             → FitsMemory plan self.old m → FitsMemory plan self.new m) }
     {
-        if self.stopped.is_none() {
+        if self.stopped.is_none() && self.ahead.is_none() {
             let rooted = prepared.copy()?;
             let alloc = *rooted.groups.allocator();
             self.stopped = Some(Suspension {
@@ -106,6 +111,11 @@ impl RootState {
             memory,
             most: self.most,
         };
+        if self.ahead.is_some() {
+            if let Some(result) = self.finish_ahead(&walk, most)? {
+                return Ok(Poll::Ready(result));
+            }
+        }
         let mut walked = advance(&walk, most.unwrap_or(NO_LIMIT), self.stopped.take())?;
         if walked.out.blocked.is_empty() {
             let loads = walked.out.loads;
@@ -118,5 +128,69 @@ impl RootState {
         let waiting = add_wants(alloc, &rooted.groups, out.blocked, modes, wants)?;
         self.stopped = Some(Suspension { rooted, waiting });
         Ok(Poll::Pending)
+    }
+
+    // The answer that was written ahead, with what is left of it. Nothing of it is kept.
+    fn finish_ahead(
+        &mut self,
+        walk: &Walk<'_>,
+        most: Option<usize>,
+    ) -> Result<Option<ExecutionResult>, AllocError>
+        ensures result { FitsMemory (plan_on walk.now) self.old walk.now.memory.now
+            → IfOk result (λ done. IfSome done (IsFinished (text_within most) walk.now)) }
+        ensures kept { self.new ≡ record self.old { ahead = None } }
+    {
+        let Some(ahead) = self.ahead.take() else {
+            return Ok(None);
+        };
+        let Some(mut whole) = Box::into_inner(ahead).finish(walk, most)? else {
+            return Ok(None);
+        };
+        let loads = whole.out.loads;
+        let text = whole_text(walk.alloc, &mut whole.out.text, most)?;
+        Ok(Some(ExecutionResult { text, loads }))
+    }
+
+    /// Works ahead: looks for what is missing, and where nothing is, writes so many fields and items of the answer at most. Returns true
+    /// once nothing is left of that.
+    ///
+    /// # Errors
+    ///
+    /// Only when out of memory. The execution begins anew then.
+    pub fn work_ahead(
+        &mut self,
+        alloc: Global,
+        plan: &Plan,
+        memory: &Memory,
+        most: Option<usize>,
+        steps: usize,
+    ) -> Result<bool, AllocError>
+        ensures { OnOk result ((m : MemoryOf) → FitsMemory (plan_of plan.now) self.old memory.now
+            → GrowsTo memory.now m → FitsMemory (plan_of plan.now) self.new m) }
+    {
+        let walk = Walk {
+            alloc,
+            plan,
+            memory,
+            most: self.most,
+        };
+        let ahead = match self.ahead.take() {
+            Some(ahead) => Box::into_inner(ahead).go_on(&walk, steps)?,
+            None => {
+                let FinishedWalk { rooted, out } = search(&walk, self.stopped.take())?;
+                if !out.blocked.is_empty() {
+                    let waiting = out.blocked;
+                    self.stopped = Some(Suspension { rooted, waiting });
+                    return Ok(true);
+                }
+                AnswerAhead::begin(&walk, most, rooted, steps)?
+            }
+        };
+        let Some(ahead) = ahead else {
+            return Ok(true);
+        };
+        let is_whole = ahead.is_whole();
+        self.ahead = Some(Box::new(alloc, ahead)?);
+        Ok(is_whole)
     }
 }

@@ -97,7 +97,7 @@ impl Sink for WorkLeft {
         Ok(())
     }
 
-    fn is_full(&self) -> bool {
+    fn stops(&mut self) -> bool {
         self.left.is_none()
     }
 }

@@ -1,3 +1,4 @@
+pub mod Ahead
 pub mod Advancing
 pub mod Cutting
 pub mod Following

@@ -44,6 +44,10 @@ module _ {P E : Type 0} where
   abbrev pub plans_in : List (PartOf P E) → List P
   plans_in parts = map (λ part. part.plan) parts
 
+  -- what each tells so far: its answer, if it has one
+  abbrev pub told_in : List (PartOf P E) → List (Option ReportOf)
+  told_in parts = map (λ part. part.report) parts
+
   -- the plans as one program
   abbrev pub program_in : (P → Program) → (P → AnsweredOf → List ℕ) → List (PartOf P E) → Program
   program_in program text_of parts = joint program text_of (plans_in parts)

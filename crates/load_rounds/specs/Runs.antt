@@ -1,5 +1,5 @@
 -- Runs: what contracts see of one, what its calls do to a session, and what was done in it since the run was begun.
-use Rattle.std.specs.Prelude.{◌≡◌, ◌≢◌, ◌≤◌, ◌<◌, ◌^◌, ◌+◌, ◌++◌, ℕ, Bool, true, false, All, List, [], ◌∷◌, length, Option, Some, None}
+use Rattle.std.specs.Prelude.{◌≡◌, ◌≢◌, ◌≤◌, ◌<◌, ◌^◌, ◌+◌, ◌++◌, ℕ, Bool, true, false, All, List, [], ◌∷◌, length, Option, Some, None, Result, OnOk, OnErr}
 use Rattle.std.specs.Global.{Vec}
 use Rattle.load_memory.specs.Keys.{KeyOf}
 use Rattle.load_memory.specs.Pairs.{MemoryOf}
@@ -15,7 +15,7 @@ use Rattle.load_rounds.specs.Sessions.{SessionOf, StateOf, state_of, rules_of, s
 use Rattle.load_rounds.specs.Calls.{RoundRan}
 use Rattle.load_rounds.specs.Headline.{StopsAnswering}
 use Rattle.load_rounds.specs.SharedRounds.{RequestOf, ReportOf, requests, together, AreTexts, SharedHeadline}
-use Rattle.load_rounds.specs.Executions.{PartOf, plans_in, reports_in, program_in, CountRounds, FitParts}
+use Rattle.load_rounds.specs.Executions.{PartOf, plans_in, told_in, reports_in, program_in, CountRounds, FitParts}
 use Rattle.load_rounds.specs.ByHand.{front_in, received, IsRound, IsUnasked, IsBetween, IsOut, AreReceivedIn}
 use Rattle.load_rounds.specs.declared.rounds.Stage.{Stage}
 use Rattle.load_rounds.specs.declared.rounds.Stage.TheVariants.{Ready, Out, Finished, Failed}
@@ -25,6 +25,16 @@ pub record RunOf (P E : Type 0) : Type 0 where
   pub parts : List (PartOf P E)
   pub rounds : ℕ
   pub stage : Stage
+
+-- Worked ahead, the run is ready to go on; out of memory, it has failed. It has the same plans, the same answers so far, and as
+-- many rounds as before.
+pub record WorksAhead {P E Done Fault : Type 0} (result : Result Done Fault)
+    (run later : RunOf P E) : Type 0 where
+  pub ready : OnOk result (later.stage ≡ Ready)
+  pub failed : OnErr result (later.stage ≡ Failed)
+  pub plans : plans_in later.parts ≡ plans_in run.parts
+  pub told : told_in later.parts ≡ told_in run.parts
+  pub rounds : later.rounds ≡ run.rounds
 
 module _ {S : Type 0} where
   -- Nothing is missing for any of them: there is an answer for each, and nothing changes.

@@ -95,6 +95,17 @@ impl Execute<()> for KeysToLoad {
     ) -> Result<Poll<ExecutionResult>, AllocError> {
         want_missing(alloc, memory, self.loader, self.keys.as_slice(), wants)
     }
+
+    // Nothing can be done ahead.
+    fn work_ahead(
+        &self,
+        _progress: &mut (),
+        _alloc: Global,
+        _memory: &Memory,
+        _steps: usize,
+    ) -> Result<bool, AllocError> {
+        Ok(true)
+    }
 }
 
 impl CountWork<()> for KeysToLoad {
@@ -139,6 +150,17 @@ impl<'k> Execute<()> for LentKeys<'k> {
         wants: &mut Wants,
     ) -> Result<Poll<ExecutionResult>, AllocError> {
         want_missing(alloc, memory, self.loader, self.keys, wants)
+    }
+
+    // Nothing can be done ahead.
+    fn work_ahead(
+        &self,
+        _progress: &mut (),
+        _alloc: Global,
+        _memory: &Memory,
+        _steps: usize,
+    ) -> Result<bool, AllocError> {
+        Ok(true)
     }
 }
 

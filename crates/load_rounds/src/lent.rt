@@ -50,6 +50,16 @@ impl<'p, E, P: Execute<E>> Execute<E> for Lent<'p, P> {
     ) -> Result<Poll<ExecutionResult>, AllocError> {
         self.plan.execute(progress, alloc, memory, wants)
     }
+
+    fn work_ahead(
+        &self,
+        progress: &mut E,
+        alloc: Global,
+        memory: &Memory,
+        steps: usize,
+    ) -> Result<bool, AllocError> {
+        self.plan.work_ahead(progress, alloc, memory, steps)
+    }
 }
 
 impl<'p, E, P: CountWork<E>> CountWork<E> for Lent<'p, P> {

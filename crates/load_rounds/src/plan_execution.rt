@@ -94,6 +94,28 @@ impl<E, P: Execute<E>> PlanExecution<P, E> {
             Poll::Pending => Ok(true),
         }
     }
+
+    /// Works ahead on the execution over the memory, by at most `steps` steps, unless there is an answer already. Returns true once
+    /// nothing is left to do ahead.
+    pub(crate) fn work_ahead(
+        &mut self,
+        alloc: Global,
+        memory: &Memory,
+        steps: usize,
+    ) -> Result<bool, AllocError>
+        requires fits { FitsPart P.program P.text_of P.loaders P.fits
+            self.old.plan self.old.progress self.old.report memory.now }
+        ensures fits { OnOk result (FitsPart P.program P.text_of P.loaders P.fits
+            self.new.plan self.new.progress self.new.report memory.now) }
+        ensures plan { self.new.plan ≡ self.old.plan }
+        ensures report { self.new.report ≡ self.old.report }
+    {
+        if self.answer.is_some() {
+            return Ok(true);
+        }
+        self.plan
+            .work_ahead(&mut self.progress, alloc, memory, steps)
+    }
 }
 
 impl<P: Drop, E: Drop> PlanExecution<P, E> {

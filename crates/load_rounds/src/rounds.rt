@@ -20,7 +20,7 @@ use std::marker::Model;
 /// Says what may be done next with a run.
 #[derive(Clone, Copy, Debug, PartialEq, Eq)]
 pub enum Stage {
-    /// [`advance`](Rounds::advance) may be called.
+    /// [`advance`](Rounds::advance) may be called, and [`work_ahead`](Rounds::work_ahead).
     Ready,
     /// A round is out. [`take`](Rounds::take) expects its receipts.
     Out,
@@ -156,7 +156,7 @@ impl<E, P: Execute<E>> Rounds<P, E> {
     ghost use Rattle.load_rounds.specs.Sessions.{state_of};
     ghost use Rattle.load_rounds.specs.Histories.{any_tell};
     ghost use Rattle.load_rounds.specs.ByHand.{AreReceiptsIn, AreReceivedIn, AwaitsReplies, RunsIfReceived, RunsReceipts};
-    ghost use Rattle.load_rounds.specs.Runs.{FailsToAsk, FailsToTake, GoesOnFrom, GoesOnIfReceived, Holds, IsNext, IsTurn, KeepsPlans, MayRun, TakesReplies, program_of};
+    ghost use Rattle.load_rounds.specs.Runs.{FailsToAsk, FailsToTake, GoesOnFrom, GoesOnIfReceived, Holds, IsNext, IsTurn, KeepsPlans, MayRun, TakesReplies, WorksAhead, program_of};
 
     /// Goes on with each plan that isn't finished, in order. Returns the orders of the next round, by number of loader and then by
     /// piece, which is then out, and nothing if nothing is missing any more.
@@ -207,6 +207,47 @@ impl<E, P: Execute<E>> Rounds<P, E> {
         self.rounds = rounds;
         self.stage = Stage::Out;
         Ok(Some(orders))
+    }
+
+    /// Works ahead on each plan that isn't finished, in order, so that the next [`advance`](Rounds::advance) has less to do. Each does at most
+    /// `steps` steps of that over what the session knows ([`Execute::work_ahead`]). Returns false at the first that has steps left, and
+    /// true once none has.
+    ///
+    /// So one call does at most `steps` steps of each plan, and none of a plan that has none left. A host that must not be held for
+    /// long calls it until it returns true, and then advances.
+    ///
+    /// # Errors
+    ///
+    /// When out of memory, the run is [`Failed`](Stage::Failed), with as many rounds as before (`ahead`).
+    ///
+    /// # Headline
+    ///
+    /// As `Session::begin` says
+    pub fn work_ahead<S: LocalSource>(
+        &mut self,
+        session: &Session<S>,
+        steps: usize,
+    ) -> Result<bool, AllocError>
+        requires ready { self.old.stage ≡ Stage.Ready }
+        requires holds { Holds P.program P.text_of P.loaders P.fits self.old session.now }
+        ensures ahead { WorksAhead result self.old self.new }
+        ensures holds { Holds P.program P.text_of P.loaders P.fits self.new session.now }
+        ensures run { GoesOnFrom P.program P.text_of S.may_tell
+            (state_of session.now) (state_of session.now) self.old self.new }
+        ensures kept { KeepsPlans session.now session.now self.old self.new }
+    {
+        self.stage = Stage::Failed;
+        let alloc = session.alloc();
+        let memory = session.memory();
+        for at in 0..self.executions.len() {
+            let execution = self.executions.execution_mut(at);
+            if !execution.work_ahead(alloc, memory, steps)? {
+                self.stage = Stage::Ready;
+                return Ok(false);
+            }
+        }
+        self.stage = Stage::Ready;
+        Ok(true)
     }
 
     /// Stores the replies to the round that is out, given by their receipts in any order. The session is as the round left it: where

@@ -1,7 +1,7 @@
 -- One later loader after another.
-use Rattle.std.proofs.Common.{◌≡◌, ◌∙◌, ◌<◌, ◌≤◌, ◌-◌, ◌+◌, ℕ, zero, suc, Bool, List, [], ◌∷◌, ◌++◌, map, length, drop, get_or, refl, sym, ap, arith}
+use Rattle.std.proofs.Common.{◌≡◌, ◌∙◌, ◌<◌, ◌-◌, ◌+◌, ℕ, zero, suc, Bool, List, ◌∷◌, ◌++◌, map, length, drop, get_or, refl, sym, ap, arith}
 use Rattle.std.proofs.Math.Seq.{drop-cons}
-use Rattle.std.proofs.lemmas.List.{length-map, drop_all, get_or-map}
+use Rattle.std.proofs.lemmas.List.{length-map, get_or-map}
 use Rattle.schema_syntax.specs.Tree.{Definition}
 use Rattle.gq_bindings.specs.declared.binding.ViaLoader.{ViaLoader}
 use Rattle.gq_bindings.specs.Tree.{StepOf}

@@ -13,7 +13,7 @@ use Rattle.gq_check.specs.Plans.{PlanOf}
 use Rattle.plan_program.specs.FieldValues.{ChildrenOf}
 use Rattle.plan_program.specs.RowUses.{UseOf, First, Each, Joined}
 use Rattle.plan_program.specs.PlanPrograms.{object_type, type_of_row, places, list_of, first_of, typed_object, row_object, joined_object, joined_objects, object_program}
-use Rattle.plan_walk.specs.Puts.{Put, Begins, Ends, Enters, OnwardOf, View, puts, all_puts}
+use Rattle.plan_walk.specs.Puts.{Put, Begins, Ends, Enters, OnwardOf, View, puts, all_puts, entries}
 use Rattle.plan_walk.specs.Positions.{is_non_null, member_position, later_of}
 use Rattle.plan_walk.specs.Groups.{children_at, then_at, taken_by, then_rows, next_rows, steps_in, Covers, IsAsked, AreKnown, asks_seen, members_seen, Grows, IsWhole, AreOnly, IsShaped, view_of}
 use Rattle.plan_walk.specs.Steps.{last_steps}
@@ -102,12 +102,23 @@ module _ {S : Type 0} {goes : Putting S} {below : Below S} {most : ℕ} {plan : 
       let here : Goes goes below most plan known (λ v. Ends kind non_null ∷ []) b c = goes-put same (λ k v _. q v) in
       goes-then laws (λ k. k) p here
 
-  -- what is left to put changes a full sink no more
-  pub goes-full : {known : Type 0} {before : View → List Put} {a b : Progress S} (left : View → List Put) → Laws goes below → ((v : View) (ps : List Put) → goes v ps b.out b.out) → Goes goes below most plan known before a b
+  -- a sink that was asked whether it stops
+  pub goes-asked : {known : Type 0} {ps : View → List Put} {a b : Progress S} (out : S) → Laws goes below → Goes goes below most plan known ps a b → ((v : View) → goes v [] b.out out) → Goes goes below most plan known ps a (record b { out = out })
+  goes-asked {known} {ps = ps} {b = b} out laws p same =
+      let here : Goes goes below most plan known (λ v. []) b (record b { out = out }) = goes-put refl (λ k v _. same v) in
+      goes-as (goes-then laws (λ k. k) p here) (λ k v cov. append-nil (ps v))
+
+  -- what is left to put changes a sink no more that stops
+  pub goes-stopped : {known : Type 0} {before : View → List Put} {a b : Progress S} (left : View → List Put) → Laws goes below → ((v : View) (ps : List Put) → goes v ps b.out b.out) → Goes goes below most plan known before a b
       → Goes goes below most plan known (λ v. before v ++ left v) a b
-  goes-full {known} {b = b} left laws full p =
-      let rest : Goes goes below most plan known left b b = goes-put refl (λ k v _. full v (left v)) in
+  goes-stopped {known} {b = b} left laws stopped p =
+      let rest : Goes goes below most plan known left b b = goes-put refl (λ k v _. stopped v (left v)) in
       goes-then laws (λ k. k) p rest
+
+  -- an object or a list of which a sink passes over the first positions
+  pub goes-passed : {known : Type 0} {kind : Kind} {a : Progress S} (R : Reader) (us : View → Programs) (begun out : S) → Laws goes below → ((v : View) → goes v (Begins kind ∷ []) a.out begun) → ((v : View) → goes v (all_puts kind (us v) R) begun out)
+      → Goes goes below most plan known (λ v. Begins kind ∷ all_puts kind (us v) R) a (record a { out = out })
+  goes-passed {kind = kind} {a = a} R us begun out laws begins passes = goes-put refl (λ k v _. laws.more v (Begins kind ∷ []) (all_puts kind (us v) R) a.out begun out (begins v) (passes v))
 
   -- an object of a type, whose members were prepared first
   pub goes-made : {known : Type 0} (non_null : Bool) (R : Reader) (levels n group : ℕ) (ty : List ℕ) (row : RowOf) (a mid b : Progress S) (ms : List Member) → Laws goes below → levels ≡ suc n → mid.out ≡ a.out
@@ -157,6 +168,16 @@ puts-chained kind End qs R = refl
 puts-chained kind (With position p ps) qs R =
     ap (λ us. Enters kind position ∷ (puts position.non_null p R ++ us)) (puts-chained kind ps qs R)
     ∙ ap (λ us. Enters kind position ∷ us) (sym (append_assoc (puts position.non_null p R) (all_puts kind ps R) (all_puts kind qs R)))
+
+-- an object has a position for each of its members
+pub members-entries : (defs : List Definition) (v : View) (levels : ℕ) (row : RowOf) (ms : List Member) → entries (members_seen defs v levels row ms) ≡ length ms
+members-entries defs v levels row [] = refl
+members-entries defs v levels row (m ∷ ms) = ap suc (members-entries defs v levels row ms)
+
+-- a list has one for each of its items
+pub places-entries : (non_null : Bool) (place : Place) (n : ℕ) (ps : List Program) → entries (places non_null place n ps) ≡ length ps
+places-entries non_null place n [] = refl
+places-entries non_null place n (p ∷ ps) = ap suc (places-entries non_null place (suc n) ps)
 
 -- gives what is put of an object up to some of its members
 abbrev pub fields_put : List Definition → ℕ → RowOf → Reader → List Member → View → List Put

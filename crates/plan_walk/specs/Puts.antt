@@ -38,6 +38,11 @@ abbrev mutual
   all_puts kind (With position p rest) R =
       Enters kind position ∷ (puts position.non_null p R ++ all_puts kind rest R)
 
+-- says how many positions an object or a list has
+abbrev pub entries : Programs → ℕ
+entries End = 0
+entries (With position p rest) = suc (entries rest)
+
 -- Continuation of a position after a load: by what its group does with the rows, or, after a later
 -- load of a `via`, by the first of them and `later` more loaders. Below it are `levels` levels of
 -- objects.

@@ -2,10 +2,11 @@
 
 ghost use Rattle.std.specs.Prelude.{◌≡◌, ◌<◌, ◌≤◌, ◌++◌, ◌∷◌, [], ℕ, List, IsTrue, OnOk};
 ghost use Rattle.load_memory.specs.Keys.{borrowed_of};
-ghost use Rattle.execution.specs.Program.{ObjectOf, ListOf};
+ghost use Rattle.execution.specs.Loads.{Reader};
+ghost use Rattle.execution.specs.Program.{ObjectOf, ListOf, Kind, Programs};
 ghost use Rattle.plan_program.specs.Prepared.{leaf_value_seen};
 ghost use Rattle.plan_walk.specs.Cells.{leaf_seen};
-ghost use Rattle.plan_walk.specs.Puts.{Put, Begins, Ends, Enters, Has, View, Agree, reads, a_wait};
+ghost use Rattle.plan_walk.specs.Puts.{Put, Begins, Ends, Enters, Has, View, Agree, all_puts, entries, reads, a_wait};
 ghost use Rattle.plan_walk.specs.Positions.{kind_of, is_non_null, member_position, item_position, onward_of};
 
 use crate::positions::{Items, Leaf, MemberPosition, Nullability, Onward, PositionKind};
@@ -75,13 +76,24 @@ pub trait Sink {
     fn waiting(&self) -> usize
         ensures { result ≡ waits self.now };
 
-    /// Tells whether nothing that is put changes it any more. A walk may end early then.
+    /// Tells whether it stops here: nothing that is put changes it any more. A walk asks before each field and each item, and ends early.
     #[inline]
-    fn is_full(&self) -> bool
-        ensures { IsTrue result
-            → (v : View) (ps : List Put) → goes v ps self.now self.now }
+    fn stops(&mut self) -> bool
+        ensures same { (v : View) → goes v [] self.old self.new }
+        ensures stops { IsTrue result
+            → (v : View) (ps : List Put) → goes v ps self.new self.new }
     {
         false
+    }
+
+    /// Returns how many of the `count` fields or items of what has just begun it has already. A walk passes over them.
+    #[inline]
+    fn passes(&mut self, count: usize) -> usize
+        ensures few { result ≤ count }
+        ensures passed { (v : View) (kind : Kind) (us : Programs) (R : Reader)
+            → entries us ≡ result → goes v (all_puts kind us R) self.old self.new }
+    {
+        0
     }
 
     ghost none: { (v : View) (s : Self) → goes v [] s s };

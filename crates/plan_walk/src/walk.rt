@@ -71,8 +71,9 @@ impl<'w> Walk<'w> {
             (is_non_null nullability) row.now members.now at.old at.new) }
     {
         at.out.begin(PositionKind::Object)?;
-        for member in members {
-            if at.out.is_full() {
+        let passed = at.out.passes(members.len());
+        for member in &members[passed..] {
+            if at.out.stops() {
                 return Ok(());
             }
             at.out.field(&member.position)?;
@@ -233,12 +234,12 @@ impl<'w> Walk<'w> {
             nullability: items.nullability,
         };
         at.out.begin(PositionKind::List)?;
-        for (number, row) in rows.iter().enumerate() {
-            if at.out.is_full() {
+        for number in at.out.passes(rows.len())..rows.len() {
+            if at.out.stops() {
                 return Ok(());
             }
             at.out.item(items, number)?;
-            self.follow(at, to_item, left, row)?;
+            self.follow(at, to_item, left, &rows[number])?;
         }
         at.out.end(PositionKind::List, to.nullability)
     }
@@ -294,12 +295,12 @@ impl<'w> Walk<'w> {
             nullability: items.nullability,
         };
         at.out.begin(PositionKind::List)?;
-        for (number, key) in keys.iter().enumerate() {
-            if at.out.is_full() {
+        for number in at.out.passes(keys.len())..keys.len() {
+            if at.out.stops() {
                 return Ok(());
             }
             at.out.item(items, number)?;
-            self.read_if(at, to_item, loader, key)?;
+            self.read_if(at, to_item, loader, &keys[number])?;
         }
         at.out.end(PositionKind::List, to.nullability)
     }

@@ -1,25 +1,22 @@
 -- Plans are answered in a session of their world that is new: rounds can be made until nothing is missing, or until the work is over the
 -- limit.
-use Rattle.std.proofs.Common.{◌≡◌, ◌≢◌, ◌⊎◌, ◌≤◌, ◌<◌, ◌+◌, ℕ, zero, suc, List, [], ◌∷◌, All, map, length, inl, inr, sym, ap, subst, refl, Option, Some, None, arith}
-use Rattle.std.specs.Prelude.{slice_get}
+use Rattle.std.proofs.Common.{◌≡◌, ◌⊎◌, ◌≤◌, ◌<◌, ◌+◌, ℕ, zero, suc, List, [], ◌∷◌, All, map, length, inl, inr, sym, ap, subst, refl, Option, Some, None, arith}
 use Rattle.std.proofs.lemmas.Bool.{cases_lt}
 use Rattle.std.proofs.lemmas.List.{length-map}
 use Rattle.std.proofs.lemmas.List.Elements.{All-head, All-tail}
 use Rattle.std.proofs.lemmas.Option.{none-some, same_Some}
-use Rattle.load_memory.specs.Keys.{KeyOf}
-use Rattle.load_memory.specs.Outcomes.{ItemOf, OutcomeOf}
 use Rattle.load_memory.specs.Replies.{ReplyOf}
 use Rattle.load_queue.specs.Answers.{given, outcomes_of}
 use Rattle.load_queue.specs.Loaders.{LoaderOf}
 use Rattle.load_queue.specs.Orders.{OrderOf}
 use Rattle.csv_source.specs.Tables.{SourceOf, item_of_key}
 use Rattle.gq_bindings.specs.Tree as bindings
-use Rattle.execution.specs.Loads.{Load, read, AnswersMore}
+use Rattle.execution.specs.Loads.{Load, read}
 use Rattle.execution.specs.Program.{Program, tree, chain}
 use Rattle.execution.specs.Front.{front, keys_for}
 use Rattle.execution.specs.Completion.{AnsweredOf}
 use Rattle.execution.specs.Executed.{completed}
-use Rattle.execution.specs.Rounds.{rule_of, may_at, round_orders, orders_from, IsReply, AreReplies, without_failed, direct, RespectsCacheKeys, HoldsItems, AreLimited, HasLoaders}
+use Rattle.execution.specs.Rounds.{modes_of, rule_of, may_at, round_orders, orders_from, IsReply, AreReplies, without_failed, direct, AreLimited, HasLoaders}
 use Rattle.execution.specs.Sessions.{Forgot, AskedLoads}
 use Rattle.execution.proofs.Monotone.{exec-whole, front-open}
 use Rattle.execution.proofs.RoundLaws.{rounds-chain}
@@ -28,27 +25,21 @@ use Rattle.plan_program.specs.PlanPrograms.{plan_program}
 use Rattle.load_rounds.specs.Sessions.{StateOf, state_of, rules_of, session_modes, after_step}
 use Rattle.load_rounds.specs.Calls.{RoundRan}
 use Rattle.execution.specs.Executes.{IsTextOf}
-use Rattle.load_rounds.specs.KeyByKey.{item_over}
 use Rattle.load_rounds.specs.Limits.{work_in, IsWithin, IsOver as IsMore, AreAskedInTime}
 use Rattle.load_rounds.specs.SharedRounds.{RequestOf, together}
 use Rattle.load_rounds.specs.declared.limits.Limits.{Limits}
 use Rattle.gq_resolve.proofs.PlanLoads.{plan-loads}
 use Rattle.load_rounds.proofs.Following.{InRounds, in-none, in-more}
-use Rattle.load_rounds.proofs.Holding.{rounds-held}
 use Rattle.load_rounds.proofs.Numbering.{orders-below, orders-loads}
+use Rattle.merging_fields.proofs.Twins.{there}
 use Rattle.world.specs.Worlds.{WorldOf, IsLimit, HasSources}
-use Rattle.world_answers.specs.Answers.{may_tell}
+use Rattle.world_answers.specs.Answers.{item_at, may_tell}
+use Rattle.world_answers.specs.Services.{within}
 use Rattle.world_answers.specs.Sessions.{loaders_over, session_over, IsOver}
-use Rattle.world_answers.proofs.Direct.{over-alike, over-held}
-use Rattle.world_answers.proofs.Known.{respects-over, rounds-by-key}
+use Rattle.world_answers.proofs.Known.{told-directly}
 use Rattle.world_answers.proofs.Loading.{length-over}
 use Rattle.world_answers.proofs.Restarting.{over-new}
 use Rattle.world_answers.proofs.Logs.{chain-more, none-or}
-
-there : {A : Type 0} (xs : List A) (a : ℕ) → a < length xs → (x : A) × (slice_get xs a ≡ Some x)
-there [] a h = absurd (omega (arith, h))
-there (x ∷ xs) zero h = (x, refl)
-there (x ∷ xs) (suc a) h = there xs a (omega (arith, h))
 
 -- an amount is more than a limit, or it isn't
 more-or : (limit : Option ℕ) (amount : ℕ) → IsWithin limit amount ⊎ IsMore limit amount
@@ -66,9 +57,8 @@ fits-limit (Some m) fits n e = let same : m ≡ n = same_Some m n e in let least
 
 module _ (limit : Option ℕ) where
   limited-over : ((n : ℕ) → limit ≡ Some n → 0 < n) → (lines : List bindings.LoaderOf) (sources : List SourceOf) → AreLimited (map rule_of (loaders_over limit lines sources))
-  limited-over fits [] sources = tt
-  limited-over fits (line ∷ lines) [] = tt
   limited-over fits (line ∷ lines) (source ∷ sources) = (fits, limited-over fits lines sources)
+  limited-over fits lines sources = tt
 
 -- ---- what its sources answer
 
@@ -110,14 +100,8 @@ module _ (w : WorldOf) (has : HasSources w) where
   over : IsOver w (session_over w)
   over = over-new w has.each
 
-  abbrev item : ℕ → KeyOf → ItemOf
-  item = item_over item_of_key ls
-
   pub limited : AreLimited (rules_of old)
   limited = limited-over w.limit (fits-limit w.limit has.fits) w.bindings.loaders w.sources
-
-  respects : RespectsCacheKeys (session_modes old) item
-  respects = respects-over ls (over-alike w (session_over w) over)
 
   -- says what needs the loaders of the bindings has them
   pub over-loaders : (p : Program) → HasLoaders (length w.bindings.loaders) p → HasLoaders (length (rules_of old)) p
@@ -134,15 +118,14 @@ module _ (w : WorldOf) (has : HasSources w) where
     abbrev limits : Limits
     limits = record { work = limit; rounds = None }
 
-    few : (cur : StateOf SourceOf) (n : ℕ) → InRounds may_tell old cur p n → n ≤ chain p (direct item)
+    few : (cur : StateOf SourceOf) (n : ℕ) → InRounds may_tell old cur p n → n ≤ chain p (direct (item_at w.sources))
     few cur n is =
-        let at : HoldsItems (session_modes old) item cur.memory =
-        rounds-held item (rules_of old) p respects (without_failed old.memory) is.log cur.memory (over-held w (session_over w) over (session_modes old) item) (rounds-by-key ls (rules_of old) p (without_failed old.memory) is.log cur.memory is.made.rounds) in
-        let more : AnswersMore (read (session_modes old) cur.memory) (direct item) = λ load o f. ap (λ (x : OutcomeOf). Some x) (sym (at load.loader load.key o f)) in
-        let a : length is.log ≤ chain p (read (session_modes old) cur.memory) = rounds-chain (may_at may_tell ls) (rules_of old) p (without_failed old.memory) is.log cur.memory limited own is.made.rounds in
-        let b : chain p (read (session_modes old) cur.memory) ≤ chain p (direct item) = chain-more p (read (session_modes old) cur.memory) (direct item) more in
+        let made : length is.log ≤ chain p (read (session_modes cur) cur.memory) =
+        subst (λ ms. length is.log ≤ chain p (read ms cur.memory)) (ap modes_of (sym is.rules))
+        (rounds-chain (may_at may_tell ls) (rules_of old) p (without_failed old.memory) is.log cur.memory limited own is.made.rounds) in
+        let more = chain-more p (read (session_modes cur) cur.memory) (direct (item_at w.sources)) (told-directly (within None None w) (session_over w) over cur p is.log is.made) in
         let c = is.counted in
-        omega (arith, a, b, c)
+        omega (arith, made, more, c)
 
     -- nothing is missing any more, and the work is within the limit; or it isn't
     abbrev pub HasEnded : StateOf SourceOf → Type 0
@@ -155,20 +138,21 @@ module _ (w : WorldOf) (has : HasSources w) where
       pub in_time : AreAskedInTime may_tell old last limits rs rounds
       pub ended : HasEnded last
 
-    done : (left : ℕ) (cur : StateOf SourceOf) (n : ℕ) → InRounds may_tell old cur p n → AreAskedInTime may_tell old cur limits rs n → chain p (direct item) < n + left → Done
+    done : (left : ℕ) (cur : StateOf SourceOf) (n : ℕ) → InRounds may_tell old cur p n → AreAskedInTime may_tell old cur limits rs n → chain p (direct (item_at w.sources)) < n + left → Done
     done zero cur n is in_time lt = let most = few cur n is in absurd (omega (arith, lt, most))
-    done (suc left) cur n is in_time lt = go (more-or limit (work_in cur rs)) (none-or (front (session_modes cur) p cur.memory)) (λ new i t. done left new (n + 1) i t (omega (arith, lt)))
-      where
-        go : IsWithin limit (work_in cur rs) ⊎ IsMore limit (work_in cur rs) → (front (session_modes cur) p cur.memory ≡ []) ⊎ (front (session_modes cur) p cur.memory ≢ [])
-            → ((new : StateOf SourceOf) → InRounds may_tell old new p (n + 1) → AreAskedInTime may_tell old new limits rs (n + 1) → Done) → Done
-        go (inr more) lacks rest = record { last = cur; rounds = n; is = is; in_time = in_time; ended = inr more }
-        go (inl within) (inl e) rest = record { last = cur; rounds = n; is = is; in_time = in_time; ended = inl (within, e) }
-        go (inl within) (inr some) rest =
+    done (suc left) cur n is in_time lt = elim (more-or limit (work_in cur rs)) [
+      | inr more ↦ record { last = cur; rounds = n; is = is; in_time = in_time; ended = inr more }
+      | inl within ↦ elim (none-or (front (session_modes cur) p cur.memory)) [
+        | inl e ↦ record { last = cur; rounds = n; is = is; in_time = in_time; ended = inl (within, e) }
+        | inr some ↦
             let r = round-there cur (front (session_modes cur) p cur.memory) in
-            rest r.0 (in-more may_tell old cur r.0 p n (n + 1) is refl some r.1) (inr (record { before = cur; earlier = is.log; made = is.made; might = record { work = within; rounds = inl tt }; ran = r.1 }))
+            done left r.0 (n + 1) (in-more may_tell old cur r.0 p n (n + 1) is refl some r.1)
+            (inr (record { before = cur; earlier = is.log; made = is.made; might = record { work = within; rounds = inl tt }; ran = r.1 })) (omega (arith, lt))
+      ]
+    ]
 
     pub rounds-end : Done
-    rounds-end = done (suc (chain p (direct item))) (after_step old Forgot) 0 (in-none may_tell old (after_step old Forgot) p refl) (inl refl) (omega arith)
+    rounds-end = done (suc (chain p (direct (item_at w.sources)))) (after_step old Forgot) 0 (in-none may_tell old (after_step old Forgot) p refl) (inl refl) (omega arith)
 
 -- ---- a plan
 

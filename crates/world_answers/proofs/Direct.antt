@@ -1,7 +1,6 @@
 -- The loaders of a session of a world, and the items of their keys.
 use Rattle.std.proofs.Common.{◌≡◌, ◌∙◌, ℕ, zero, suc, List, [], ◌∷◌, map, length, Option, refl, sym, ap, subst}
 use Rattle.std.proofs.Math.Path.{fun_ext}
-use Rattle.std.proofs.lemmas.List.Elements.{All-nil, All-cons, All-head, All-tail}
 use Rattle.std.proofs.lemmas.Option.{none-some}
 use Rattle.load_memory.specs.Keys.{KeyOf}
 use Rattle.load_memory.specs.Outcomes.{ItemOf}
@@ -15,35 +14,26 @@ use Rattle.load_rounds.specs.KeyByKey.{CompareAlike, item_over}
 use Rattle.load_rounds.specs.Sessions.{SessionOf}
 use Rattle.world_answers.specs.Answers.{item_at}
 use Rattle.world.specs.Worlds.{WorldOf}
-use Rattle.world_answers.specs.Sessions.{loader_over, loaders_over, IsOver}
+use Rattle.load_memory.proofs.ReplyPairs.{All-of_map}
+use Rattle.world_answers.specs.Sessions.{loaders_over, IsOver}
+use Rattle.world_answers.proofs.Loading.{over-all}
 
 -- ---- the loaders of a world
 
 module _ (limit : Option ℕ) where
-  -- each loader compares keys as its source
-  compare-alike : (lines : List bindings.LoaderOf) (sources : List SourceOf) → CompareAlike (λ (s : SourceOf). s.mode) (loaders_over limit lines sources)
-  compare-alike [] sources = All-nil (λ (l : LoaderOf SourceOf). l.mode ≡ l.source.mode)
-  compare-alike (line ∷ lines) [] = All-nil (λ (l : LoaderOf SourceOf). l.mode ≡ l.source.mode)
-  compare-alike (line ∷ lines) (source ∷ sources) =
-      All-cons (λ (l : LoaderOf SourceOf). l.mode ≡ l.source.mode) (loader_over 0 limit line.name source) (loaders_over limit lines sources) refl (compare-alike lines sources)
-
   -- the items of the loaders are those of the sources
   items-over : (lines : List bindings.LoaderOf) (sources : List SourceOf) (loader : ℕ) (key : KeyOf) → length sources ≡ length lines → item_over item_of_key (loaders_over limit lines sources) loader key ≡ item_at sources loader key
   items-over [] [] loader key e = refl
-  items-over [] (s ∷ sources) loader key e = absurd (cc e)
-  items-over (line ∷ lines) [] loader key e = absurd (cc e)
   items-over (line ∷ lines) (source ∷ sources) zero key e = refl
   items-over (line ∷ lines) (source ∷ sources) (suc loader) key e = items-over lines sources loader key (cc e)
+  items-over lines sources loader key e = absurd (cc e)
 
 nothing-held : (modes : List KeyMode) (item : ℕ → KeyOf → ItemOf) → HoldsItems modes item (without_failed (look []))
 nothing-held modes item = λ loader key outcome h. absurd (none-some outcome h)
 
 -- as a loader was made, so it compares keys, and so is its source
 made-alike : (ls : List (LoaderOf SourceOf)) → CompareAlike (λ (s : SourceOf). s.mode) (map as_made ls) → CompareAlike (λ (s : SourceOf). s.mode) ls
-made-alike [] h = All-nil (λ (l : LoaderOf SourceOf). l.mode ≡ l.source.mode)
-made-alike (l ∷ ls) h =
-    let P : LoaderOf SourceOf → Type 0 = λ l. l.mode ≡ l.source.mode in
-    All-cons P l ls (All-head P (as_made l) (map as_made ls) h) (made-alike ls (All-tail P (as_made l) (map as_made ls) h))
+made-alike ls h = All-of_map as_made (λ (l : LoaderOf SourceOf). l.mode ≡ l.source.mode) ls h
 
 made-items : (ls : List (LoaderOf SourceOf)) (loader : ℕ) (key : KeyOf) → item_over item_of_key (map as_made ls) loader key ≡ item_over item_of_key ls loader key
 made-items [] loader key = refl
@@ -54,7 +44,8 @@ made-items (l ∷ ls) (suc loader) key = made-items ls loader key
 
 module _ (w : WorldOf) (s : SessionOf SourceOf) (over : IsOver w s) where
   pub over-alike : CompareAlike (λ (s : SourceOf). s.mode) s.loaders
-  over-alike = made-alike s.loaders (subst (CompareAlike (λ (s : SourceOf). s.mode)) (sym over.loaders) (compare-alike w.limit w.bindings.loaders w.sources))
+  over-alike = made-alike s.loaders (subst (CompareAlike (λ (s : SourceOf). s.mode)) (sym over.loaders)
+      (over-all w.limit (λ (l : LoaderOf SourceOf). l.mode ≡ l.source.mode) (λ name source. refl) w.bindings.loaders w.sources))
 
   pub over-items : item_over item_of_key s.loaders ≡ item_at w.sources
   over-items = fun_ext (λ loader. fun_ext (λ key.

@@ -1,22 +1,21 @@
 -- What is known in a session of a world after rounds, direct execution is told too. So the work over it is at most the direct work, and is
 -- that where nothing is missing.
-use Rattle.std.proofs.Common.{◌≡◌, ◌≤◌, ◌+◌, ℕ, suc, false, List, [], ◌∷◌, map, Option, Some, None, refl, sym, ap, ap₂, subst, ◌∙◌, arith}
+use Rattle.std.proofs.Common.{◌≡◌, ◌≤◌, ◌+◌, ℕ, suc, false, List, [], ◌∷◌, Option, Some, None, refl, sym, ap, ap₂, subst, ◌∙◌, arith}
 use Rattle.load_memory.specs.Keys.{KeyOf}
 use Rattle.load_memory.specs.Outcomes.{ItemOf, OutcomeOf}
 use Rattle.load_memory.specs.Replies.{ReplyOf}
 use Rattle.load_memory.specs.declared.key.KeyMode.{KeyMode}
-use Rattle.load_queue.specs.Loaders.{LoaderOf}
 use Rattle.csv_source.specs.Tables.{SourceOf, item_of_key}
 use Rattle.csv_source.specs.KeyLaws.{item_of_key-folded}
-use Rattle.execution.specs.Loads.{Memory, Reader, AnswersMore, read}
+use Rattle.execution.specs.Loads.{Reader, AnswersMore, read}
 use Rattle.execution.specs.Program.{Program, tree, trees}
 use Rattle.execution.specs.Completion.{is_open, any_open}
 use Rattle.execution.specs.Front.{front}
-use Rattle.execution.specs.Rounds.{RuleOf, rule_of, modes_of, may_at, key_by_key, AreRounds, without_failed, direct, RespectsCacheKeys, HoldsItems}
+use Rattle.execution.specs.Rounds.{modes_of, may_at, key_by_key, without_failed, direct, RespectsCacheKeys, HoldsItems}
 use Rattle.execution.specs.Sessions.{Forgot}
 use Rattle.execution.specs.Work.{count_positions, work}
 use Rattle.execution.proofs.Monotone.{front-open, tree-stays}
-use Rattle.load_rounds.specs.KeyByKey.{CompareAlike, item_over}
+use Rattle.load_rounds.specs.KeyByKey.{item_over}
 use Rattle.load_rounds.specs.Headline.{asked_steps, MakesRounds}
 use Rattle.load_rounds.specs.Limits.{work_of_all, work_in, IsWithin, IsOver as IsMore, AreOver}
 use Rattle.load_rounds.specs.Sessions.{SessionOf, StateOf, state_of, rules_of, session_modes}
@@ -32,17 +31,6 @@ use Rattle.world_answers.specs.Answers.{item_at, may_tell}
 use Rattle.world_answers.specs.Services.{ServiceOf, limits_in}
 use Rattle.world_answers.specs.Sessions.{IsOver}
 use Rattle.world_answers.proofs.Direct.{over-alike, over-items, over-held}
-
--- ---- the loaders of a world
-
-module _ (loaders : List (LoaderOf SourceOf)) where
-  -- keys that are one for a loader have one item
-  pub respects-over : CompareAlike (λ (s : SourceOf). s.mode) loaders → RespectsCacheKeys (modes_of (map rule_of loaders)) (item_over item_of_key loaders)
-  respects-over alike = respects-alike may_tell item_of_key (λ source keys answer is. is) (λ (s : SourceOf). s.mode) item_of_key-folded loaders alike
-
-  -- their sources answer key by key
-  pub rounds-by-key : (rules : List RuleOf) (p : Program) (M : Memory) (rounds : List (List ReplyOf)) (end : Memory) → AreRounds (may_at may_tell loaders) rules p M rounds end → AreRounds (key_by_key (item_over item_of_key loaders)) rules p M rounds end
-  rounds-by-key = rounds-weaker (may_at may_tell loaders) (key_by_key (item_over item_of_key loaders)) (may-report may_tell item_of_key (λ source keys answer is. is) loaders)
 
 -- ---- work
 
@@ -68,17 +56,22 @@ module _ (s : ServiceOf) (begun : SessionOf SourceOf) (over : IsOver s.world beg
   abbrev item : ℕ → KeyOf → ItemOf
   item = item_over item_of_key begun.loaders
 
-  abbrev at_once : Reader
+  abbrev pub at_once : Reader
   at_once = direct (item_at s.world.sources)
 
   modes-kept : session_modes after ≡ session_modes old
   modes-kept = ap modes_of (ap (λ (x : StateOf SourceOf). rules_of x) made.after ∙ steps-rules old (Forgot ∷ asked_steps (rules_of old) p (without_failed old.memory) log))
 
   -- direct execution is told all that is known
-  told-directly : AnswersMore (read (session_modes after) after.memory) at_once
+  pub told-directly : AnswersMore (read (session_modes after) after.memory) at_once
   told-directly =
+      -- their sources answer key by key, and keys that are one for a loader have one item
+      let respects : RespectsCacheKeys (session_modes old) item =
+      respects-alike may_tell item_of_key (λ source keys answer is. is) (λ (s : SourceOf). s.mode) item_of_key-folded begun.loaders (over-alike s.world begun over) in
+      let by-key = rounds-weaker (may_at may_tell begun.loaders) (key_by_key item) (may-report may_tell item_of_key (λ source keys answer is. is) begun.loaders)
+      (rules_of old) p (without_failed old.memory) log after.memory made.rounds in
       let held : HoldsItems (session_modes old) item after.memory =
-      rounds-held item (rules_of old) p (respects-over begun.loaders (over-alike s.world begun over)) (without_failed old.memory) log after.memory (over-held s.world begun over (session_modes old) item) (rounds-by-key begun.loaders (rules_of old) p (without_failed old.memory) log after.memory made.rounds) in
+      rounds-held item (rules_of old) p respects (without_failed old.memory) log after.memory (over-held s.world begun over (session_modes old) item) by-key in
       let more : AnswersMore (read (session_modes old) after.memory) (direct item) = λ load o f. ap (λ (x : OutcomeOf). Some x) (sym (held load.loader load.key o f)) in
       let same : AnswersMore (read (session_modes old) after.memory) at_once = subst (λ (i : ℕ → KeyOf → ItemOf). AnswersMore (read (session_modes old) after.memory) (direct i)) (over-items s.world begun over) more in
       subst (λ (ms : List KeyMode). AnswersMore (read ms after.memory) at_once) (sym modes-kept) same

@@ -19,7 +19,6 @@ pub mod Shared
 pub mod Strings
 pub mod Telling
 pub mod Together
-pub mod Totals
 pub mod Values
 pub mod Verdicts
 pub mod Written

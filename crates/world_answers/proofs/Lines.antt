@@ -1,5 +1,5 @@
 -- Each line has an answer.
-use Rattle.std.proofs.Common.{◌≡◌, ◌≢◌, ◌<◌, ◌≤◌, ◌^◌, length, arith, cond, refl, sym, subst, ◌∙◌, ℕ, Bool, true, false, List, [], ◌∷◌, map, ◌⊎◌, Option, Some, None, Result, Ok, Err, inl, inr, IsUtf8}
+use Rattle.std.proofs.Common.{◌&&◌, ◌≡◌, ◌≢◌, ◌<◌, ◌^◌, length, arith, refl, sym, subst, ◌∙◌, ℕ, false, List, [], ◌∷◌, map, Option, Some, None, Result, Ok, Err, inl, inr, IsUtf8}
 use Rattle.std.specs.Option.{option_map, option_and_then}
 use Rattle.std.specs.Prelude.{find, nat_lt, nat_le}
 use Rattle.std.specs.Str.{is_utf8}
@@ -12,7 +12,7 @@ use Rattle.serde_json.specs.Read.{read}
 use Rattle.gq_parser.specs.declared.fault.ParseFault.{ParseFault}
 use Rattle.gq_parser.specs.declared.fault.ParseFault.TheVariants as parse
 use Rattle.gq_parser.specs.Fault.{IsDocumentOf}
-use Rattle.gq_parser.specs.Tree.{Document, VariableDefinition, Operation}
+use Rattle.gq_parser.specs.Tree.{Document, Operation}
 use Rattle.schema_syntax.specs.Tree.{Definition}
 use Rattle.gq_schema.specs.Types.{tree_of}
 use Rattle.gq_variables.specs.Variables.{VariableOf}
@@ -21,7 +21,7 @@ use Rattle.rules_parts.specs.Listing.{parts_of}
 use Rattle.gq_check.specs.declared.fault.CheckFault.TheVariants as check
 use Rattle.gq_check.specs.declared.fault.PrepareFault.TheVariants as prepare
 use Rattle.gq_check.specs.Plans.{PlanOf}
-use Rattle.gq_check.specs.Prepared.{PreparedOf, FaultOf as Unprepared, no_such_operation, operation_needed, variables_not_object, bad_variable, is_operation, found_operation, chosen_operation, with_variables, prepared_operation, prepared}
+use Rattle.gq_check.specs.Prepared.{PreparedOf, FaultOf as Unprepared, no_such_operation, operation_needed, variables_not_object, bad_variable, is_operation, found_operation, with_variables, prepared_operation, prepared}
 use Rattle.gq_check.specs.Verdict.{FaultOf, Breaks, TooComplex, TooDeep, NotServed, IsVerdict, IsValid}
 use Rattle.load_rounds.specs.SharedRounds.{ReportOf}
 use Rattle.request_line.specs.Requests.{RequestOf, asked, asked_each, most_requests, IsRequest, AreRequests, IsNoRequest}
@@ -41,12 +41,12 @@ use Rattle.world_answers.proofs.Values.{array-answered}
 use Rattle.world_answers.specs.Requests.{IsPlanFor, IsRefusedOrAnswered, invalid, unprepared, answered}
 use Rattle.world_answers.proofs.Telling.{outcome-there}
 use Rattle.world_answers.proofs.Documents.{IsRead, text-read}
-use Rattle.plan_laws.proofs.Each.{Each, Maybe, each-find}
+use Rattle.plan_laws.proofs.Each.{Each, Maybe, maybe-weaker}
 use Rattle.world_answers.proofs.Shared.{plans-answered}
-use Rattle.world_answers.proofs.Names.{VariableNames, OperationNames, DocumentNames}
+use Rattle.world_answers.proofs.Names.{DocumentNames}
 use Rattle.world_answers.proofs.Written.{document-written}
-use Rattle.world_answers.proofs.Strings.{IsSaid, said, said-name}
-use Rattle.world_answers.proofs.Json.{Fits, RequestFits, request-fits, requests-fit}
+use Rattle.world_answers.proofs.Strings.{IsSaid, Fits, said-fitting}
+use Rattle.world_answers.proofs.Json.{RequestFits, request-fits, requests-fit}
 use Rattle.world_answers.proofs.Parts.{schema-said, parts-named}
 use Rattle.world_answers.proofs.Rules.{FaultSaid, verdict-said}
 
@@ -54,75 +54,33 @@ use Rattle.world_answers.proofs.Rules.{FaultSaid, verdict-said}
 
 abbrev PrepareSaid : Unprepared → Type 0
 PrepareSaid (no_such_operation n) = IsSaid n
-PrepareSaid operation_needed = Unit {0}
-PrepareSaid variables_not_object = Unit {0}
-PrepareSaid (bad_variable n) = IsSaid n
-
-abbrev OperationSaid : Result Operation Unprepared → Type 0
-OperationSaid (Ok o) = OperationNames o
-OperationSaid (Err f) = PrepareSaid f
-
-abbrev ValuesSaid : Result (List VariableOf) values.FaultOf → Type 0
-ValuesSaid (Ok vs) = Unit {0}
-ValuesSaid (Err values.not_object) = Unit {0}
-ValuesSaid (Err (values.bad_variable n)) = IsSaid n
+PrepareSaid f = Unit {0}
 
 abbrev ResultSaid : Result PreparedOf Unprepared → Type 0
 ResultSaid (Ok p) = Unit {0}
 ResultSaid (Err f) = PrepareSaid f
 
-found-said : (n : List ℕ) (o : Option Operation) → Maybe OperationNames o → IsSaid n → OperationSaid (found_operation n o)
-found-said n None h said = said
-found-said n (Some o) h said = h
-
-chosen-said : (os : List Operation) (name : Option (List ℕ)) → Each OperationNames os → Maybe IsSaid name → OperationSaid (chosen_operation os name)
-chosen-said os (Some n) h said = found-said n (find (is_operation n) os) (each-find OperationNames (is_operation n) os h) said
-chosen-said [] None h said = tt
-chosen-said (o ∷ []) None h said = h.0
-chosen-said (o ∷ p ∷ os) None h said = tt
-
-before-said : (v : VariableOf) (r : Result (List VariableOf) values.FaultOf) → ValuesSaid r → ValuesSaid (values.before v r)
-before-said v (Ok vs) h = tt
-before-said v (Err values.not_object) h = tt
-before-said v (Err (values.bad_variable n)) h = h
-
-and-said : (n : List ℕ) (x : values.ValueOf) (r : Result (List VariableOf) values.FaultOf) → IsSaid n → ValuesSaid r → ValuesSaid (values.and_then n x r)
-and-said n (values.a_value i) r said h = before-said (record { name = n; value = i }) r h
-and-said n values.no_value r said h = h
-and-said n values.bad_value r said h = said
+with-said : (o : Operation) (r : Result (List VariableOf) values.FaultOf) → ResultSaid (with_variables o r)
+with-said o (Ok vs) = tt
+with-said o (Err values.not_object) = tt
+with-said o (Err (values.bad_variable n)) = tt
 
 module _ (defs : List Definition) (given : Data) where
-  values-said : (vs : List VariableDefinition) → Each VariableNames vs → ValuesSaid (values.values_of defs given vs)
-  values-said [] h = tt
-  values-said (v ∷ vs) h = and-said v.name (values.value_of defs given v) (values.values_of defs given vs) (said-name h.0.0) (values-said vs h.1)
+  found-said : (n : List ℕ) (o : Option Operation) → IsSaid n → ResultSaid (prepared_operation defs given (found_operation n o))
+  found-said n None said = said
+  found-said n (Some o) said = with-said o (values.coerced_variables defs o.variables given)
 
-  coerced-said : (vs : List VariableDefinition) → Each VariableNames vs → ValuesSaid (values.coerced_variables defs vs given)
-  coerced-said vs h = go (values.gives_values given)
-    where
-      go : (b : Bool) → ValuesSaid (cond b (values.values_of defs given vs) (Err values.not_object))
-      go true = values-said vs h
-      go false = tt
-
-  with-said : (o : Operation) (r : Result (List VariableOf) values.FaultOf) → ValuesSaid r → ResultSaid (with_variables o r)
-  with-said o (Ok vs) h = tt
-  with-said o (Err values.not_object) h = tt
-  with-said o (Err (values.bad_variable n)) h = h
-
-  operation-said : (r : Result Operation Unprepared) → OperationSaid r → ResultSaid (prepared_operation defs given r)
-  operation-said (Ok o) h = with-said o (values.coerced_variables defs o.variables given) (coerced-said o.variables h.1)
-  operation-said (Err f) h = h
-
-  prepared-said : (os : List Operation) (name : Option (List ℕ)) → Each OperationNames os → Maybe IsSaid name → ResultSaid (prepared defs os name given)
-  prepared-said os name h said = operation-said (chosen_operation os name) (chosen-said os name h said)
+  prepared-said : (os : List Operation) (name : Option (List ℕ)) → Maybe IsSaid name → ResultSaid (prepared defs os name given)
+  prepared-said os (Some n) said = found-said n (find (is_operation n) os) said
+  prepared-said [] None said = tt
+  prepared-said (o ∷ []) None said = with-said o (values.coerced_variables defs o.variables given)
+  prepared-said (o ∷ p ∷ os) None said = tt
 
 -- ---- a request
 
 some-fault : (f : ParseFault) → f ≢ parse.NoMemory → is_want_of_memory (fault.Parse f) ≡ false
-some-fault (parse.Lex f) some = refl
-some-fault (parse.Unexpected p) some = refl
-some-fault (parse.UnexpectedEnd p) some = refl
-some-fault (parse.TooDeep p) some = refl
 some-fault parse.NoMemory some = absurd (some refl)
+some-fault f some = refl
 
 module _ (s : ServiceOf) (has : HasSources s.world) (r : RequestOf) (called : Maybe IsSaid r.operation_name) where
   abbrev HasAnswer : Type 0
@@ -160,7 +118,7 @@ module _ (s : ServiceOf) (has : HasSources s.world) (r : RequestOf) (called : Ma
 
     of-outcome : DocumentNames d → IsRefusedOrAnswered s d r.operation_name (values_of r.variables) → HasAnswer
     of-outcome names (invalid f is) = of-invalid f (verdict-said (parts_of defs' d) (parts-named defs' d (schema-said s.world.definitions) names) (Some f) is) is
-    of-outcome names (unprepared f valid e) = of-unprepared f (subst ResultSaid e (prepared-said defs' (values_of r.variables) d.operations r.operation_name names.operations called)) valid e
+    of-outcome names (unprepared f valid e) = of-unprepared f (subst ResultSaid e (prepared-said defs' (values_of r.variables) d.operations r.operation_name called)) valid e
     of-outcome names (answered {plan = plan} {text = text} valid is anew) = of-plan plan text valid is anew
 
   of-query : IsRead r.query → HasAnswer
@@ -171,14 +129,6 @@ module _ (s : ServiceOf) (has : HasSources s.world) (r : RequestOf) (called : Ma
   request-answered = of-query (text-read r.query)
 
 -- ---- a line
-
-in_range : (low high n : ℕ) → ((low < n) × (n ≤ high)) ⊎ ((low < n) × (n ≤ high) → ⊥)
-in_range low high n = go (nat_lt low n) (nat_le n high) refl refl
-  where
-    go : (a b : Bool) → nat_lt low n ≡ a → nat_le n high ≡ b → ((low < n) × (n ≤ high)) ⊎ ((low < n) × (n ≤ high) → ⊥)
-    go true true e d = inl (grind arith, grind arith)
-    go false b e d = inr (λ h. grind arith)
-    go true false e d = inr (λ h. grind arith)
 
 -- the values of an array, each refused or planned
 record Values (s : ServerOf) (values : List (Option RequestOf)) : Type 0 where
@@ -218,14 +168,14 @@ module _ (s : ServiceOf) (has : HasSources s.world) (line : List ℕ) where
 
   module _ (one : (r : RequestOf) → IsRequest line r → Maybe IsSaid r.operation_name) (each : (values : List (Option RequestOf)) → AreRequests line values → Each (Maybe (ValueSaid s has)) values) where
     of-values : IsUtf8 line → ((r : RequestOf) → IsRequest line r → ⊥) → (values : List (Option RequestOf)) → array_in ≡ Some values → Answered
-    of-values utf8 none values e = elim (in_range 0 most_requests (length values)) [
+    of-values utf8 none values e = elim (cases_Bool (nat_lt 0 (length values) && nat_le (length values) most_requests)) [
       | inl within ↦
-          let are : AreRequests line values = record { text = utf8; values = e; some = within.0; few = within.1 } in
+          let are : AreRequests line values = record { text = utf8; values = e; some = grind arith; few = grind arith } in
           let a = array-there s has values (each values are) in
           (a.0, several {values = values} are a.1)
       | inr outside ↦ refused (record {
         not_one = none;
-        not_several = λ others are. let same : others ≡ values = same_Some others values (sym are.values ∙ e) in outside (rw same at are.some, rw same at are.few);
+        not_several = λ others are. let same : others ≡ values = same_Some others values (sym are.values ∙ e) in let some = rw same at are.some in let few = rw same at are.few in grind arith;
       })
     ]
 
@@ -250,15 +200,14 @@ module _ (s : ServiceOf) (has : HasSources s.world) (line : List ℕ) where
     ]
 
   -- the name that it asks for, as a string
-  name-said : (name : Option (List ℕ)) → length line < 2 ^ 63 → Maybe (Fits (length line)) name → Maybe IsSaid name
-  name-said None short h = tt
-  name-said (Some n) short h = let le = h.short in said n (omega (arith, short, le)) h.utf8
+  name-said : length line < 2 ^ 63 → (name : Option (List ℕ)) → Maybe (Fits (length line)) name → Maybe IsSaid name
+  name-said short name h = maybe-weaker (Fits (length line)) IsSaid name (λ n fits. said-fitting short fits) h
 
-  names-said : (values : List (Option RequestOf)) → length line < 2 ^ 63 → Each (Maybe (RequestFits (length line))) values → Each (Maybe (ValueSaid s has)) values
-  names-said [] short h = tt
-  names-said (None ∷ values) short h = (tt, names-said values short h.1)
-  names-said (Some r ∷ values) short h = (name-said r.operation_name short h.0, names-said values short h.1)
+  names-said : length line < 2 ^ 63 → (values : List (Option RequestOf)) → Each (Maybe (RequestFits (length line))) values → Each (Maybe (ValueSaid s has)) values
+  names-said short [] h = tt
+  names-said short (None ∷ values) h = (tt, names-said short values h.1)
+  names-said short (Some r ∷ values) h = (name-said short r.operation_name h.0, names-said short values h.1)
 
   pub line-there : length line < 2 ^ 63 → (text : List ℕ) × IsAnswer s line text
-  line-there short = line-answered (λ r is. name-said r.operation_name short (request-fits (length line) line r (omega arith) is))
-      (λ values are. names-said values short (requests-fit (length line) line values (omega arith) are))
+  line-there short = line-answered (λ r is. name-said short r.operation_name (request-fits (length line) line r (omega arith) is))
+      (λ values are. names-said short values (requests-fit (length line) line values (omega arith) are))

@@ -1,9 +1,10 @@
 -- The loaders of a world, one more at a time.
-use Rattle.std.proofs.Common.{◌≡◌, ◌<◌, ◌≤◌, ◌+◌, ℕ, zero, suc, List, [], ◌∷◌, ◌++◌, All, map, length, take, get_or, Option, refl, sym, ap, ◌∙◌, add-one, arith}
+use Rattle.std.proofs.Common.{◌≡◌, ◌<◌, ◌≤◌, ◌+◌, ℕ, zero, suc, List, [], ◌∷◌, ◌++◌, All, map, length, take, get_or, Option, refl, sym, ap, subst, ◌∙◌, add-one, arith}
 use Rattle.std.proofs.lemmas.List.{length-map, get_or-map, take_all, map-append}
 use Rattle.std.proofs.lemmas.List.Elements.{All-nil, All-cons}
 use Rattle.csv_source.specs.Tables.{SourceOf}
 use Rattle.gq_bindings.specs.Tree as bindings
+use Rattle.load_memory.proofs.ReplyPairs.{All-of_map}
 use Rattle.load_queue.specs.Loaders.{LoaderOf, as_made}
 use Rattle.load_rounds.specs.Sessions.{SessionOf}
 use Rattle.world.specs.Worlds.{WorldOf}
@@ -19,10 +20,16 @@ module _ (limit : Option ℕ) where
       let below : n < length lines = omega arith in
       ap (λ ls. loader_over 0 limit line.name source ∷ ls) (take-over lines sources n d e (cc same) below)
 
-  pub quiet-over : (lines : List bindings.LoaderOf) (sources : List SourceOf) → All (λ (l : LoaderOf SourceOf). l.log ≡ []) (loaders_over limit lines sources)
-  quiet-over [] sources = All-nil (λ (l : LoaderOf SourceOf). l.log ≡ [])
-  quiet-over (line ∷ lines) [] = All-nil (λ (l : LoaderOf SourceOf). l.log ≡ [])
-  quiet-over (line ∷ lines) (source ∷ sources) = All-cons (λ (l : LoaderOf SourceOf). l.log ≡ []) (loader_over 0 limit line.name source) (loaders_over limit lines sources) refl (quiet-over lines sources)
+  -- what holds of each loader over its source
+  pub over-all : (P : LoaderOf SourceOf → Type 0) → ((name : List ℕ) (source : SourceOf) → P (loader_over 0 limit name source)) → (lines : List bindings.LoaderOf) (sources : List SourceOf) → All P (loaders_over limit lines sources)
+  over-all P h (line ∷ lines) (source ∷ sources) = All-cons P (loader_over 0 limit line.name source) (loaders_over limit lines sources) (h line.name source) (over-all P h lines sources)
+  over-all P h lines sources = All-nil P
+
+  -- those that are these, whichever they are, have asked nothing
+  pub quiet-over : (lines : List bindings.LoaderOf) (sources : List SourceOf) (ls : List (LoaderOf SourceOf)) → map whichever ls ≡ loaders_over limit lines sources → All (λ (l : LoaderOf SourceOf). l.log ≡ []) ls
+  quiet-over lines sources ls is =
+      let P : LoaderOf SourceOf → Type 0 = λ l. l.log ≡ [] in
+      All-of_map whichever P ls (subst (λ xs. All P xs) (sym is) (over-all P (λ name source. refl) lines sources))
 
   pub length-over : (lines : List bindings.LoaderOf) (sources : List SourceOf) → length sources ≡ length lines → length (loaders_over limit lines sources) ≡ length lines
   length-over [] sources e = refl

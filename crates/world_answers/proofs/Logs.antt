@@ -72,28 +72,24 @@ module _ (item : ℕ → KeyOf → ItemOf) where
 
     made : (many : ℕ) (M : Memory) → Made M many
     made zero M = record { rounds = []; end = M; are = λ loader key. refl; enough = inr refl }
-    made (suc many) M = go (none-or (front (modes_of rules) p M)) (made many (after_round rules M (replies-to (round_orders rules (front (modes_of rules) p M)))))
-      where
-        go : (front (modes_of rules) p M ≡ []) ⊎ (front (modes_of rules) p M ≢ []) → Made (after_round rules M (replies-to (round_orders rules (front (modes_of rules) p M)))) many → Made M (suc many)
-        go (inl none) rest = record { rounds = []; end = M; are = λ loader key. refl; enough = inl none }
-        go (inr some) rest = record {
-          rounds = replies-to (round_orders rules (front (modes_of rules) p M)) ∷ rest.rounds;
-          end = rest.end;
-          are = (some, replies-there (round_orders rules (front (modes_of rules) p M)), rest.are);
-          enough = elim rest.enough [ inl e ↦ inl e | inr e ↦ inr (ap suc e) ];
-        }
+    made (suc many) M =
+        let replies = replies-to (round_orders rules (front (modes_of rules) p M)) in
+        let rest = made many (after_round rules M replies) in
+        elim (none-or (front (modes_of rules) p M)) [
+          | inl none ↦ record { rounds = []; end = M; are = λ loader key. refl; enough = inl none }
+          | inr some ↦ record {
+            rounds = replies ∷ rest.rounds;
+            end = rest.end;
+            are = (some, replies-there (round_orders rules (front (modes_of rules) p M)), rest.are);
+            enough = elim rest.enough [ inl e ↦ inl e | inr e ↦ inr (ap suc e) ];
+          }
+        ]
 
     pub log-there : (M : Memory) → HoldsItems (modes_of rules) item M → AreLimited rules → HasLoaders (length rules) p → (rounds : List (List ReplyOf)) × (end : Memory) × IsLawful (key_by_key item) rules p M rounds end
-    log-there M held limited loaders = go (made (suc (chain p (direct item))) M)
-      where
-        go : Made M (suc (chain p (direct item))) → (rounds : List (List ReplyOf)) × (end : Memory) × IsLawful (key_by_key item) rules p M rounds end
-        go m = (m.rounds, m.end, (m.are, enough m.enough))
-          where
-            enough : (front (modes_of rules) p m.end ≡ []) ⊎ (length m.rounds ≡ suc (chain p (direct item))) → front (modes_of rules) p m.end ≡ []
-            enough (inl e) = e
-            enough (inr e) =
-                let at : HoldsItems (modes_of rules) item m.end = rounds-held item rules p alike M m.rounds m.end held m.are in
-                let more : AnswersMore (read (modes_of rules) m.end) (direct item) = λ load o f. ap (λ x. Some x) (sym (at load.loader load.key o f)) in
-                let few : length m.rounds ≤ chain p (read (modes_of rules) m.end) = rounds-chain (key_by_key item) rules p M m.rounds m.end limited loaders m.are in
-                let long = chain-more p (read (modes_of rules) m.end) (direct item) more in
-                absurd (omega (arith, e, few, long))
+    log-there M held limited loaders =
+        let m = made (suc (chain p (direct item))) M in
+        let at : HoldsItems (modes_of rules) item m.end = rounds-held item rules p alike M m.rounds m.end held m.are in
+        let more : AnswersMore (read (modes_of rules) m.end) (direct item) = λ load o f. ap (λ x. Some x) (sym (at load.loader load.key o f)) in
+        let few : length m.rounds ≤ chain p (read (modes_of rules) m.end) = rounds-chain (key_by_key item) rules p M m.rounds m.end limited loaders m.are in
+        let long = chain-more p (read (modes_of rules) m.end) (direct item) more in
+        (m.rounds, m.end, (m.are, elim m.enough [ inl e ↦ e | inr e ↦ absurd (omega (arith, e, few, long)) ]))

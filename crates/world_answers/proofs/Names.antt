@@ -1,6 +1,5 @@
--- The names of a document are those of its tokens: ASCII, and short.
-use Rattle.std.proofs.Common.{ℕ, ◌≤◌, Bool, List, Option, length}
-use Rattle.std.specs.Str.{IsAscii}
+-- The names of a document are those of its tokens: UTF-8, and short.
+use Rattle.std.proofs.Common.{ℕ, Bool, List, Option}
 use Rattle.text_place.specs.declared.place.Place.{Place}
 use Rattle.gq_parser.specs.declared.value.Constness.{Constness}
 use Rattle.gq_parser.specs.Word.{Token, at, Name}
@@ -14,11 +13,11 @@ use Rattle.gq_parser.specs.Grammar.{IsSelection, field, spread, inline, IsOption
 use Rattle.gq_parser.specs.Grammar.{IsDefault, no_default, default, IsVariable, variable_definition, AreVariables, no_more_variables, next_variable, AreOptionalVariables, no_variables, variables}
 use Rattle.gq_parser.specs.Grammar.{IsOptionalName, no_name, a_name, IsOperation, shorthand, operation, IsFragment, fragment, AreDefinitions, no_more_definitions, next_operation, next_fragment, IsDocument}
 use Rattle.plan_laws.proofs.Each.{Each, Maybe}
+use Rattle.world_answers.proofs.Strings.{Fits}
 
--- a name that a text has: ASCII, and no longer than a text
-pub record IsWritten (n : List ℕ) : Type 0 where
-  pub ascii : IsAscii n
-  pub short : length n ≤ most_bytes
+-- a name that a text has
+abbrev pub IsWritten : List ℕ → Type 0
+IsWritten n = Fits most_bytes n
 
 -- ---- names of tokens and of trees
 

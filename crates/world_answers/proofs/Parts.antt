@@ -1,7 +1,5 @@
 -- The names of a document's parts are written in its text, and those of a schema are strings.
-use Rattle.std.proofs.Common.{refl, ℕ, ◌+◌, Bool, cond, ◌||◌, codes, List, [], ◌∷◌, ◌++◌, map, Option, Some, None}
-use Rattle.std.specs.List.{filter_map, flat_map}
-use Rattle.std.specs.Prelude.{bytes_eq}
+use Rattle.std.proofs.Common.{refl, ℕ, ◌+◌, Bool, cond, codes, List, [], ◌∷◌, Option, Some, None}
 use Rattle.std.specs.Option.{option_map_or}
 use Rattle.std.proofs.lemmas.Bool.{cond_both}
 use Rattle.gq_parser.specs.Tree as tree
@@ -13,17 +11,16 @@ use Rattle.schema_syntax.specs.declared.tree.Definition.TheVariants as rust-defi
 use Rattle.schema_syntax.specs.declared.tree.FieldDefinition as rust-field
 use Rattle.schema_syntax.specs.declared.tree.ArgumentDefinition as rust-argument
 use Rattle.gq_schema.specs.Schemas.{condition_argument}
-use Rattle.gq_schema.specs.Types.{tree_of, own_fields, fields_in, is_field, type_in, defines}
+use Rattle.gq_schema.specs.Types.{tree_of, own_fields}
 use Rattle.rules_parts.specs.declared.part.Owner.{Owner}
 use Rattle.rules_parts.specs.declared.part.Owner.TheVariants as owner
 use Rattle.rules_parts.specs.declared.part.DirectiveLocation.{DirectiveLocation}
-use Rattle.rules_parts.specs.declared.part.DirectiveLocation.TheVariants as location
 use Rattle.rules_parts.specs.Pieces.{SelectionPart, FieldPart, SpreadPart, InlinePart, VariablePart, DirectiveList, ArgumentList, ArgumentPart, Location, VariableUse}
 use Rattle.rules_parts.specs.Parts.{PartsOf}
 use Rattle.rules_parts.specs.Parents.{known_field, inside_operation, inside_field, inside_condition, inside_inline}
 use Rattle.rules_parts.specs.Selections.{selections_in, selections_among, selections_from, selections_below, operation_selections, fragment_selections, document_selections}
-use Rattle.rules_parts.specs.Uses.{uses_in, uses_among, uses_within, argument_uses, item_location}
-use Rattle.rules_parts.specs.Listing.{field_from, field_part, spread_from, spread_part, inline_from, inline_part, fields_in as all_fields, operation_variables, variables_in, directives_at, variable_directives, operation_directives, fragment_directives, directives_from, selection_directives, directives_in, field_arguments, arguments_with, directive_arguments, argument_with, listed_arguments, argument_lists_in, arguments_in, uses_from, parts_of}
+use Rattle.rules_parts.specs.Uses.{uses_in, uses_among, uses_within, item_location}
+use Rattle.rules_parts.specs.Listing.{field_from, spread_from, inline_from, operation_variables, directives_at, operation_directives, fragment_directives, directives_from, parts_of}
 use Rattle.plan_laws.proofs.Each.{Each, Maybe, each-append, each-find, each-map, each-filter_map, each-flat_map, maybe-map}
 use Rattle.world_answers.proofs.Names.{IsWritten, ValueNames, ValuesNames, MembersNames, ArgumentNames, DirectiveNames, ConditionNames, SelectionNames, BelowNames, SetNames, SelectionsNames, VariableNames, OperationNames, FragmentNames, DocumentNames}
 use Rattle.world_answers.proofs.Strings.{IsSaid, said-word}
@@ -100,7 +97,7 @@ module _ (defs : List Definition) (of_schema : Each DefinitionSaid defs) where
 
   field-said : (parent : Option (List ℕ)) (name : List ℕ) → Maybe FieldSaid (known_field defs parent name)
   field-said None name = tt
-  field-said (Some ty) name = each-find FieldSaid (is_field name) (fields_in defs ty) (type-said (type_in defs ty) (each-find DefinitionSaid (defines ty) defs of_schema))
+  field-said (Some ty) name = each-find FieldSaid _ _ (type-said _ (each-find DefinitionSaid _ _ of_schema))
 
   mutual
     in-set : (o : Owner) (parent : Option (List ℕ)) (s : SelectionSet) → SetNames s → Each PartNames (selections_in defs o parent s)
@@ -108,7 +105,7 @@ module _ (defs : List Definition) (of_schema : Each DefinitionSaid defs) where
 
     among : (o : Owner) (parent : Option (List ℕ)) (ss : Selections) → SelectionsNames ss → Each PartNames (selections_among defs o parent ss)
     among o parent tree.no_selection h = tt
-    among o parent (tree.and_selection s ss) h = each-append PartNames (selections_from defs o parent s) (selections_among defs o parent ss) (from o parent s h.0) (among o parent ss h.1)
+    among o parent (tree.and_selection s ss) h = each-append PartNames _ _ (from o parent s h.0) (among o parent ss h.1)
 
     from : (o : Owner) (parent : Option (List ℕ)) (s : Selection) → SelectionNames s → Each PartNames (selections_from defs o parent s)
     from o parent (tree.Field p alias name as' ds b) h = ((h, field-said parent name), inside o (inside_field defs (known_field defs parent name)) b h.4)
@@ -127,9 +124,6 @@ module _ (defs : List Definition) (of_schema : Each DefinitionSaid defs) where
   of-fragments i [] h = tt
   of-fragments i (f ∷ fs) h = each-append PartNames _ _ (in-set (owner.Fragment i) (inside_condition defs f.condition) f.selection_set h.0.3) (of-fragments (i + 1) fs h.1)
 
-  pub selections-named : (d : Document) → DocumentNames d → Each PartNames (document_selections defs d)
-  selections-named d h = each-append PartNames _ _ (of-operations 0 d.operations h.operations) (of-fragments 0 d.fragments h.fragments)
-
 field-named : (part : SelectionPart) (s : Selection) → SelectionNames s → Maybe FieldSaid part.definition → Maybe FieldNames (field_from part s)
 field-named part (tree.Field p alias name as' ds b) h said = record { alias = h.0; name = h.1; arguments = h.2; directives = h.3; definition = said }
 field-named part s h said = tt
@@ -142,21 +136,9 @@ inline-named : (part : SelectionPart) (s : Selection) → SelectionNames s → M
 inline-named part (tree.Inline p c ds s) h = h.0
 inline-named part s h = tt
 
-pub fields-named : (parts : List SelectionPart) → Each PartNames parts → Each FieldNames (all_fields parts)
-fields-named parts h = each-filter_map PartNames FieldNames field_part parts (λ part p. field-named part part.selection p.0 p.1) h
-
-pub spreads-named : (fs : List Fragment) (parts : List SelectionPart) → Each PartNames parts → Each SpreadNames (filter_map (spread_part fs) parts)
-spreads-named fs parts h = each-filter_map PartNames SpreadNames (spread_part fs) parts (λ part p. spread-named fs part part.selection p.0) h
-
-pub inlines-named : (parts : List SelectionPart) → Each PartNames parts → Each InlineNames (filter_map inline_part parts)
-inlines-named parts h = each-filter_map PartNames InlineNames inline_part parts (λ part p. inline-named part part.selection p.0) h
-
 variables-among : (i : ℕ) (os : List Operation) → Each OperationNames os → Each VariablePartNames (operation_variables i os)
 variables-among i [] h = tt
-variables-among i (o ∷ os) h = each-append VariablePartNames _ _ (each-map VariableNames VariablePartNames (λ (v : VariableDefinition). record { operation = i; definition = v }) o.variables (λ v p. p) h.0.1) (variables-among (i + 1) os h.1)
-
-pub variables-named : (d : Document) → DocumentNames d → Each VariablePartNames (variables_in d)
-variables-named d h = variables-among 0 d.operations h.operations
+variables-among i (o ∷ os) h = each-append VariablePartNames _ _ (each-map VariableNames VariablePartNames _ _ (λ v p. p) h.0.1) (variables-among (i + 1) os h.1)
 
 at-named : (o : Owner) (at : DirectiveLocation) (ds : List Directive) → Each DirectiveNames ds → Each DirectiveListNames (directives_at o at ds)
 at-named o at [] h = tt
@@ -164,44 +146,19 @@ at-named o at (d ∷ ds) h = (h, tt)
 
 operations-directed : (i : ℕ) (os : List Operation) → Each OperationNames os → Each DirectiveListNames (operation_directives i os)
 operations-directed i [] h = tt
-operations-directed i (o ∷ os) h = each-append DirectiveListNames _ _ (at-named (owner.Operation i) location.Operation o.directives h.0.2) (operations-directed (i + 1) os h.1)
+operations-directed i (o ∷ os) h = each-append DirectiveListNames _ _ (at-named _ _ _ h.0.2) (operations-directed (i + 1) os h.1)
 
 fragments-directed : (i : ℕ) (fs : List Fragment) → Each FragmentNames fs → Each DirectiveListNames (fragment_directives i fs)
 fragments-directed i [] h = tt
-fragments-directed i (f ∷ fs) h = each-append DirectiveListNames _ _ (at-named (owner.Fragment i) location.FragmentDefinition f.directives h.0.2) (fragments-directed (i + 1) fs h.1)
+fragments-directed i (f ∷ fs) h = each-append DirectiveListNames _ _ (at-named _ _ _ h.0.2) (fragments-directed (i + 1) fs h.1)
 
 selection-directed : (o : Owner) (s : Selection) → SelectionNames s → Each DirectiveListNames (directives_from o s)
-selection-directed o (tree.Field p alias name as' ds b) h = at-named o location.Field ds h.3
-selection-directed o (tree.Spread p name ds) h = at-named o location.FragmentSpread ds h.1
-selection-directed o (tree.Inline p c ds s) h = at-named o location.InlineFragment ds h.1
-
-pub directives-named : (d : Document) (parts : List SelectionPart) → DocumentNames d → Each PartNames parts → Each DirectiveListNames (directives_in d parts)
-directives-named d parts h ps =
-    let variables = each-flat_map VariablePartNames DirectiveListNames variable_directives (variables_in d) (λ v p. at-named (owner.Operation v.operation) location.VariableDefinition v.definition.directives p.1) (variables-named d h) in
-    let operations = each-append DirectiveListNames (flat_map variable_directives (variables_in d)) (operation_directives 0 d.operations) variables (operations-directed 0 d.operations h.operations) in
-    let fragments = each-append DirectiveListNames (flat_map variable_directives (variables_in d) ++ operation_directives 0 d.operations) (fragment_directives 0 d.fragments) operations (fragments-directed 0 d.fragments h.fragments) in
-    each-append DirectiveListNames ((flat_map variable_directives (variables_in d) ++ operation_directives 0 d.operations) ++ fragment_directives 0 d.fragments) (flat_map selection_directives parts) fragments
-    (each-flat_map PartNames DirectiveListNames selection_directives parts (λ part p. selection-directed part.owner part.selection p.0) ps)
-
-field-arguments : (f : FieldPart) → FieldNames f → ArgumentListNames (field_arguments f)
-field-arguments f h = record { arguments = h.arguments; definitions = maybe-map FieldSaid (Each ArgumentSaid) (λ (d : Field). d.arguments) f.definition (λ d p. p) h.definition }
+selection-directed o (tree.Field p alias name as' ds b) h = at-named _ _ _ h.3
+selection-directed o (tree.Spread p name ds) h = at-named _ _ _ h.1
+selection-directed o (tree.Inline p c ds s) h = at-named _ _ _ h.1
 
 condition-said : (b : Bool) → Maybe (Each ArgumentSaid) (cond b (Some (condition_argument ∷ [])) None)
 condition-said b = cond_both b _ _ (Maybe (Each ArgumentSaid)) (λ _. (said-word (codes "if") refl refl, tt)) (λ _. tt)
-
-directive-named : (o : Owner) (d : Directive) → DirectiveNames d → ArgumentListNames (arguments_with o d)
-directive-named o d h = record { arguments = h.1; definitions = condition-said (bytes_eq d.name (codes "skip") || bytes_eq d.name (codes "include")) }
-
-pub lists-named : (fields : List FieldPart) (directives : List DirectiveList) → Each FieldNames fields → Each DirectiveListNames directives → Each ArgumentListNames (argument_lists_in fields directives)
-lists-named fields directives fs ds =
-    each-append ArgumentListNames (map field_arguments fields) (flat_map directive_arguments directives)
-    (each-map FieldNames ArgumentListNames field_arguments fields field-arguments fs)
-    (each-flat_map DirectiveListNames ArgumentListNames directive_arguments directives (λ l p. each-map DirectiveNames ArgumentListNames (arguments_with l.owner) l.directives (directive-named l.owner) p) ds)
-
-pub arguments-named : (lists : List ArgumentList) → Each ArgumentListNames lists → Each ArgumentPartNames (arguments_in lists)
-arguments-named lists h =
-    each-flat_map ArgumentListNames ArgumentPartNames listed_arguments lists
-    (λ l p. each-map ArgumentNames ArgumentPartNames (argument_with l.owner l.definitions) l.arguments (λ a q. record { name = q.0; value = q.1 }) p.arguments) h
 
 mutual
   uses-in : (o : Owner) (at : Option Location) (v : Value) → ValueNames v → Each UseNames (uses_in o at v)
@@ -212,14 +169,11 @@ mutual
 
   uses-among : (o : Owner) (at : Option Location) (vs : Values) → ValuesNames vs → Each UseNames (uses_among o at vs)
   uses-among o at tree.no_value h = tt
-  uses-among o at (tree.and_value v vs) h = each-append UseNames (uses_in o at v) (uses_among o at vs) (uses-in o at v h.0) (uses-among o at vs h.1)
+  uses-among o at (tree.and_value v vs) h = each-append UseNames _ _ (uses-in o at v h.0) (uses-among o at vs h.1)
 
   uses-within : (o : Owner) (ms : Members) → MembersNames ms → Each UseNames (uses_within o ms)
   uses-within o tree.no_member h = tt
-  uses-within o (tree.and_member p n v ms) h = each-append UseNames (uses_in o None v) (uses_within o ms) (uses-in o None v h.0) (uses-within o ms h.1)
-
-pub uses-named : (arguments : List ArgumentPart) → Each ArgumentPartNames arguments → Each UseNames (uses_from arguments)
-uses-named arguments h = each-flat_map ArgumentPartNames UseNames argument_uses arguments (λ a p. uses-in a.owner _ a.value p.value) h
+  uses-within o (tree.and_member p n v ms) h = each-append UseNames _ _ (uses-in o None v h.0) (uses-within o ms h.1)
 
 -- ---- all of them
 
@@ -236,20 +190,28 @@ pub record PartsNames (p : PartsOf) : Type 0 where
 
 pub parts-named : (defs : List Definition) (d : Document) → Each DefinitionSaid defs → DocumentNames d → PartsNames (parts_of defs d)
 parts-named defs d of_schema h =
-    let parts = document_selections defs d in
-    let ps = selections-named defs of_schema d h in
-    let fields = fields-named parts ps in
-    let directives = directives-named d parts h ps in
-    let lists = lists-named (all_fields parts) (directives_in d parts) fields directives in
-    let arguments = arguments-named (argument_lists_in (all_fields parts) (directives_in d parts)) lists in
+    let p = parts_of defs d in
+    let parts : Each PartNames (document_selections defs d) = each-append PartNames _ _ (of-operations defs of_schema 0 _ h.operations) (of-fragments defs of_schema 0 _ h.fragments) in
+    let fields : Each FieldNames p.fields = each-filter_map PartNames FieldNames _ _ (λ part q. field-named part part.selection q.0 q.1) parts in
+    let variables : Each VariablePartNames p.variables = variables-among 0 _ h.operations in
+    let directives : Each DirectiveListNames p.directive_lists =
+    each-append DirectiveListNames _ _ (each-append DirectiveListNames _ _
+    (each-append DirectiveListNames _ _ (each-flat_map VariablePartNames DirectiveListNames _ _ (λ v q. at-named _ _ _ q.1) variables) (operations-directed 0 _ h.operations)) (fragments-directed 0 _ h.fragments))
+    (each-flat_map PartNames DirectiveListNames _ _ (λ part q. selection-directed part.owner part.selection q.0) parts) in
+    let lists : Each ArgumentListNames p.argument_lists =
+    each-append ArgumentListNames _ _
+    (each-map FieldNames ArgumentListNames _ _ (λ f q. record { arguments = q.arguments; definitions = maybe-map FieldSaid (Each ArgumentSaid) _ _ (λ d r. r) q.definition }) fields)
+    (each-flat_map DirectiveListNames ArgumentListNames _ _ (λ l q. each-map DirectiveNames ArgumentListNames _ _ (λ d r. record { arguments = r.1; definitions = condition-said _ }) q) directives) in
+    let arguments : Each ArgumentPartNames p.arguments =
+    each-flat_map ArgumentListNames ArgumentPartNames _ _ (λ l q. each-map ArgumentNames ArgumentPartNames _ _ (λ a r. record { name = r.0; value = r.1 }) q.arguments) lists in
     record {
       document = h;
       fields = fields;
-      spreads = spreads-named d.fragments parts ps;
-      inlines = inlines-named parts ps;
-      variables = variables-named d h;
+      spreads = each-filter_map PartNames SpreadNames _ _ (λ part q. spread-named d.fragments part part.selection q.0) parts;
+      inlines = each-filter_map PartNames InlineNames _ _ (λ part q. inline-named part part.selection q.0) parts;
+      variables = variables;
       directive_lists = directives;
       argument_lists = lists;
       arguments = arguments;
-      uses = uses-named (arguments_in (argument_lists_in (all_fields parts) (directives_in d parts))) arguments;
+      uses = each-flat_map ArgumentPartNames UseNames _ _ (λ a q. uses-in a.owner _ a.value q.value) arguments;
     }

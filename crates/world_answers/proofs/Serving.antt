@@ -1,10 +1,12 @@
 -- Lines that are served in the session of a world's client have the text of direct execution.
-use Rattle.std.proofs.Common.{◌≡◌, ◌∙◌, ◌⊎◌, ℕ, List, [], ◌∷◌, Option, map, inl, inr, sym, ap, subst}
+use Rattle.std.proofs.Common.{◌≡◌, ◌∙◌, ◌⊎◌, ℕ, List, Option, map, inl, inr, sym, ap, subst}
 use Rattle.csv_source.specs.Tables.{SourceOf}
 use Rattle.load_queue.specs.Loaders.{as_made}
-use Rattle.plan_program.specs.PlanPrograms.{plan_program}
+use Rattle.load_memory.specs.Replies.{ReplyOf}
+use Rattle.execution.specs.Program.{Program}
+use Rattle.load_rounds.specs.Headline.{MakesRounds, StopsAnswering}
 use Rattle.load_rounds.specs.Sessions.{SessionOf, state_of, restarted}
-use Rattle.load_rounds.specs.SharedRounds.{RequestOf as ExecutedOf, ReportOf, together}
+use Rattle.load_rounds.specs.SharedRounds.{RequestOf as ExecutedOf, ReportOf}
 use Rattle.load_rounds.specs.declared.limits.Limits.{Limits}
 use Rattle.request_line.specs.Requests.{RequestOf}
 use Rattle.server_lines.specs.Answering.{at_memory}
@@ -15,7 +17,6 @@ use Rattle.server.specs.Answers as server
 use Rattle.server.specs.Arrays as server_arrays
 use Rattle.server.specs.Lines as server_lines
 use Rattle.server.specs.Overruns.{AreGiven, answered, overrun}
-use Rattle.server.specs.Plans.{requests_within}
 use Rattle.server.proofs.Loaders.{rounds-made, stops-made}
 use Rattle.world_answers.specs.Answers.{may_tell, IsGivenAlone, answered_alone, overrun_alone, AnswersRequest, faulty, planned}
 use Rattle.world_answers.specs.Arrays.{AnswersTogether, AnswersArray}
@@ -33,24 +34,25 @@ module _ (s : ServiceOf) (old new : SessionOf SourceOf) (over : IsOver s.world o
   same-over : new ≡ old → IsOver s.world (restarted new)
   same-over same = over-kept s.world old new over (ap (λ (x : SessionOf SourceOf). map as_made x.loaders) same)
 
-  -- ---- one request
+  made-over : (p : Program) (log : List (List ReplyOf)) → MakesRounds may_tell (state_of old) (state_of new) p log → IsOver s.world (restarted new)
+  made-over p log made = over-kept s.world old new over (rounds-made may_tell (state_of old) (state_of new) p log made)
 
-  request-direct : (r : RequestOf) (report : ReportOf) → server.AnswersRequest may_tell c r report new → AnswersRequest s r report.text
-  request-direct r report (server.refused {text = text} h e same) = faulty h.faulty (ap (λ (t : ReportOf). t.text) e ∙ h.report)
-  request-direct r report (server.planned {plan = plan} h a) =
-      planned h (answer-direct s (state_of new) plan report.text report.rounds (record { valid = a.valid; begun = old; over = over; given = answered_alone a.headline a.within }))
-  request-direct r report (server.overrun {plan = plan} {o = o} h valid a same) =
+  stop-over : (p : Program) → StopsAnswering may_tell (state_of old) (state_of new) p → IsOver s.world (restarted new)
+  stop-over p stops = over-kept s.world old new over (stops-made may_tell (state_of old) (state_of new) p stops)
+
+  -- ---- the text, and the session that is left
+
+  request-served : (r : RequestOf) (report : ReportOf) → server.AnswersRequest may_tell c r report new → AnswersRequest s r report.text × IsOver s.world (restarted new)
+  request-served r report (server.refused {text = text} h e same) = (faulty h.faulty (ap (λ (t : ReportOf). t.text) e ∙ h.report), same-over same)
+  request-served r report (server.planned {plan = plan} h a) =
+      (planned h (answer-direct s (state_of new) plan report.text report.rounds (record { valid = a.valid; begun = old; over = over; given = answered_alone a.headline a.within })), made-over _ _ a.headline.made)
+  request-served r report (server.overrun {plan = plan} {o = o} h valid a same) =
       let given : IsGivenAlone s plan (state_of old) (state_of new) report.text report.rounds = overrun_alone {o = o} a (ap (λ (t : ReportOf). t.text) same) (ap (λ (t : ReportOf). t.rounds) same) in
-      planned h (answer-direct s (state_of new) plan report.text report.rounds (record { valid = valid; begun = old; over = over; given = given }))
+      (planned h (answer-direct s (state_of new) plan report.text report.rounds (record { valid = valid; begun = old; over = over; given = given })), made-over _ _ a.made)
 
-  request-over : (r : RequestOf) (report : ReportOf) → server.AnswersRequest may_tell c r report new → IsOver s.world (restarted new)
-  request-over r report (server.refused h e same) = same-over same
-  request-over r report (server.planned {plan = plan} h a) =
-      over-kept s.world old new over (rounds-made may_tell (state_of old) (state_of new) (plan_program plan) a.headline.log a.headline.made)
-  request-over r report (server.overrun {plan = plan} h valid a same) =
-      over-kept s.world old new over (rounds-made may_tell (state_of old) (state_of new) (together (requests_within s.most (plan ∷ []))) a.log a.made)
-
-  -- ---- an array
+  given-over : (rs : List ExecutedOf) (reports : List ReportOf) → AreGiven may_tell (limits_in s) (state_of old) (state_of new) rs reports → IsOver s.world (restarted new)
+  given-over rs reports (answered h within) = made-over _ _ h.made
+  given-over rs reports (overrun h same) = made-over _ _ h.made
 
   array-direct : (values : List (Option RequestOf)) (report : ReportOf) → server_arrays.AnswersArray may_tell c values report new → AnswersArray s values report.text
   array-direct values report a =
@@ -64,40 +66,19 @@ module _ (s : ServiceOf) (old new : SessionOf SourceOf) (over : IsOver s.world o
         together = shared;
       }
 
-  given-over : (rs : List ExecutedOf) (reports : List ReportOf) → AreGiven may_tell (limits_in s) (state_of old) (state_of new) rs reports → IsOver s.world (restarted new)
-  given-over rs reports (answered h within) = over-kept s.world old new over (rounds-made may_tell (state_of old) (state_of new) (together rs) h.log h.made)
-  given-over rs reports (overrun h same) = over-kept s.world old new over (rounds-made may_tell (state_of old) (state_of new) (together rs) h.log h.made)
-
-  array-over : (values : List (Option RequestOf)) (report : ReportOf) → server_arrays.AnswersArray may_tell c values report new → IsOver s.world (restarted new)
-  array-over values report a = given-over (requests_within s.most (server_arrays.plans_in a.places)) (server_arrays.reports_in a.places) a.given
-
-  -- ---- a text
-
-  text-direct : (line : List ℕ) (report : ReportOf) → server_lines.AnswersText may_tell c line report new → IsAnswer s line report.text
-  text-direct line report (server_lines.no_request h e same) = no_request h (ap (λ (t : ReportOf). t.text) e)
-  text-direct line report (server_lines.request {r = r} h a) = request h (request-direct r report a)
-  text-direct line report (server_lines.several {values = values} h a) = several h (array-direct values report a)
-
-  text-over : (line : List ℕ) (report : ReportOf) → server_lines.AnswersText may_tell c line report new → IsOver s.world (restarted new)
-  text-over line report (server_lines.no_request h e same) = same-over same
-  text-over line report (server_lines.request {r = r} h a) = request-over r report a
-  text-over line report (server_lines.several {values = values} h a) = array-over values report a
+  text-served : (line : List ℕ) (report : ReportOf) → server_lines.AnswersText may_tell c line report new → IsAnswer s line report.text × IsOver s.world (restarted new)
+  text-served line report (server_lines.no_request h e same) = (no_request h (ap (λ (t : ReportOf). t.text) e), same-over same)
+  text-served line report (server_lines.request {r = r} h a) = let served = request-served r report a in (request h served.0, served.1)
+  text-served line report (server_lines.several {values = values} h a) = (several h (array-direct values report a), given-over _ _ a.given)
 
   -- ---- where memory ran out
 
-  stops-request : (r : RequestOf) → server.StopsRequest may_tell c r new → IsOver s.world (restarted new)
-  stops-request r (server.unplanned same) = same-over same
-  stops-request r (server.stopped {plan = plan} h a) = over-kept s.world old new over (stops-made may_tell (state_of old) (state_of new) (plan_program plan) a)
-
-  stops-array : (values : List (Option RequestOf)) → server_arrays.StopsArray may_tell c values new → IsOver s.world (restarted new)
-  stops-array values (server_arrays.unplanned same) = same-over same
-  stops-array values (server_arrays.stopped refusals plans h a) =
-      over-kept s.world old new over (stops-made may_tell (state_of old) (state_of new) (together (requests_within s.most plans)) a)
-
   stops-text : (line : List ℕ) → server_lines.StopsText may_tell c line new → IsOver s.world (restarted new)
   stops-text line (server_lines.unread same) = same-over same
-  stops-text line (server_lines.request {r = r} h a) = stops-request r a
-  stops-text line (server_lines.several {values = values} h a) = stops-array values a
+  stops-text line (server_lines.request h (server.unplanned same)) = same-over same
+  stops-text line (server_lines.request h (server.stopped k stops)) = stop-over _ stops
+  stops-text line (server_lines.several h (server_arrays.unplanned same)) = same-over same
+  stops-text line (server_lines.several h (server_arrays.stopped refusals plans k stops)) = stop-over _ stops
 
 -- ---- a client
 
@@ -112,15 +93,15 @@ module _ (s : ServiceOf) where
   later-is : (c later : ClientOf SourceOf) → IsClientOf s c → IsSameClient c later → IsOver s.world (restarted later.session) → IsClientOf s later
   later-is c later is same over = record { server = same.server ∙ is.server; most = same.most ∙ is.most; limits = same.limits ∙ is.limits; over = over }
 
+  line-served : (c : ClientOf SourceOf) (line : List ℕ) (report : ReportOf) (later : ClientOf SourceOf) → IsClientOf s c → server_lines.ServesLine may_tell c line report later → IsAnswer s line report.text × IsOver s.world (restarted later.session)
+  line-served c line report later is h =
+      text-served s (restarted c.session) later.session is.over line report (subst (λ (x : ClientOf SourceOf). server_lines.AnswersText may_tell x line report later.session) (client-is c is) h.answers)
+
   pub line-direct : (c : ClientOf SourceOf) (line : List ℕ) (report : ReportOf) (later : ClientOf SourceOf) → IsClientOf s c → server_lines.ServesLine may_tell c line report later → AnswersLine s c line report later
-  line-direct c line report later is h = record {
-    served = h;
-    direct = text-direct s (restarted c.session) later.session is.over line report (subst (λ (x : ClientOf SourceOf). server_lines.AnswersText may_tell x line report later.session) (client-is c is) h.answers);
-  }
+  line-direct c line report later is h = record { served = h; direct = (line-served c line report later is h).0 }
 
   pub line-client : (c : ClientOf SourceOf) (line : List ℕ) (report : ReportOf) (later : ClientOf SourceOf) → IsClientOf s c → server_lines.ServesLine may_tell c line report later → IsClientOf s later
-  line-client c line report later is h =
-      later-is c later is h.same (text-over s (restarted c.session) later.session is.over line report (subst (λ (x : ClientOf SourceOf). server_lines.AnswersText may_tell x line report later.session) (client-is c is) h.answers))
+  line-client c line report later is h = later-is c later is h.same (line-served c line report later is h).1
 
   stops-over : (c : ClientOf SourceOf) (line : List ℕ) (later : ClientOf SourceOf) → IsClientOf s c → (later.session ≡ c.session) ⊎ server_lines.StopsText may_tell (begun c) line later.session → IsOver s.world (restarted later.session)
   stops-over c line later is (inl same) = subst (λ x. IsOver s.world (restarted x)) (sym same) is.over

@@ -1,6 +1,6 @@
 -- Plans are answered together over a session of their world that is new: rounds can be made until nothing is missing for any of them, or
 -- until they are too much work. So is a plan alone.
-use Rattle.std.proofs.Common.{◌≡◌, ◌+◌, ◌⊎◌, ◌≤◌, ◌∙◌, ℕ, zero, suc, List, [], ◌∷◌, All, map, length, inl, inr, sym, ap, subst, refl, arith}
+use Rattle.std.proofs.Common.{◌≡◌, ◌⊎◌, ◌≤◌, ◌∙◌, ℕ, zero, suc, List, [], ◌∷◌, All, map, length, inl, inr, sym, ap, subst, refl, arith}
 use Rattle.std.proofs.lemmas.List.Elements.{All-nil, All-cons, All-head, All-tail}
 use Rattle.load_memory.specs.Replies.{ReplyOf}
 use Rattle.csv_source.specs.Tables.{SourceOf}
@@ -37,13 +37,13 @@ use Rattle.world_answers.proofs.Restarting.{over-new}
 use Rattle.world_answers.proofs.Answered.{limited, over-loaders, Done, rounds-end, text_over, text-reported, plan-within}
 use Rattle.world_answers.proofs.Together.{answer-direct}
 
+one-most : (loads : List Load) → one_unless_empty loads ≤ 1
+one-most [] = omega arith
+one-most (l ∷ ls) = omega arith
+
 own-most : (rules : List RuleOf) (p : Program) (M : Memory) (log : List (List ReplyOf)) → own_rounds rules p M log ≤ length log
 own-most rules p M [] = omega arith
-own-most rules p M (r ∷ log) = go (front (modes_of rules) p M) (own-most rules p (after_round rules M r) log)
-  where
-    go : (loads : List Load) → own_rounds rules p (after_round rules M r) log ≤ length log → one_unless_empty loads + own_rounds rules p (after_round rules M r) log ≤ suc (length log)
-    go [] h = omega (arith, h)
-    go (l ∷ ls) h = omega (arith, h)
+own-most rules p M (r ∷ log) = omega (arith, one-most (front (modes_of rules) p M), own-most rules p (after_round rules M r) log)
 
 module _ (s : ServiceOf) (has : HasSources s.world) where
   abbrev w : WorldOf
@@ -85,8 +85,7 @@ module _ (s : ServiceOf) (has : HasSources s.world) where
     report_to plan = record { text = text_over text_of (plan_program plan) end.last; rounds = own_rounds (rules_of old) (plan_program plan) first log; loads = counted (count_read (plan_program plan) (read (session_modes old) end.last.memory)) }
 
     abbrev all_reports : List PlanOf → List ReportOf
-    all_reports [] = []
-    all_reports (p ∷ ps) = report_to p ∷ all_reports ps
+    all_reports plans = map report_to plans
 
     same : session_modes end.last ≡ session_modes old
     same = ap modes_of end.is.rules
@@ -167,9 +166,8 @@ module _ (s : ServiceOf) (has : HasSources s.world) where
 
 -- one report of one plan
 only-report : (reports : List ReportOf) → 1 ≡ length reports → (t : ReportOf) × (reports ≡ t ∷ [])
-only-report [] e = absurd (omega (arith, e))
 only-report (t ∷ []) e = (t, refl)
-only-report (t ∷ u ∷ us) e = absurd (omega (arith, e))
+only-report reports e = absurd (omega (arith, e))
 
 module _ (s : ServiceOf) (plan : PlanOf) where
   abbrev asked : RequestOf
@@ -182,7 +180,7 @@ module _ (s : ServiceOf) (plan : PlanOf) where
       let t : ReportOf = only.0 in
       let one : SharedHeadline may_tell begun after (asked ∷ []) (t ∷ []) = subst (λ (ts : List ReportOf). SharedHeadline may_tell begun after (asked ∷ []) ts) only.1 h in
       (t.text, t.rounds, answered_alone (headline-one may_tell begun after asked t one) (record { work = within.work; rounds = tt }))
-  given-alone begun after reports (overrun {o = o} h same) = (overrun_text o.excess, o.rounds, overrun_alone {o = o} h refl refl)
+  given-alone begun after reports (overrun {o = o} h _) = (overrun_text o.excess, o.rounds, overrun_alone {o = o} h refl refl)
 
   pub plan-answered : (has : HasSources s.world) → plan.bindings ≡ s.world.bindings → IsPlan plan → (text : List ℕ) × IsAnsweredAnew s plan text
   plan-answered has bound valid =

@@ -34,9 +34,8 @@ module _ (s : ServiceOf) where
 
   each-executed : (all : List PlanOf) → IsWithin s.work (direct_work s all) → (plans : List PlanOf) (reports : List ReportOf) → AreTexts (requests_within s.most plans) (direct (item_at s.world.sources)) reports → AllZip (λ (p : PlanOf) (t : ReportOf). IsDirectText s all p t.text) plans reports
   each-executed all within [] [] h = tt
-  each-executed all within [] (t ∷ ts) h = absurd h
-  each-executed all within (p ∷ ps) [] h = absurd h
   each-executed all within (p ∷ ps) (t ∷ ts) h = (executed within h.0, each-executed all within ps ts h.1)
+  each-executed all within plans reports h = absurd h
 
   each-refused : (all : List PlanOf) → IsMore s.work (direct_work s all) → (o : Overrun) → o.excess ≡ Work → (plans : List PlanOf) → AllZip (λ (p : PlanOf) (t : ReportOf). IsDirectText s all p t.text) plans (map (λ (r : RequestOf). overrun_report o) (requests_within s.most plans))
   each-refused all more o same [] = tt

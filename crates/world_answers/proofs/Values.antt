@@ -23,10 +23,9 @@ module _ (s : ServiceOf) where
   pub places-direct : (all : List PlanOf) (values : List (Option RequestOf)) (places : List PlaceOf) → AllZip (server.IsInPlace (server_in s)) values places
       → AllZip (λ (p : PlanOf) (t : ReportOf). IsDirectText s all p t.text) (plans_in places) (reports_in places) → AllZip (IsInPlace s all) values places
   places-direct all [] [] h d = tt
-  places-direct all [] (p ∷ ps) h d = absurd h
-  places-direct all (v ∷ vs) [] h d = absurd h
   places-direct all (v ∷ vs) (refused text ∷ ps) h d = (h.0, places-direct all vs ps h.1 d)
   places-direct all (v ∷ vs) (answered p t ∷ ps) h d = ((h.0, d.0), places-direct all vs ps h.1 d.1)
+  places-direct all values places h d = absurd h
 
   -- what the plans were given over a session of the world stands in their places
   pub array-answered : (values : List (Option RequestOf)) (refusals : List (Option (List ℕ))) (plans : List PlanOf) (reports : List ReportOf) (after : StateOf SourceOf) (text : List ℕ)

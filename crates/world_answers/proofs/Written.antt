@@ -1,17 +1,18 @@
--- A name in a text is short, and ASCII.
-use Rattle.std.proofs.Common.{◌≡◌, ℕ, ◌+◌, ◌-◌, ◌<◌, ◌≤◌, true, List, [], ◌∷◌, ◌++◌, length, drop, All, slice_range, refl, sym, ap, subst, ◌∙◌, arith}
+-- A name in a text is short, and UTF-8.
+use Rattle.std.proofs.Common.{◌≡◌, ℕ, ◌+◌, ◌-◌, ◌<◌, ◌≤◌, true, List, [], ◌∷◌, ◌++◌, length, drop, slice_range, refl, sym, ap, subst, ◌∙◌, arith}
 use Rattle.std.specs.List.{list_all}
-use Rattle.std.specs.Str.{IsAscii}
+use Rattle.std.specs.Str.{IsUtf8}
+use Rattle.std.proofs.lemmas.Str.{IsUtf8-from_ascii}
+use Rattle.std.proofs.lemmas.List.Sums.{AllPass-from_list_all}
 use Rattle.std.proofs.lemmas.Str.Ascii.{IsAscii-from_all}
-use Rattle.std.proofs.lemmas.Bool.{and_parts}
 use Rattle.std.proofs.lemmas.Bool.Decides.{nat_tests}
 use Rattle.std.proofs.lemmas.List.{take_at, drop_at, drop-drop, length-append, length-drop}
-use Rattle.std.proofs.lemmas.List.Elements.{All-nil, All-cons}
+use Rattle.std.proofs.lemmas.List.Elements.{All-weaker}
 use Rattle.gq_lexer.specs.declared.token.TokenKind.TheVariants as kind
 use Rattle.gq_lexer.specs.declared.token.Token as lexer
 use Rattle.gq_lexer.specs.declared.scan.ScannedKind.{ScannedKind}
 use Rattle.gq_lexer.specs.declared.scan.ScannedKind.TheVariants as shape
-use Rattle.gq_lexer.specs.Characters.{is_name_start, is_name_continue}
+use Rattle.gq_lexer.specs.Characters.{is_name_continue}
 use Rattle.gq_lexer.specs.Grammar.{IsPart, IsName}
 use Rattle.gq_lexer.specs.Tokens.{Part, Reads, tokens_from, token_of, AreTokens}
 use Rattle.gq_parser.specs.Word.{tokens_of}
@@ -20,21 +21,14 @@ use Rattle.gq_parser.specs.Tree.{Document}
 use Rattle.plan_laws.proofs.Each.{Each}
 use Rattle.world_answers.proofs.Names.{IsWritten, TokenNames, DocumentNames, document-names}
 
-start-small : (b : ℕ) → is_name_start b ≡ true → b < 128
-start-small b h = grind (arith, nat_tests)
-
 name-small : (b : ℕ) → is_name_continue b ≡ true → b < 128
 name-small b h = grind (arith, nat_tests)
 
-all-small : (bs : List ℕ) → list_all is_name_continue bs ≡ true → All (λ b. b < 128) bs
-all-small [] all = All-nil (λ b. b < 128)
-all-small (b ∷ bs) all =
-    let parts = and_parts (is_name_continue b) (list_all is_name_continue bs) all in
-    All-cons (λ c. c < 128) b bs (name-small b parts.0) (all-small bs parts.1)
-
-name-ascii : (bs : List ℕ) → IsName bs → IsAscii bs
-name-ascii [] h = absurd h
-name-ascii (b ∷ bs) h = IsAscii-from_all (b ∷ bs) (All-cons (λ c. c < 128) b bs (start-small b h.0) (all-small bs h.1))
+name-utf8 : (bs : List ℕ) → IsName bs → IsUtf8 bs
+name-utf8 [] h = absurd h
+name-utf8 (b ∷ bs) h =
+    let all : list_all is_name_continue (b ∷ bs) ≡ true = let start = h.0 in let rest = h.1 in grind arith in
+    IsUtf8-from_ascii (b ∷ bs) (IsAscii-from_all (b ∷ bs) (All-weaker _ (λ c. c < 128) name-small (b ∷ bs) (AllPass-from_list_all is_name_continue (b ∷ bs) all)))
 
 module _ (text : List ℕ) (short : length text ≤ most_bytes) where
   abbrev Written : List lexer.Token → Type 0
@@ -44,7 +38,7 @@ module _ (text : List ℕ) (short : length text ≤ most_bytes) where
   one-part (shape.Token kind.Name) bs after start tokens within e part rest =
       let span : start + length bs - start ≡ length bs = omega arith in
       let bytes : slice_range text start (start + length bs) ≡ bs = rw (span, e) (take_at bs after (length bs) refl) in
-      let is : IsWritten bs = record { ascii = name-ascii bs part.0; short = omega (arith, short, ap length e, length-append bs after, length-drop start text) } in
+      let is : IsWritten bs = record { utf8 = name-utf8 bs part.0; short = omega (arith, short, ap length e, length-append bs after, length-drop start text) } in
       (subst IsWritten (sym bytes) is, rest)
   one-part (shape.Token k) bs after start tokens within e part rest = (tt, rest)
   one-part s bs after start tokens within e part rest = rest

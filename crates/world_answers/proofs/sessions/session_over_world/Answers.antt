@@ -1,8 +1,7 @@
-use Rattle.std.proofs.Common.{◌≡◌, ◌∙◌, List, [], All, map, sym, ap, subst, arith}
+use Rattle.std.proofs.Common.{◌≡◌, ◌∙◌, List, [], map, sym, ap, arith}
 use Rattle.std.proofs.lemmas.Result.{IfOk-weaker}
 use Rattle.gq_bindings.specs.Seen.{loader_of}
 use Rattle.csv_source.specs.Tables.{SourceOf, source_of_all}
-use Rattle.load_memory.proofs.ReplyPairs.{All-of_map}
 use Rattle.load_queue.specs.Loaders.{LoaderOf}
 use Rattle.load_rounds.specs.Sessions.{SessionOf}
 use Rattle.world_answers.specs.Sessions.{loaders_over, whichever, over_whichever}
@@ -24,8 +23,7 @@ new-requires c =
     let w = c.args.world.now in
     let all : map whichever c.loop-number.loaders.items ≡ loaders_over w.limit w.bindings.loaders w.sources =
     built-all w.limit loader_of c.loaders-line-items.result.now w.bindings.loaders w.sources c.loop-number.number c.loop-number.loaders.items c.loop-number.invariant.lines (sym c.loaders.ensures.sources ∙ c.loaders.ensures.bindings) (omega arith) c.loop-number.invariant.built in
-    let quiet = subst (λ (ls : List (LoaderOf SourceOf)). All (λ (l : LoaderOf SourceOf). l.log ≡ []) ls) (sym all) (quiet-over w.limit w.bindings.loaders w.sources) in
-    All-of_map whichever (λ (l : LoaderOf SourceOf). l.log ≡ []) c.loop-number.loaders.items quiet
+    quiet-over w.limit w.bindings.loaders w.sources c.loop-number.loaders.items all
 
 pub returns-clause-opened : goal.returns-clause-opened
 returns-clause-opened c =

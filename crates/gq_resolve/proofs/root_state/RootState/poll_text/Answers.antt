@@ -1,4 +1,4 @@
-use Rattle.std.proofs.Common.{refl, rules, sym, subst}
+use Rattle.std.proofs.Common.{◌≡◌, refl, rules, ap, sym, subst, ◌∙◌}
 use Rattle.load_memory.specs.Pairs.{MemoryOf}
 use Rattle.execution.specs.Completion.{AnsweredOf}
 use Rattle.execution.specs.Executed.{completed}
@@ -7,15 +7,24 @@ use Rattle.gq_check.specs.Plans.{PlanOf, plan_of}
 use Rattle.plan_program.specs.PlanPrograms.{plan_program}
 use Rattle.plan_walk.specs.Reading.{lookup}
 use Rattle.gq_resolve.specs.Evaluated.{AddsPart}
-use Rattle.gq_resolve.specs.Suspended.{FitsMemory, FitsStopped, Advanced, lacking}
+use Rattle.gq_resolve.specs.Suspended.{FitsMemory, FitsStopped, FitsAhead, Advanced, lacking}
+use Rattle.gq_resolve.specs.declared.root_state.RootState.{RootState}
 use Rattle.gq_resolve.proofs.Evaluating.{on_err}
-use Rattle.gq_resolve.proofs.Polling.{answer-done, answer-shut, answer-within, front-added, loads-counted, part-wanted, still-fits}
+use Rattle.gq_resolve.proofs.Polling.{answer-done, answer-shut, answer-within, front-added, loads-counted, part-wanted, still-fits, stopped-more}
+use Rattle.gq_resolve.proofs.Ahead.{still-ahead}
 use Rattle.gq_resolve.proofs.root_state.RootState.poll_text.Goals as goal
-use Rattle.gq_resolve.proofs.root_state.RootState.poll_text.Goals.{After-is_empty}
+use Rattle.gq_resolve.proofs.root_state.RootState.poll_text.Goals.{After-is_empty, then-is_some+in_ok-result+in_default, else-is_some}
+
+-- what is kept beside the answer ahead stays
+same-stopped : (c : After-is_empty) → c.if-is_some.self.stopped ≡ c.args.self.now.stopped
+same-stopped c = elim c.if-is_some.branch [
+  | then-is_some+in_ok-result+in_default w ↦ ap (λ (s : RootState). s.stopped) (w.self-is ∙ w.finish_ahead.ensures.kept)
+  | else-is_some w ↦ ap (λ (s : RootState). s.stopped) w.self-is
+]
 
 -- the walk came as far as it could
 far : (c : After-is_empty) → FitsMemory (plan_of c.args.plan.now) c.args.self.now c.args.memory.now → Advanced (plan_of c.args.plan.now) c.args.memory.now c.unwrap_or.result c.in_ok-walked.walked
-far c fits = c.in_ok-walked.ensures (subst (FitsStopped (plan_of c.args.plan.now) c.args.memory.now) (sym c.take.ensures.value) fits)
+far c fits = c.in_ok-walked.ensures (subst (FitsStopped (plan_of c.args.plan.now) c.args.memory.now) (sym (c.take.ensures.value ∙ same-stopped c)) fits.stopped)
 
 pub returns-then-is_empty-clause-ok : goal.returns-then-is_empty-clause-ok
 returns-then-is_empty-clause-ok c = λ fits.
@@ -41,6 +50,25 @@ returns-clause-ok c = λ fits.
     front-added (plan_of c.args.plan.now) c.args.memory.now c.args.wants.now c.in_ok-walked.walked c.requires (far (goal.at.returns-clause-ok c).After-is_empty fits) c.add_wants.new.wants
     (λ none. cc (c.if-is_empty.ensures.1 none)) c.in_ok-waiting.ensures.ok
 
+-- and so does the answer ahead, if it isn't gone
+fits-ahead : (c : After-is_empty) (n : MemoryOf) → FitsAhead (plan_of c.args.plan.now) n c.args.self.now.ahead → FitsAhead (plan_of c.args.plan.now) n c.if-is_some.self.ahead
+fits-ahead c n fits = elim c.if-is_some.branch [
+  | then-is_some+in_ok-result+in_default w ↦ subst (λ (s : RootState). FitsAhead (plan_of c.args.plan.now) n s.ahead) (sym (w.self-is ∙ w.finish_ahead.ensures.kept)) tt
+  | else-is_some w ↦ subst (λ (s : RootState). FitsAhead (plan_of c.args.plan.now) n s.ahead) (sym w.self-is) fits
+]
+
 pub returns-clause-grown : goal.returns-clause-grown
 returns-clause-grown c = λ n fits grown.
-    still-fits (plan_of c.args.plan.now) c.args.memory.now n c.in_ok-walked.walked c.in_ok-waiting.waiting (far (goal.at.returns-clause-grown c).After-is_empty fits) c.in_ok-waiting.ensures.kept grown
+    let plan : PlanOf = plan_of c.args.plan.now in
+    let m : MemoryOf = c.args.memory.now in
+    let now = (goal.at.returns-clause-grown c).After-is_empty in
+    record {
+      stopped = still-fits plan m n c.in_ok-walked.walked c.in_ok-waiting.waiting (far now fits) c.in_ok-waiting.ensures.kept grown;
+      ahead = fits-ahead now n (still-ahead plan m n c.args.self.now.ahead grown fits.ahead);
+    }
+
+pub returns-in-Some-clause-grown : goal.returns-in-Some-clause-grown
+returns-in-Some-clause-grown c = λ n fits grown.
+    let plan : PlanOf = plan_of c.args.plan.now in
+    let m : MemoryOf = c.args.memory.now in
+    rw c.finish_ahead.ensures.kept (record { stopped = stopped-more plan m n c.args.self.now.stopped grown fits.stopped; ahead = tt })

@@ -1,8 +1,8 @@
 use Rattle.std.specs.Arc.{arc_value}
-use Rattle.std.proofs.Common.{◌≡◌, ◌-◌, ◌∙◌, ◌<◌, ◌++◌, rules, ℕ, List, [], ◌∷◌, map, length, arith, sym, ap, subst, refl, Bool, Option, Some, None, Vec, Global, string_bytes}
+use Rattle.std.proofs.Common.{◌≡◌, ◌-◌, ◌+◌, ◌≤◌, ◌∙◌, ◌<◌, get_or, ◌++◌, rules, ℕ, List, [], ◌∷◌, map, take, drop, length, arith, sym, ap, subst, refl, Bool, Option, Some, None, Vec, Global, string_bytes}
 use Rattle.std.specs.Prelude.{OnOk}
 use Rattle.std.specs.Option.{option_map, option_copied}
-use Rattle.std.proofs.lemmas.List.{take_all}
+use Rattle.std.proofs.lemmas.List.{take_all, length-take-le, length-map, length-drop, get_or-drop}
 use Rattle.std.proofs.lemmas.Result.{on_ok_weaker}
 use Rattle.schema_syntax.specs.Tree.{Definition}
 use Rattle.gq_schema.specs.Types.{tree_of}
@@ -19,19 +19,19 @@ use Rattle.gq_check.specs.Plans.{PlanOf, plan_of}
 use Rattle.plan_program.specs.PlanPrograms.{TypeOf, object_type, type_fault, type_of_row, places, read_key, read_if, typed_object, object_program}
 use Rattle.plan_program.specs.FieldValues.{ChildrenOf}
 use Rattle.plan_program.specs.declared.prepared.Children.{Children}
-use Rattle.plan_walk.specs.Groups.{children_at, then_at, steps_in, Covers, AreOnly, IsShaped}
-use Rattle.plan_walk.specs.Puts.{Put, Ends, Waits, View, OnwardOf, reads, puts}
+use Rattle.plan_walk.specs.Groups.{members_seen, children_at, then_at, steps_in, Covers, AreOnly, IsShaped}
+use Rattle.plan_walk.specs.Puts.{Ends, Waits, View, OnwardOf, reads, puts}
 use Rattle.plan_walk.specs.Positions.{is_non_null, onward_of, later_of}
 use Rattle.plan_walk.specs.Reading.{lookup}
 use Rattle.plan_walk.specs.Walks.{WalksAt, items_read}
 use Rattle.plan_program.specs.Prepared.{keys_seen}
 use Rattle.plan_walk.specs.declared.positions.Onward.{Onward}
-use Rattle.plan_walk.specs.Following.{come_to, followed_puts}
+use Rattle.plan_walk.specs.Following.{come_to}
 use Rattle.plan_walk.specs.declared.following.ViaRows.{ViaRows}
 use Rattle.plan_walk.specs.declared.loading_fields.LoadingField.{LoadingField}
 use Rattle.plan_walk.specs.declared.loading_fields.Member.{Member}
 use Rattle.plan_walk.proofs.Lookups.{looked-up}
-use Rattle.plan_walk.proofs.Touring.{Laws, goes-put, goes-as, walks-as, goes-probed, goes-read, goes-entered, goes-ended, goes-full, goes-made, goes-only-none, goes-only, goes-let_go, fields_put, fields-more, fields-rest, known-at, items-more, items-rest, items-whole, joined_by, after-one, after-taken, after-followed, after-missing, after-row, after-head, map-map}
+use Rattle.plan_walk.proofs.Touring.{Laws, goes-put, goes-as, walks-as, goes-probed, goes-read, goes-entered, goes-ended, goes-asked, goes-stopped, goes-passed, goes-made, goes-only-none, goes-only, goes-let_go, members-entries, places-entries, fields_put, fields-more, fields-rest, known-at, items-more, items-rest, items-whole, joined_by, after-one, after-taken, after-followed, after-missing, after-row, after-head, map-map}
 use Rattle.plan_walk.proofs.walk.Walk.+walk.Given.{Over}
 use Rattle.plan_walk.proofs.walk.Walk.+walk.Goals as goal
 
@@ -40,32 +40,65 @@ laws g = record { more = g.met.S.Sink.more; rises = g.met.S.Sink.rises; stays = 
 
 -- ---- objects and lists
 
+pub object-loop-member-init : goal.object-loop-member-init
+object-loop-member-init g t c =
+    let R : Reader = lookup c.args.self.now.memory.now in
+    let ms : List Member = c.args.members.now in
+    let some = λ (v : View). members_seen (plan_of c.args.self.now.plan.now).definitions v c.args.levels c.args.row.now (take c.passes-passed.result ms) in
+    let first : length (take c.passes-passed.result ms) ≡ c.passes-passed.result = length-take-le c.passes-passed.result ms c.passes-passed.ensures.few in
+    let same : c.passes-passed.result ≡ c.passes-passed.result + 0 = omega arith in
+    goes-as (goes-passed R some c.begin.new.self c.passes-passed.new.self (laws g) c.in_ok-begin.ensures
+    (λ v. c.passes-passed.ensures.passed v ObjectOf (some v) R (members-entries (plan_of c.args.self.now.plan.now).definitions v c.args.levels c.args.row.now (take c.passes-passed.result ms) ∙ first)))
+    (λ k v cov. ap (λ (i : ℕ). fields_put (plan_of c.args.self.now.plan.now).definitions c.args.levels c.args.row.now R (take i ms) v) same)
+
 pub object-loop-member-preserved : goal.object-loop-member-preserved
 object-loop-member-preserved g t c =
-    let i = c.loop-member.member-index in
-    goes-as (goes-entered (laws g) (known-at _ _ c.args.members.now i c.member-item.result c.loop-member.invariant.grows.longer (omega (arith, c.loop-member-test.true)) c.member-item.is) c.loop-member.invariant refl c.in_ok-field.ensures c.in_ok-ask.ensures)
-    (λ k v cov. fields-more (plan_of c.args.self.now.plan.now).definitions c.args.levels c.args.row.now (lookup c.args.self.now.memory.now) c.args.members.now i c.member-item.result v (omega (arith, c.loop-member-test.true)) c.member-item.is)
+    let n : ℕ = c.passes-passed.result in
+    let ms : List Member = c.args.members.now in
+    let i : ℕ = n + c.loop-member.member-index in
+    let next : i + 1 ≡ n + (c.loop-member.member-index + 1) = omega arith in
+    let lt : i < length ms = omega (arith, c.loop-member-test.true, length-drop n ms) in
+    let rest : take (length ms - n) (drop n ms) ≡ drop n ms = take_all (length ms - n) (drop n ms) (omega (arith, length-drop n ms)) in
+    let is : c.member-item.result ≡ get_or ms i c.member-item.result =
+    c.member-item.is ∙ ap (λ (xs : List Member). get_or xs c.loop-member.member-index c.member-item.result) rest ∙ get_or-drop n ms c.loop-member.member-index c.member-item.result in
+    let before = goes-asked c.stops.new.self (laws g) c.loop-member.invariant c.stops.ensures.same in
+    goes-as (goes-entered (laws g) (known-at _ _ ms i c.member-item.result c.loop-member.invariant.grows.longer lt is) before refl c.in_ok-field.ensures c.in_ok-ask.ensures)
+    (λ k v cov. fields-more (plan_of c.args.self.now.plan.now).definitions c.args.levels c.args.row.now (lookup c.args.self.now.memory.now) ms i c.member-item.result v lt is
+    ∙ ap (λ (l : ℕ). fields_put (plan_of c.args.self.now.plan.now).definitions c.args.levels c.args.row.now (lookup c.args.self.now.memory.now) (take l ms) v) next)
 
-pub object-returns-then-is_full : goal.object-returns-then-is_full
-object-returns-then-is_full g t c =
-    goes-as (goes-full _ (laws g) (c.is_full.ensures c.if-is_full.true) c.loop-member.invariant)
-    (λ k v cov. fields-rest (plan_of c.args.self.now.plan.now).definitions (is_non_null c.args.nullability) c.args.levels c.args.row.now (lookup c.args.self.now.memory.now) c.args.members.now c.loop-member.member-index v)
+pub object-returns-then-stops : goal.object-returns-then-stops
+object-returns-then-stops g t c =
+    let before = goes-asked c.stops.new.self (laws g) c.loop-member.invariant c.stops.ensures.same in
+    goes-as (goes-stopped _ (laws g) (c.stops.ensures.stops c.if-stops.true) before)
+    (λ k v cov. fields-rest (plan_of c.args.self.now.plan.now).definitions (is_non_null c.args.nullability) c.args.levels c.args.row.now (lookup c.args.self.now.memory.now) c.args.members.now (c.passes-passed.result + c.loop-member.member-index) v)
 
 pub object-returns : goal.object-returns
 object-returns g t c =
+    let i : ℕ = c.passes-passed.result + c.loop-member.member-index in
+    let all : length c.args.members.now ≤ i = omega (arith, c.loop-member-test.false, length-drop c.passes-passed.result c.args.members.now) in
     on_ok_weaker c.end.result
     (λ q. goes-as (goes-ended (laws g) c.loop-member.invariant refl q)
-    (λ k v cov. ap (λ ms. fields_put (plan_of c.args.self.now.plan.now).definitions c.args.levels c.args.row.now (lookup c.args.self.now.memory.now) ms v ++ Ends ObjectOf (is_non_null c.args.nullability) ∷ []) (take_all c.loop-member.member-index c.args.members.now c.loop-member-test.false)))
+    (λ k v cov. ap (λ ms. fields_put (plan_of c.args.self.now.plan.now).definitions c.args.levels c.args.row.now (lookup c.args.self.now.memory.now) ms v ++ Ends ObjectOf (is_non_null c.args.nullability) ∷ []) (take_all i c.args.members.now all)))
     c.end.ensures
+
+pub all-loop-number-init : goal.all-loop-number-init
+all-loop-number-init g t c =
+    let rows : List RowOf = c.args.rows.now in
+    let item = λ (v : View) (row : RowOf). v.after (later_of c.args.left (onward_of c.args.to.onward)) (row ∷ []) in
+    let first : length (take c.passes-number.result rows) ≡ c.passes-number.result = length-take-le c.passes-number.result rows c.passes-number.ensures.few in
+    goes-passed (lookup c.args.self.now.memory.now) (λ v. places _ _ 0 (map (item v) (take c.passes-number.result rows))) c.begin.new.self c.passes-number.new.self (laws g) c.in_ok-begin.ensures
+    (λ v. c.passes-number.ensures.passed v ListOf _ _ (places-entries _ _ 0 (map (item v) (take c.passes-number.result rows)) ∙ length-map (take c.passes-number.result rows) (item v) ∙ first))
 
 pub all-loop-number-preserved : goal.all-loop-number-preserved
 all-loop-number-preserved g t c =
-    goes-as (goes-entered (laws g) (λ lt. omega (arith, lt, c.loop-number.invariant.grows.longer)) c.loop-number.invariant refl c.in_ok-item.ensures c.in_ok-follow.ensures)
+    let before = goes-asked c.stops.new.self (laws g) c.loop-number.invariant c.stops.ensures.same in
+    goes-as (goes-entered (laws g) (λ lt. omega (arith, lt, c.loop-number.invariant.grows.longer)) before refl c.in_ok-item.ensures c.in_ok-follow.ensures)
     (λ k v cov. items-more _ _ _ (λ (v : View) (row : RowOf). v.after (later_of c.args.left (onward_of c.args.to.onward)) (row ∷ [])) c.args.rows.now c.loop-number.number c.index-rows-number.result v c.loop-number-test.true c.index-rows-number.is)
 
-pub all-returns-then-is_full : goal.all-returns-then-is_full
-all-returns-then-is_full g t c =
-    goes-as (goes-full _ (laws g) (c.is_full.ensures c.if-is_full.true) c.loop-number.invariant)
+pub all-returns-then-stops : goal.all-returns-then-stops
+all-returns-then-stops g t c =
+    let before = goes-asked c.stops.new.self (laws g) c.loop-number.invariant c.stops.ensures.same in
+    goes-as (goes-stopped _ (laws g) (c.stops.ensures.stops c.if-stops.true) before)
     (λ k v cov. items-rest _ _ _ _ _ _ (λ (v : View) (row : RowOf). v.after (later_of c.args.left (onward_of c.args.to.onward)) (row ∷ [])) c.args.rows.now c.loop-number.number v
     (c.items_of-items.ensures.nullability ∙ ap (λ (gs : List LoadingField). (children_at gs c.args.to.onward.group).item_non_null) c.deref.ensures.value)
     (c.items_of-items.ensures.place ∙ ap (λ (gs : List LoadingField). (children_at gs c.args.to.onward.group).place) c.deref.ensures.value))
@@ -128,17 +161,27 @@ follow-returns-in-Missing g t c =
     ∙ ap (λ (there : ViaRows). reads c.in_ok-followed.followed.loads ++ come_to (is_non_null c.args.to.nullability) R (joined_by _ _ v onward cov lt) steps there) c.in-Missing.is)))
     c.wait.ensures
 
+pub each-loop-number-init : goal.each-loop-number-init
+each-loop-number-init g t c =
+    let keys : List (Option Key) = c.args.keys.now in
+    let item = λ (v : View) (k : Option Key). read_if c.args.loader (v.after (onward_of c.args.to.onward)) (option_map key_of k) in
+    let first : length (take c.passes-number.result keys) ≡ c.passes-number.result = length-take-le c.passes-number.result keys c.passes-number.ensures.few in
+    goes-passed (lookup c.args.self.now.memory.now) (λ v. places _ _ 0 (map (item v) (take c.passes-number.result keys))) c.begin.new.self c.passes-number.new.self (laws g) c.in_ok-begin.ensures
+    (λ v. c.passes-number.ensures.passed v ListOf _ _ (places-entries _ _ 0 (map (item v) (take c.passes-number.result keys)) ∙ length-map (take c.passes-number.result keys) (item v) ∙ first))
+
 pub each-loop-number-preserved : goal.each-loop-number-preserved
 each-loop-number-preserved g t c =
     let item = λ (v : View) (k : Option Key). read_if c.args.loader (v.after (onward_of c.args.to.onward)) (option_map key_of k) in
-    goes-as (goes-entered (laws g) (λ lt. omega (arith, lt, c.loop-number.invariant.grows.longer)) c.loop-number.invariant refl c.in_ok-item.ensures c.in_ok-read_if.ensures)
+    let before = goes-asked c.stops.new.self (laws g) c.loop-number.invariant c.stops.ensures.same in
+    goes-as (goes-entered (laws g) (λ lt. omega (arith, lt, c.loop-number.invariant.grows.longer)) before refl c.in_ok-item.ensures c.in_ok-read_if.ensures)
     (λ k v cov. items-more _ _ _ item c.args.keys.now c.loop-number.number c.index-keys-number.result v c.loop-number-test.true c.index-keys-number.is)
 
-pub each-returns-then-is_full : goal.each-returns-then-is_full
-each-returns-then-is_full g t c =
+pub each-returns-then-stops : goal.each-returns-then-stops
+each-returns-then-stops g t c =
+    let before = goes-asked c.stops.new.self (laws g) c.loop-number.invariant c.stops.ensures.same in
     let read = λ (v : View) (k : Option KeyOf). read_if c.args.loader (v.after (onward_of c.args.to.onward)) k in
     let put = λ (ps : List Program). puts (is_non_null c.args.to.nullability) (Under ListOf (places (is_non_null c.args.items.nullability) c.args.items.place 0 ps)) (lookup c.args.self.now.memory.now) in
-    goes-as (goes-full _ (laws g) (c.is_full.ensures c.if-is_full.true) c.loop-number.invariant)
+    goes-as (goes-stopped _ (laws g) (c.stops.ensures.stops c.if-stops.true) before)
     (λ k v cov. items-rest _ _ _ _ _ _ (λ (v : View) (k : Option Key). read v (option_map key_of k)) c.args.keys.now c.loop-number.number v refl refl
     ∙ ap put (sym (map-map (read v) (λ (x : Option Key). option_map key_of x) c.args.keys.now)))
 

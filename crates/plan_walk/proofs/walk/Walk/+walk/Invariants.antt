@@ -55,7 +55,7 @@ decreases-object g l = 30 * l.levels + 25
 abbrev pub invariant-object-loop-member : goal.invariant-object-loop-member
 invariant-object-loop-member g l =
     Goes g.S.Sink.goes g.S.Sink.below l.self.most (plan_of l.self.plan.now) (AreKnown (length l.fn.at.groups.items) l.members)
-    (fields_put (plan_of l.self.plan.now).definitions l.levels l.row (lookup l.self.memory.now) (take l.member-index l.members)) l.fn.at l.at
+    (fields_put (plan_of l.self.plan.now).definitions l.levels l.row (lookup l.self.memory.now) (take (l.passed + l.member-index) l.members)) l.fn.at l.at
 
 abbrev pub invariant-all-loop-number : goal.invariant-all-loop-number
 invariant-all-loop-number g l =
