@@ -61,7 +61,7 @@ pub trait Execute<E> {
         ensures within { HasLoaders (loaders self.now) (program self.now) };
 
     /// Works ahead: does at most `steps` steps of what [`execute`](Execute::execute) has to do over this memory, and keeps what is done. Returns
-    /// true once no such step is left. What a step is, is the implementation's affair; `execute` does what is left at once.
+    /// true once no such step is left. What a step is, is the implementation's affair, and no clause counts them; `execute` does what is left at once.
     ///
     /// # Errors
     ///

@@ -77,11 +77,14 @@ impl AnswerAhead {
         Ok(keep(walked, most))
     }
 
-    /// Goes on with it, and stops after so many steps.
+    /// Goes on with it, unless it is written to its end, and stops after so many steps.
     pub fn go_on(self, walk: &Walk<'_>, steps: usize) -> Result<Option<AnswerAhead>, AllocError>
         ensures { IsAhead (plan_on walk.now) walk.now.memory.now self
             → IfOk result (KeepsAhead walk.now) }
     {
+        if self.is_whole() {
+            return Ok(Some(self));
+        }
         let AnswerAhead { rooted, out, most } = self;
         let mut out = out;
         out.go_on(walk.alloc, steps);

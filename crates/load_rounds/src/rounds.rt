@@ -213,8 +213,8 @@ impl<E, P: Execute<E>> Rounds<P, E> {
     /// `steps` steps of that over what the session knows ([`Execute::work_ahead`]). Returns false at the first that has steps left, and
     /// true once none has.
     ///
-    /// So one call does at most `steps` steps of each plan, and none of a plan that has none left. A host that must not be held for
-    /// long calls it until it returns true, and then advances.
+    /// The steps are those of each plan, not of all together, and what a step is, is the plan's affair: no clause counts them, or says which
+    /// are left. So a caller may advance at any time, also where it returned false.
     ///
     /// # Errors
     ///
