@@ -5,6 +5,8 @@
 //! (`plan_program::specs::PlanPrograms`), and the count of the loads that it reads, where nothing is missing, and else adds the front to the wants. It goes on over a memory
 //! that grows from poll to poll, and keeps what is done.
 //!
+//! Between two polls it may work ahead ([`RootState::work_ahead`]): it still fits its memory then, so a poll promises the same.
+//!
 //! A plan is what can be executed (`execution::Execute`), and so is a plan with a limit ([`LimitedPlan`]): an answer whose text is
 //! longer is refused, and all else is as for the plan. So whatever answers what can be executed answers plans.
 #![tactic(auto)]

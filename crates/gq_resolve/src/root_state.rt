@@ -28,7 +28,7 @@ use std::alloc::{AllocError, Global};
 ///
 /// A poll goes on at the positions that wait, looks below them for loads alone, and reads no cell but those of
 /// keys; over a memory without a pair it begins so at the root. When none waits, a walk from the root writes the
-/// answer, so each object is visited twice at most.
+/// answer, so polls visit each object twice at most. Work ahead visits those again in which a walk was stopped.
 /// Where nothing below the positions can load, what was prepared is kept alone, and the next poll is that walk.
 pub struct RootState {
     /// Says how many groups are kept at most.
