@@ -186,6 +186,8 @@ impl Execute<Anew> for FriendsTotal {
 
     ghost fits = { λ _ _ _. ⊤ };
 
+    ghost left = { λ _ _ _. 0 };
+
     fn start(&self) -> Anew {
         Anew
     }
@@ -218,8 +220,8 @@ impl Execute<Anew> for FriendsTotal {
         _progress: &mut Anew,
         _alloc: Global,
         _memory: &Memory,
-        _steps: usize,
-    ) -> Result<bool, AllocError> {
-        Ok(true)
+        steps: usize,
+    ) -> Result<Option<usize>, AllocError> {
+        Ok(Some(steps))
     }
 }

@@ -1,5 +1,5 @@
 -- Definitions of what an execution over a memory answers.
-use Rattle.std.specs.Prelude.{◌≡◌, ◌≢◌, ◌≤◌, ℕ, List, [], length, Some, string_bytes}
+use Rattle.std.specs.Prelude.{◌≡◌, ◌≢◌, ◌≤◌, ◌<◌, ℕ, List, [], length, Option, Some, None, string_bytes}
 use Rattle.load_memory.specs.Pairs.{MemoryOf, look}
 use Rattle.load_queue.specs.Wanted.{WantedOf}
 use Rattle.execution.specs.Loads.{Reader, read, Extends}
@@ -42,3 +42,9 @@ pub record GrowsTo (m n : MemoryOf) : Type 0 where
 -- it fits each memory that has at least these pairs
 abbrev pub FitsFrom : (MemoryOf → Type 0) → MemoryOf → Type 0
 FitsFrom fits m = (later : MemoryOf) → GrowsTo m later → fits later
+
+-- What a call leaves to do in steps, of what there was before: less where it says that it isn't done, and no more where it is, with so many
+-- of its steps left over.
+abbrev pub ComesNearer : (steps old new : ℕ) → Option ℕ → Type 0
+ComesNearer steps old new None = new < old
+ComesNearer steps old new (Some rest) = (new ≤ old) × (rest ≤ steps)

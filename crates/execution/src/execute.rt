@@ -4,7 +4,7 @@ ghost use Rattle.load_memory.specs.Pairs.{MemoryOf};
 ghost use Rattle.execution.specs.Program.{Program};
 ghost use Rattle.execution.specs.Completion.{AnsweredOf};
 ghost use Rattle.execution.specs.Rounds.{HasLoaders};
-ghost use Rattle.execution.specs.Executes.{CanExecute, IsExecuted, FitsFrom};
+ghost use Rattle.execution.specs.Executes.{CanExecute, IsExecuted, FitsFrom, ComesNearer};
 
 use crate::execution_result::ExecutionResult;
 use futures::task::Poll;
@@ -34,6 +34,9 @@ pub trait Execute<E> {
     // the progress is of an execution of it, and holds nothing as done that isn't so over the memory
     ghost fits: { Self → E → MemoryOf → Type 0 };
 
+    // at most so many steps are left to do ahead over the memory
+    ghost left: { Self → E → MemoryOf → ℕ };
+
     /// An execution of which nothing is done.
     fn start(&self) -> E
         ensures { (m : MemoryOf) → fits self.now result m };
@@ -60,8 +63,9 @@ pub trait Execute<E> {
         ensures fits { OnOk result (FitsFrom (fits self.now progress.new) memory.now) }
         ensures within { HasLoaders (loaders self.now) (program self.now) };
 
-    /// Works ahead: does at most `steps` steps of what [`execute`](Execute::execute) has to do over this memory, and keeps what is done. Returns
-    /// true once no such step is left. What a step is, is the implementation's affair, and no clause counts them; `execute` does what is left at once.
+    /// Works ahead: does so many `steps` of what [`execute`](Execute::execute) has to do over this memory, or one where that is 0, and keeps
+    /// what is done. Returns the steps that it didn't need once none is left to do, and `None` while some are: it has come nearer to the
+    /// end then (`left`), so that calls in a row reach it. What a step is, is the implementation's affair. `execute` does at once what is left.
     ///
     /// # Errors
     ///
@@ -72,8 +76,10 @@ pub trait Execute<E> {
         alloc: Global,
         memory: &Memory,
         steps: usize,
-    ) -> Result<bool, AllocError>
+    ) -> Result<Option<usize>, AllocError>
         requires fits { fits self.now
             progress.old memory.now }
-        ensures fits { OnOk result (FitsFrom (fits self.now progress.new) memory.now) };
+        ensures fits { OnOk result (fits self.now progress.new memory.now) }
+        ensures nearer { IfOk result (ComesNearer steps
+            (left self.now progress.old memory.now) (left self.now progress.new memory.now)) };
 }

@@ -16,6 +16,6 @@ pub mod execute;
 pub mod execution_result;
 pub mod law;
 
-pub use count_work::CountWork;
+pub use count_work::{CountWork, Counted};
 pub use execute::Execute;
 pub use execution_result::ExecutionResult;

@@ -19,14 +19,15 @@ use Rattle.plan_walk.specs.contracts.loading_fields.FieldResolver as asks
 use Rattle.plan_walk.specs.contracts.loading_fields.Member as member
 use Rattle.plan_walk.specs.contracts.loading_fields.TypePositions as shape
 use Rattle.plan_walk.specs.contracts.loading_fields.LoadingField as group
-use Rattle.json.proofs.write.Writer.TheSendSync as writer
-use Rattle.gq_resolve.specs.contracts.answer_text.AnswerText as text_of
 use Rattle.gq_resolve.specs.contracts.bounded.BoundedErrors as errors
 use Rattle.gq_resolve.specs.contracts.bounded.BoundedText as bounded
 use Rattle.gq_resolve.specs.contracts.completed_text.CompletedText as completed
 use Rattle.gq_resolve.specs.contracts.completed_text.OpenLevel as level
-use Rattle.gq_resolve.specs.contracts.output.Output as output
 use Rattle.gq_resolve.specs.contracts.pausing.Pausing as pausing
+use Rattle.gq_resolve.specs.contracts.paused_walk.PausedWalk as paused
+use Rattle.gq_resolve.specs.contracts.stepped_output.SteppedOutput as stepped
+use Rattle.gq_resolve.specs.contracts.work.WorkLeft as work
+use Rattle.gq_resolve.specs.contracts.work.WorkCount as count
 use Rattle.gq_resolve.specs.contracts.advance.RootObject as rooted
 use Rattle.gq_resolve.specs.contracts.advance.Suspension as stopped
 use Rattle.gq_resolve.specs.contracts.answer_ahead.AnswerAhead as ahead
@@ -105,20 +106,32 @@ level_send = search (heap.crosses, sendable) depth 20
 completed_send : IsSend completed.the_row
 completed_send = declared_send completed.the_type (search (heap.crosses, sendable) depth 20, (search (heap.crosses, sendable, level_send) depth 20, (search (heap.crosses, sendable) depth 20, (search (heap.crosses, sendable) depth 20, (search (heap.crosses, sendable) depth 20, (search (sendable, bounded_send) depth 20, (search (sendable, errors_send) depth 20, (search (heap.crosses, sendable) depth 20, tt))))))))
 
-text_send : IsSend text_of.the_row
-text_send = declared_send text_of.the_type (search (heap.crosses, sendable) depth 20, (search (heap.crosses, sendable, writer.the_send) depth 20, (search (heap.crosses, sendable) depth 20, (search (heap.crosses, sendable, completed_send) depth 20, (search (heap.crosses, sendable) depth 20, (search (heap.crosses, sendable) depth 20, (search (heap.crosses, sendable) depth 20, tt)))))))
+stepped_send : IsSend stepped.the_row
+stepped_send = declared_send stepped.the_type (search (sendable, completed_send) depth 20, (search (heap.crosses, sendable) depth 20, tt))
 
-output_send : IsSend output.the_row
-output_send = declared_send output.the_type (search (sendable, text_send) depth 20, (search (sendable, waiting.the_send) depth 20, (search (heap.crosses, sendable) depth 20, tt)))
+stepped_pausing_send : IsSend (pausing.the_row stepped.the_row)
+stepped_pausing_send = declared_send (pausing.the_type stepped.the_row) (search (sendable, stepped_send) depth 20, (search (heap.crosses, sendable) depth 20, (search (heap.crosses, sendable) depth 20, (search (heap.crosses, sendable) depth 20, (search (heap.crosses, sendable) depth 20, (search (heap.crosses, sendable) depth 20, tt))))))
 
-pausing_send : IsSend (pausing.the_row output.the_row)
-pausing_send = declared_send (pausing.the_type output.the_row) (search (sendable, output_send) depth 20, (search (heap.crosses, sendable) depth 20, (search (heap.crosses, sendable) depth 20, (search (heap.crosses, sendable) depth 20, (search (heap.crosses, sendable) depth 20, (search (heap.crosses, sendable) depth 20, tt))))))
+stepped_walk_send : IsSend (paused.the_row stepped.the_row)
+stepped_walk_send = declared_send (paused.the_type stepped.the_row) (rooted_send, (search (sendable, stepped_pausing_send) depth 20, (search (heap.crosses, sendable) depth 20, tt)))
 
 ahead_send : IsSend ahead.the_row
-ahead_send = declared_send ahead.the_type (rooted_send, (search (sendable, pausing_send) depth 20, (search sendable depth 20, tt)))
+ahead_send = declared_send ahead.the_type (search (sendable, stepped_walk_send) depth 20, (search sendable depth 20, tt))
+
+work_send : IsSend work.the_row
+work_send = search (heap.crosses, sendable) depth 20
+
+work_pausing_send : IsSend (pausing.the_row work.the_row)
+work_pausing_send = declared_send (pausing.the_type work.the_row) (search (sendable, work_send) depth 20, (search (heap.crosses, sendable) depth 20, (search (heap.crosses, sendable) depth 20, (search (heap.crosses, sendable) depth 20, (search (heap.crosses, sendable) depth 20, (search (heap.crosses, sendable) depth 20, tt))))))
+
+work_walk_send : IsSend (paused.the_row work.the_row)
+work_walk_send = declared_send (paused.the_type work.the_row) (rooted_send, (search (sendable, work_pausing_send) depth 20, (search (heap.crosses, sendable) depth 20, tt)))
+
+count_send : IsSend count.the_row
+count_send = declared_send count.the_type (search (sendable, work_walk_send) depth 20, tt)
 
 pub state_send : IsSend state.the_row
-state_send = search (heap.crosses, sendable, stopped_send, ahead_send) depth 20
+state_send = search (heap.crosses, sendable, stopped_send, ahead_send, count_send) depth 20
 
 pub limited_send : IsSend limited.the_row
 limited_send = search (heap.crosses, sendable, prepared_send, prepared_sync) depth 20

@@ -12,6 +12,8 @@ pub mod Putting
 pub mod Blocking
 pub mod Advancing
 pub mod Reusing
+pub mod Resuming
+pub mod Nearing
 pub mod Ahead
 pub mod Polling
 pub mod Texting

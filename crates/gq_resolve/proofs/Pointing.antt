@@ -11,24 +11,24 @@ use Rattle.gq_resolve.specs.Composing.{in-order-first}
 -- ---- paths
 
 -- the step that was added last is left out again
-last-left : (path : List ℕ) (x : ℕ) → without_last (path ++ x ∷ []) ≡ path
+pub last-left : (path : List ℕ) (x : ℕ) → without_last (path ++ x ∷ []) ≡ path
 last-left path x = take_at path (x ∷ []) (length (path ++ x ∷ []) - 1) (omega (arith, length-append path (x ∷ [])))
 
 -- positions are counted in the innermost
-last-more : (n : ℕ) (path : List ℕ) (x : ℕ) → with_more n (path ++ x ∷ []) ≡ path ++ (x + n) ∷ []
+pub last-more : (n : ℕ) (path : List ℕ) (x : ℕ) → with_more n (path ++ x ∷ []) ≡ path ++ (x + n) ∷ []
 last-more n [] x = refl
 last-more n (y ∷ []) x = refl
 last-more n (y ∷ z ∷ path) x = ap (λ (xs : List ℕ). y ∷ xs) (last-more n (z ∷ path) x)
 
 -- some more, and then others
-more-more : (m n : ℕ) (path : List ℕ) → with_more n (with_more m path) ≡ with_more (m + n) path
+pub more-more : (m n : ℕ) (path : List ℕ) → with_more n (with_more m path) ≡ with_more (m + n) path
 more-more m n [] = refl
 more-more m n (x ∷ []) = ap (λ (y : ℕ). y ∷ []) (omega arith)
 more-more m n (x ∷ y ∷ []) = ap (λ (ys : List ℕ). x ∷ ys) (more-more m n (y ∷ []))
 more-more m n (x ∷ y ∷ z ∷ path) = ap (λ (ys : List ℕ). x ∷ ys) (more-more m n (y ∷ z ∷ path))
 
 -- none more
-none-more : (path : List ℕ) → with_more 0 path ≡ path
+pub none-more : (path : List ℕ) → with_more 0 path ≡ path
 none-more [] = refl
 none-more (x ∷ []) = ap (λ (y : ℕ). y ∷ []) (omega arith)
 none-more (x ∷ y ∷ path) = ap (λ (ys : List ℕ). x ∷ ys) (none-more (y ∷ path))

@@ -4,10 +4,12 @@ use Rattle.std.specs.Prelude.{unwrap_or}
 use Rattle.load_memory.specs.Pairs.{MemoryOf}
 use Rattle.load_queue.specs.Wanted.{WantedOf}
 use Rattle.execution.specs.Loads.{Load}
-use Rattle.execution.specs.Program.{tree, needs}
-use Rattle.execution.specs.Completion.{AnsweredOf, is_open}
-use Rattle.execution.specs.Executed.{completed, exec}
-use Rattle.execution.specs.Executes.{CanExecute, GrowsTo}
+use Rattle.execution.specs.Program.{Program, tree, needs}
+use Rattle.execution.specs.Completion.{is_open}
+use Rattle.execution.specs.Executed.{completed}
+use Rattle.execution.specs.Executes.{CanExecute, GrowsTo, IsExecuted}
+use Rattle.execution.specs.declared.execution_result.ExecutionResult.{ExecutionResult}
+use Rattle.futures.specs.declared.task.Poll.TheVariants.{Ready}
 use Rattle.execution.specs.Front.{wanting}
 use Rattle.execution.specs.Reads.{count_read, counted}
 use Rattle.execution.specs.Residual.{unanswered}
@@ -17,12 +19,9 @@ use Rattle.gq_check.specs.Plans.{PlanOf}
 use Rattle.plan_program.specs.PlanPrograms.{plan_program}
 use Rattle.gq_resolve.specs.Evaluated.{front_over, AddsPart}
 use Rattle.plan_walk.specs.Reading.{reader, lookup}
-use Rattle.gq_resolve.specs.Suspended.{IsRooted, MayGoOn, FitsStopped, FitsWaiting, loads_of, Searched, Advanced, lacking}
-use Rattle.plan_walk.specs.Puts.{puts}
-use Rattle.gq_resolve.specs.AnswerTexts.{IsTextOf}
-use Rattle.gq_resolve.specs.Within.{IsWritten}
+use Rattle.gq_resolve.specs.Suspended.{IsRooted, MayGoOn, FitsStopped, FitsWaiting, loads_of, IsSettled, Searched, Advanced, lacking}
+use Rattle.gq_resolve.specs.Within.{IsLimit, IsAnswerText, text_within}
 use Rattle.gq_resolve.specs.Written.{asks, thinned}
-use Rattle.gq_resolve.specs.declared.answer_text.AnswerText.{AnswerText}
 use Rattle.gq_resolve.specs.declared.advance.RootObject.{RootObject}
 use Rattle.gq_resolve.specs.declared.advance.Suspension.{Suspension}
 use Rattle.gq_resolve.specs.declared.advance.FinishedWalk.{FinishedWalk}
@@ -59,17 +58,13 @@ stopped-more plan m n (Some s) grown fits = waiting-more s.waiting fits
       ask = λ R more. may.ask R (λ load outcome e. more load outcome (lookup-more m n grown load outcome e));
     }
 
--- what a search found fits each larger memory
-pub searched-more : (plan : PlanOf) (m n : MemoryOf) (w : FinishedWalk Output) → Searched plan m w → GrowsTo m n → FitsWaiting plan n w.rooted w.out.blocked
-searched-more plan m n w s grown = go w.out.blocked refl
+-- an execution may go on where a search stopped
+pub searched-fits : (plan : PlanOf) (m : MemoryOf) (w : FinishedWalk Output) → Searched plan m w → FitsWaiting plan m w.rooted w.out.blocked
+searched-fits plan m w s = go w.out.blocked s.goes_on
   where
-    go : (bs : List BlockedPosition) → bs ≡ w.out.blocked → FitsWaiting plan n w.rooted bs
-    go [] is = s.goes_on.rooted
-    go (b ∷ bs) is = rw is (record {
-      rooted = s.goes_on.rooted;
-      within = s.goes_on.within;
-      ask = λ R more. s.goes_on.ask R (λ load outcome e. more load outcome (lookup-more m n grown load outcome e));
-    })
+    go : (bs : List BlockedPosition) → MayGoOn plan m w.rooted bs → FitsWaiting plan m w.rooted bs
+    go [] may = may.rooted
+    go (b ∷ bs) may = may
 
 -- where none is kept, an execution begins at its root
 pub begins-again : (plan : PlanOf) (m : MemoryOf) (r : RootObject) (waiting : List BlockedPosition) → waiting ≡ [] → IsRooted plan r → FitsWaiting plan m r waiting
@@ -117,22 +112,18 @@ module _ {most : ℕ} (plan : PlanOf) (m : MemoryOf) (old : List WantedOf) (w : 
   pub part-wanted : (new : List WantedOf) → AddsPart old new (loads_of w.out.blocked) → AddsPart old new (lacking plan m)
   part-wanted new h = part-thinned old new (lacking plan m) (subst (λ (ls : List Load). AddsPart old new ls) same-loads (thinned-part old new (loads_of w.out.blocked) h))
 
-  -- nothing waits, and nothing is open
-  pub answer-shut : w.out.blocked ≡ [] → is_open (tree (plan_program plan) (lookup m)) ≡ false
-  answer-shut none =
-      let front : front_over m (plan_program plan) ≡ [] = front-none m (plan_program plan) (thinned-none (lacking plan m) (sym same-loads ∙ ap (λ bs. thinned [] (loads_of bs)) none)) in
-      ap is_open (lookup-tree plan m can.enough) ∙ closed-tree m (plan_program plan) front
+-- an answer of which nothing is missing is ready
+pub answer-ready : (plan : PlanOf) (m : MemoryOf) (old : List WantedOf) (most : Option ℕ) (result : ExecutionResult) → CanExecute (length plan.bindings.loaders) m old → IsSettled plan m → IsAnswerText most plan m result.text
+    → result.loads < 2 ^ 64 → counted result.loads ≡ counted (count_read (plan_program plan) (lookup m)) → IsExecuted (text_within most) old old (plan_program plan) m (Ready result)
+answer-ready plan m old most result can settled text small loads =
+    let p : Program = plan_program plan in
+    let front : front_over m p ≡ [] = front-none m p (sym (lookup-asks plan m can.enough) ∙ settled) in
+    let shut : is_open (tree p (reader m)) ≡ false = closed-tree m p front in
+    let same : tree p (lookup m) ≡ tree p (reader m) = lookup-tree plan m can.enough in
+    let executed = exec-whole p (reader m) shut ∙ ap (λ t. Some (completed t)) (sym same) in
+    (front, record { answered = completed (tree p (lookup m)); executed = executed; report = text (ap is_open same ∙ shut) }, loads-counted plan m result.loads can.enough small loads, refl)
 
-  -- nothing waits, and this is the answer
-  pub answer-done : (answer : AnsweredOf) → w.out.blocked ≡ [] → (is_open (tree (plan_program plan) (lookup m)) ≡ false → answer ≡ completed (tree (plan_program plan) (lookup m)))
-      → (front_over m (plan_program plan) ≡ []) × (exec (plan_program plan) (reader m) ≡ Some answer)
-  answer-done answer none h =
-      let front : front_over m (plan_program plan) ≡ [] = front-none m (plan_program plan) (thinned-none (lacking plan m) (sym same-loads ∙ ap (λ bs. thinned [] (loads_of bs)) none)) in
-      let shut : is_open (tree (plan_program plan) (reader m)) ≡ false = closed-tree m (plan_program plan) front in
-      let same = lookup-tree plan m can.enough in
-      (front, exec-whole (plan_program plan) (reader m) shut ∙ ap (λ x. Some x) (sym (h (ap is_open same ∙ shut) ∙ ap completed same)))
-
--- the answer was written within the limit, if there is one
-pub answer-within : (most : Option ℕ) (limit none : ℕ) (plan : PlanOf) (m : MemoryOf) (a : AnswerText) → limit ≡ unwrap_or most none → IsTextOf limit (puts false (plan_program plan) (lookup m)) a → IsWritten most plan m a
-answer-within None limit none plan m a e text = (limit, text)
-answer-within (Some most) limit none plan m a e text = subst (λ (n : ℕ). IsTextOf n (puts false (plan_program plan) (lookup m)) a) e text
+-- a limit is the one that is given, if there is one
+pub limit-given : (most : Option ℕ) (limit none : ℕ) → limit ≡ unwrap_or most none → IsLimit most limit
+limit-given None limit none is = tt
+limit-given (Some most) limit none is = is

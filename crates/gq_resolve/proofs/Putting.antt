@@ -23,6 +23,8 @@ use Rattle.plan_walk.specs.Puts.{Put, Ends, Reads, View, reads, puts, all_puts}
 use Rattle.gq_resolve.specs.Written.{is_plain, opening, closing, leaf_value_tokens, part_tokens, put_tokens, put_reads, IsCounted, asks, put_asks, thinned, all_asks, AreWithin}
 use Rattle.gq_resolve.specs.Outputs.{Puts}
 use Rattle.gq_resolve.specs.AnswerTexts.{TakesAll, Takes}
+use Rattle.gq_resolve.specs.Stepped.{OutputOf, Writes}
+use Rattle.gq_resolve.specs.Texted.{WrittenOf, put_all}
 use Rattle.gq_resolve.specs.WorkLeft.{TakesWork, takes-none}
 use Rattle.gq_resolve.specs.declared.output.Output.{Output}
 use Rattle.gq_resolve.proofs.Evaluating.{needs-rest}
@@ -121,6 +123,14 @@ one-put v p old new blocked loads silent none takes = record {
   loads = rw none (omega (arith, loads));
   written = takes;
 }
+
+-- they write nothing
+pub reads-written : (n : ℕ) (old new : OutputOf) → new.text ≡ old.text → IsCounted n old.loads new.loads → Writes (reads n) old new
+reads-written n old new text counted = record { text = text ∙ same n old.text; loads = rw (reads-counted n) counted }
+  where
+    same : (n : ℕ) (w : WrittenOf) → w ≡ put_all (reads n) w
+    same zero w = refl
+    same (suc n) w = same n w
 
 pub reads-taken : (n : ℕ) (left : Option ℕ) → TakesWork (reads n) left left
 reads-taken zero left = takes-none left

@@ -1,6 +1,6 @@
 -- What was prepared of a plan serves each plan that is this one with other variables and leaves out the same.
 use Rattle.std.specs.Arc.{arc_value}
-use Rattle.std.proofs.Common.{◌≡◌, List, [], Vec, Global, refl, sym, subst, ◌∙◌, arith}
+use Rattle.std.proofs.Common.{◌≡◌, List, [], Vec, Global, Option, None, Some, IfSome, refl, sym, subst, ◌∙◌, arith}
 use Rattle.gq_variables.specs.Variables.{VariableOf}
 use Rattle.gq_schema.specs.Types.{root_in}
 use Rattle.gq_check.specs.Plans.{PlanOf, PlanParts, IsSameBut, plan_of}
@@ -64,3 +64,8 @@ again-reusable first plan r again copy alike grows made row is =
 -- plans that differ in their variables
 pub otherwise-parts : (one other : PlanParts) → IsSameBut one other → IsOtherwise (plan_of one) (plan_of other)
 otherwise-parts one other h = rw (h.definitions, h.bindings, h.operation, h.fragments) refl
+
+-- what was prepared is a root
+pub reusable-rooted : (plan : PlanOf) (prepared : Option RootObject) → IfSome prepared (IsReusable plan) → IfSome prepared (IsRooted plan)
+reusable-rooted plan None h = h
+reusable-rooted plan (Some r) h = h.rooted

@@ -1,6 +1,6 @@
 -- Definitions of what is put into an output, one part after another. These are proofs, which the laws of its
 -- sink need here.
-use Rattle.std.proofs.Common.{◌≡◌, ◌<◌, ◌≤◌, ◌+◌, ℕ, List, [], ◌∷◌, ◌++◌, refl, sym, ap, ◌∙◌, subst, arith, append_assoc, append-nil, length, take}
+use Rattle.std.proofs.Common.{◌≡◌, ◌<◌, ◌≤◌, ℕ, List, [], ◌∷◌, ◌++◌, refl, sym, ap, ◌∙◌, subst, arith, append_assoc, append-nil, length, take}
 use Rattle.std.specs.List.{flat_map, sum_by}
 use Rattle.std.proofs.lemmas.Grind.{flat_map-append}
 use Rattle.std.proofs.lemmas.List.Sums.{sum_by-append}
@@ -27,9 +27,10 @@ pub thinned-append : (noted xs ys : List Load)
 thinned-append noted [] ys = refl
 thinned-append noted (x ∷ xs) ys = thinned-append (with_load noted x) xs ys
 
--- two counts, one after another
-pub counted-more : (n m a b c : ℕ) → IsCounted n a b → IsCounted m b c → IsCounted (n + m) a c
-counted-more n m a b c p q = omega (arith, p, q)
+-- the loads of puts were counted, and then those of others
+pub reads-more : (ps qs : List Put) (a b c : ℕ) → IsCounted (sum_by put_reads ps) a b
+    → IsCounted (sum_by put_reads qs) b c → IsCounted (sum_by put_reads (ps ++ qs)) a c
+reads-more ps qs a b c p q = omega (arith, p, q, sum_by-append put_reads ps qs)
 
 -- of puts in order the first are in order
 pub in-order-first : (ps qs : List Put) (s u : StandsAt) → AreInOrder (ps ++ qs) s u
@@ -66,8 +67,7 @@ puts-more v ps qs a b c p q = record {
       (flat_map (put_asks R) qs))
       ∙ ap (thinned (thinned [] (all_asks v a.blocked R)))
       (sym (flat_map-append (put_asks R) ps qs));
-  loads = counted-more (sum_by put_reads ps) (sum_by put_reads qs) a.loads b.loads c.loads p.loads q.loads
-      ∙ ap (λ n. counted (a.loads + n)) (sym (sum_by-append put_reads ps qs));
+  loads = reads-more ps qs a.loads b.loads c.loads p.loads q.loads;
   written = λ none most rs t order is.
       let whole : b.blocked ≡ [] = left-empty b.blocked q.first.0 (sym q.first.1 ∙ none) in
       let all : AreInOrder ((rs ++ ps) ++ qs) at_root t =

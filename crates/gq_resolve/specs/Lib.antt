@@ -3,6 +3,7 @@ pub mod Evaluated
 pub mod Written
 pub mod Composing
 pub mod Suspended
+pub mod StepsLeft
 pub mod PreparedPlans
 pub mod Texted
 pub mod ReadBack
@@ -10,6 +11,7 @@ pub mod Points
 pub mod Pauses
 pub mod AnswerTexts
 pub mod Outputs
+pub mod Stepped
 pub mod Limited
 pub mod Within
 pub mod KeyByKey

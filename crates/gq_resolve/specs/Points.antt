@@ -1,5 +1,5 @@
 -- Definitions of the point that a walk has come to.
-use Rattle.std.specs.Prelude.{ℕ, ◌+◌, ◌-◌, Bool, true, false, List, [], ◌∷◌, ◌++◌, take, length}
+use Rattle.std.specs.Prelude.{◌≢◌, ℕ, ◌+◌, ◌-◌, Bool, true, false, List, [], ◌∷◌, ◌++◌, take, length}
 use Rattle.plan_walk.specs.Puts.{Put, Begins, Ends, Enters, Has, Reads, Waits}
 
 -- A point: of each object and list that a walk is in, outermost first, how many positions it has come to; and whether it has entered the
@@ -32,3 +32,8 @@ points_after (x ∷ xs) p = points_after xs (point_after x p)
 -- the start of a walk
 abbrev pub origin : PointOf
 origin = record { path = []; entered = true }
+
+-- the point isn't the goal, and these puts come to no point that is
+abbrev pub Avoids : List Put → PointOf → PointOf → Type 0
+Avoids [] p goal = p ≢ goal
+Avoids (x ∷ xs) p goal = (p ≢ goal) × Avoids xs (point_after x p) goal

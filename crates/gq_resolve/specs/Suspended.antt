@@ -1,6 +1,5 @@
 -- *Suspended resolvers*: an execution that has stopped, and when it may go on.
-use Rattle.std.specs.Prelude.{◌≡◌, ◌≢◌, ◌⊎◌, ℕ, false, List, [], ◌∷◌, ◌++◌, map, length, Option, Some, None, IfSome, Box}
-use Rattle.std.specs.List.{sum_by}
+use Rattle.std.specs.Prelude.{◌≡◌, ◌⊎◌, ◌≤◌, ◌+◌, ℕ, true, false, List, [], ◌∷◌, ◌++◌, map, length, Option, Some, None, IfSome, Box}
 use Rattle.std.specs.declared.alloc.Global.{Global}
 use Rattle.futures.specs.declared.task.Poll.TheVariants.{Ready}
 use Rattle.execution.specs.Completion.{AnsweredOf}
@@ -15,21 +14,26 @@ use Rattle.execution.specs.Reads.{count_read, counted}
 use Rattle.gq_check.specs.Plans.{PlanOf, plan_of}
 use Rattle.plan_program.specs.PlanPrograms.{root_prepared, plan_program}
 use Rattle.gq_resolve.specs.AnswerTexts.{IsTextOf}
-use Rattle.gq_resolve.specs.Within.{IsTaken, IsWritten}
+use Rattle.gq_resolve.specs.Stepped.{Writes, nothing_put, output_of}
+use Rattle.gq_resolve.specs.Within.{IsLimit}
 use Rattle.gq_resolve.specs.Evaluated.{missing_over}
 use Rattle.plan_walk.specs.Reading.{lookup}
 use Rattle.gq_variables.specs.Variables.{VariableOf}
 use Rattle.plan_program.specs.OtherVariables.{AgreesOnDirectives, with_variables}
 use Rattle.plan_walk.specs.Groups.{view_of, Makes, AreRight, AreServed, IsOtherwise}
 use Rattle.plan_walk.specs.Puts.{Put, View, puts}
-use Rattle.gq_resolve.specs.Written.{asks, thinned, all_asks, AreWithin, put_reads, IsCounted}
+use Rattle.gq_resolve.specs.Written.{asks, thinned, all_asks, AreWithin}
 use Rattle.gq_resolve.specs.Points.{points_after, origin}
+use Rattle.gq_resolve.specs.WorkLeft.{TakesWork, largest}
 use Rattle.gq_resolve.specs.Pauses.{point_of}
-use Rattle.gq_resolve.specs.declared.pausing.Course.TheVariants.{Back, Onward, Stopped}
+use Rattle.gq_resolve.specs.declared.pausing.Course.TheVariants.{Onward, Stopped}
 use Rattle.gq_resolve.specs.declared.pausing.Pausing.{Pausing}
+use Rattle.gq_resolve.specs.declared.paused_walk.PausedWalk.{PausedWalk}
+use Rattle.gq_resolve.specs.declared.work.WorkCount.{WorkCount}
 use Rattle.gq_resolve.specs.declared.answer_ahead.AnswerAhead.{AnswerAhead}
 use Rattle.plan_walk.specs.declared.waiting.BlockedPosition.{BlockedPosition}
 use Rattle.gq_resolve.specs.declared.output.Output.{Output}
+use Rattle.gq_resolve.specs.declared.stepped_output.SteppedOutput.{SteppedOutput}
 use Rattle.gq_resolve.specs.declared.advance.RootObject.{RootObject}
 use Rattle.gq_resolve.specs.declared.advance.Suspension.{Suspension}
 use Rattle.gq_resolve.specs.declared.advance.FinishedWalk.{FinishedWalk}
@@ -80,34 +84,72 @@ FitsStopped plan m (Some s) = FitsWaiting plan m s.rooted s.waiting
 abbrev pub IsSettled : PlanOf → MemoryOf → Type 0
 IsSettled plan m = asks (plan_program plan) (lookup m) ≡ []
 
--- A first part of what the plan puts was written and counted: all of it, or the walk is stopped between two positions.
+-- what a plan puts over a memory
+abbrev pub plan_puts : PlanOf → MemoryOf → List Put
+plan_puts plan m = puts false (plan_program plan) (lookup m)
+
+-- a walk came to its end, is stopped between two positions, or isn't begun
+abbrev pub IsStoppedAt : {S : Type 0} → List Put → List Put → Pausing S → Type 0
+IsStoppedAt taken rest out = ((out.course ≡ Onward) × (rest ≡ []))
+    ⊎ ((out.course ≡ Stopped) × ((out.is_entered ≡ false) ⊎ (out.is_entered ≡ true) × (taken ≡ [])))
+
+-- a walk has put the first of what the plan puts, with a step at most for each
+pub record IsPaused {S : Type 0} (plan : PlanOf) (m : MemoryOf) (taken rest : List Put)
+    (w : PausedWalk S) : Type 0 where
+  pub rooted : IsRooted plan w.rooted
+  pub all : plan_puts plan m ≡ taken ++ rest
+  pub point : point_of w.out ≡ points_after taken origin
+  pub few : w.taken ≤ length taken
+  pub stopped : IsStoppedAt taken rest w.out
+
+-- a walk that had put these went on: it is at its end, or took so many steps more
+pub record GoneOn {S : Type 0} (goes : View → List Put → S → S → Type 0) (plan : PlanOf)
+    (m : MemoryOf) (steps : ℕ) (taken : List Put) (old new : PausedWalk S) : Type 0 where
+  pub view : View
+  pub more : List Put
+  pub later : List Put
+  pub put : goes view more old.out.out new.out.out
+  pub paused : IsPaused plan m (taken ++ more) later new
+  pub longer : old.taken ≤ new.taken
+  pub stopped : new.out.course ≡ Stopped → old.taken + steps ≤ new.taken
+
+-- A first part of what the plan puts was written and counted.
 pub record IsAhead (plan : PlanOf) (m : MemoryOf) (a : AnswerAhead) : Type 0 where
-  pub rooted : IsRooted plan a.rooted
   pub settled : IsSettled plan m
   pub taken : List Put
   pub rest : List Put
-  pub all : puts false (plan_program plan) (lookup m) ≡ taken ++ rest
-  pub text : IsTaken a.most taken a.out.out.text
-  pub none : a.out.out.blocked ≡ []
-  pub loads : IsCounted (sum_by put_reads taken) 0 a.out.out.loads
-  pub point : point_of a.out ≡ points_after taken origin
-  pub course : ((a.out.course ≡ Onward) × (rest ≡ []))
-      ⊎ ((a.out.course ≡ Stopped) × (a.out.is_entered ≡ false))
+  pub paused : IsPaused plan m taken rest a.walked
+  pub limit : ℕ
+  pub given : IsLimit a.most limit
+  pub wrote : Writes taken (nothing_put limit) (output_of a.walked.out.out)
 
--- what a walk wrote is kept: nothing waits, and it isn't lost
-pub record IsKept (w : FinishedWalk (Pausing Output)) (most : Option ℕ)
-    (a : AnswerAhead) : Type 0 where
-  pub is : a ≡ record { rooted = w.rooted; out = w.out; most = most }
-  pub none : w.out.out.blocked ≡ []
-  pub found : w.out.course ≢ Back
+-- it went on: it is whole, or took so many steps more
+pub record IsFurther (plan : PlanOf) (m : MemoryOf) (steps : ℕ)
+    (old new : AnswerAhead) : Type 0 where
+  pub ahead : IsAhead plan m new
+  pub limit : new.most ≡ old.most
+  pub longer : old.walked.taken ≤ new.walked.taken
+  pub stopped : new.walked.out.course ≡ Stopped → old.walked.taken + steps ≤ new.walked.taken
 
 abbrev pub FitsAhead : PlanOf → MemoryOf → Option (Box AnswerAhead Global) → Type 0
 FitsAhead plan m None = Unit {0}
 FitsAhead plan m (Some a) = IsAhead plan m a.value
 
+-- a first part of the positions of what the plan puts was counted
+pub record IsCounting (plan : PlanOf) (m : MemoryOf) (c : WorkCount) : Type 0 where
+  pub taken : List Put
+  pub rest : List Put
+  pub paused : IsPaused plan m taken rest c.walked
+  pub work : TakesWork taken (Some largest) c.walked.out.out.left
+
+abbrev pub FitsCount : PlanOf → MemoryOf → Option (Box WorkCount Global) → Type 0
+FitsCount plan m None = Unit {0}
+FitsCount plan m (Some c) = IsCounting plan m c.value
+
 pub record FitsMemory (plan : PlanOf) (s : RootState) (m : MemoryOf) : Type 0 where
   pub stopped : FitsStopped plan m s.stopped
   pub ahead : FitsAhead plan m s.ahead
+  pub count : FitsCount plan m s.count
 
 -- ---- how far a poll comes
 
@@ -156,17 +198,21 @@ pub record Advanced (plan : PlanOf) (m : MemoryOf) (most : ℕ)
 
 -- the whole answer was written, up to the limit if there is one
 pub record IsWhole (plan : PlanOf) (m : MemoryOf) (most : Option ℕ)
-    (w : FinishedWalk Output) : Type 0 where
-  pub none : w.out.blocked ≡ []
+    (out : SteppedOutput) : Type 0 where
+  pub settled : IsSettled plan m
   pub limit : ℕ
-  pub advanced : Advanced plan m limit w
-  pub written : IsWritten most plan m w.out.text
+  pub given : IsLimit most limit
+  pub wrote : Writes (plan_puts plan m) (nothing_put limit) (output_of out)
 
--- what is kept of an answer ahead, if something is
-abbrev pub KeepsAhead : Walk → Option AnswerAhead → Type 0
-KeepsAhead walk ahead = IfSome ahead (IsAhead (plan_on walk) walk.memory.now)
+-- where a walk was stopped, it went on
+abbrev pub GoesOnBy : {S : Type 0} (goes : View → List Put → S → S → Type 0)
+    (below : ℕ → S → Type 0) → Walk → ℕ → PausedWalk S → PausedWalk S → Type 0
+GoesOnBy goes below walk steps old new = (taken rest : List Put)
+    → IsPaused (plan_on walk) walk.memory.now taken rest old
+    → WaitsBelow below old.rooted old.out.out
+    → GoneOn goes (plan_on walk) walk.memory.now steps taken old new
 
-abbrev pub GivesWhole : Walk → Option ℕ → Option (FinishedWalk Output) → Type 0
+abbrev pub GivesWhole : Walk → Option ℕ → Option SteppedOutput → Type 0
 GivesWhole walk most whole = IfSome whole (IsWhole (plan_on walk) walk.memory.now most)
 
 -- an execution is ready with this, where it can be made

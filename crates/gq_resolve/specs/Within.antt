@@ -8,25 +8,25 @@ use Rattle.load_memory.specs.Pairs.{MemoryOf}
 use Rattle.gq_check.specs.Plans.{PlanOf}
 use Rattle.plan_program.specs.PlanPrograms.{plan_program}
 use Rattle.gq_resolve.specs.Answered.{answer_text}
-use Rattle.gq_resolve.specs.Limited.{limited_text}
-use Rattle.plan_walk.specs.Puts.{Put, puts}
+use Rattle.gq_resolve.specs.Limited.{AnswersWithin, limited_text}
 use Rattle.plan_walk.specs.Reading.{lookup}
-use Rattle.gq_resolve.specs.AnswerTexts.{IsTextOf}
-use Rattle.gq_resolve.specs.declared.answer_text.AnswerText.{AnswerText}
 
 -- the text of an answer: without a limit that of its response, and else its limited text
 abbrev pub text_within : Option ℕ → AnsweredOf → List ℕ
 text_within None = answer_text
 text_within (Some most) = λ answered. limited_text most (answer_text answered)
 
--- these were written, up to the limit if there is one
-abbrev pub IsTaken : Option ℕ → List Put → AnswerText → Type 0
-IsTaken None ps a = (limit : ℕ) × IsTextOf limit ps a
-IsTaken (Some most) ps a = IsTextOf most ps a
+-- a text is written within a limit: the given one, or any where none is given
+abbrev pub IsLimit : Option ℕ → ℕ → Type 0
+IsLimit None limit = Unit {0}
+IsLimit (Some most) limit = limit ≡ most
 
--- a plan's answer was
-abbrev pub IsWritten : Option ℕ → PlanOf → MemoryOf → AnswerText → Type 0
-IsWritten most plan m a = IsTaken most (puts false (plan_program plan) (lookup m)) a
+-- what was written of a plan's answer within its limit: its text, or none where it is longer
+pub record IsWritten (most : Option ℕ) (plan : PlanOf) (m : MemoryOf)
+    (text : Option (String Global)) : Type 0 where
+  pub limit : ℕ
+  pub given : IsLimit most limit
+  pub answers : AnswersWithin limit (plan_program plan) (lookup m) text
 
 -- the text of a plan's answer, of which nothing is missing
 abbrev pub IsAnswerText : Option ℕ → PlanOf → MemoryOf → String Global → Type 0

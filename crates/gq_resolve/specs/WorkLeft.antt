@@ -1,5 +1,5 @@
 -- Definitions of what the work of a plan leaves of a limit. Two are proofs, which the laws of their sink need here.
-use Rattle.std.proofs.Common.{◌≡◌, ◌+◌, ℕ, List, [], ◌++◌, refl, Option, Some, None, arith}
+use Rattle.std.proofs.Common.{◌≡◌, ◌+◌, ◌-◌, ◌^◌, ℕ, List, [], ◌++◌, refl, Option, Some, None, arith}
 use Rattle.std.specs.List.{sum_by}
 use Rattle.std.proofs.lemmas.List.Sums.{sum_by-append}
 use Rattle.load_memory.specs.Pairs.{MemoryOf}
@@ -12,6 +12,10 @@ use Rattle.plan_walk.specs.Reading.{reader}
 -- of a plan over a memory
 abbrev pub plan_work : PlanOf → MemoryOf → ℕ
 plan_work plan m = work (plan_program plan) (reader m)
+
+-- the largest limit
+abbrev pub largest : ℕ
+largest = 2 ^ 64 - 1
 
 -- gives how many positions are put
 abbrev pub put_work : Put → ℕ

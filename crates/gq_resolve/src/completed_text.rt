@@ -94,7 +94,7 @@ fn item_after(step: &PathSegment) -> Result<usize, AllocError>
 
 impl CompletedText {
     /// Nothing yet, at the root of an answer that may have `most` bytes.
-    fn new(alloc: Global, most: usize) -> CompletedText
+    pub fn new(alloc: Global, most: usize) -> CompletedText
         ensures { written_of result ≡ nothing_written most }
     {
         CompletedText {
@@ -135,8 +135,6 @@ impl CompletedText {
     }
 
     /// The text of the answer, with its errors before its data. None where it is certain that it has too many bytes.
-    #[cold]
-    #[inline(never)]
     #[cold]
     #[inline(never)]
     pub fn finish(&self) -> Result<Option<String>, AllocError>

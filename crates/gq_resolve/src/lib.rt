@@ -5,7 +5,8 @@
 //! (`plan_program::specs::PlanPrograms`), and the count of the loads that it reads, where nothing is missing, and else adds the front to the wants. It goes on over a memory
 //! that grows from poll to poll, and keeps what is done.
 //!
-//! Between two polls it may work ahead ([`RootState::work_ahead`]): it still fits its memory then, so a poll promises the same.
+//! Between two polls it may work ahead in steps ([`RootState::work_ahead`]), and count its work ([`RootState::count_ahead`]): it still fits its
+//! memory then, so a poll promises the same. Each such call comes nearer to the end, or says that nothing is left to do.
 //!
 //! A plan is what can be executed (`execution::Execute`), and so is a plan with a limit ([`LimitedPlan`]): an answer whose text is
 //! longer is refused, and all else is as for the plan. So whatever answers what can be executed answers plans.
@@ -21,10 +22,12 @@ mod limited;
 pub mod limited_plan;
 mod most_groups;
 mod output;
+mod paused_walk;
 mod pausing;
 mod plan;
 mod prepared_plan;
 mod root_state;
+mod stepped_output;
 mod threads;
 mod wanting;
 mod work;

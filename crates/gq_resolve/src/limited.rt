@@ -6,7 +6,6 @@ ghost use Rattle.gq_check.specs.Plans.{PlanOf};
 ghost use Rattle.gq_resolve.specs.Limited.{too_long_text, limited_text};
 ghost use Rattle.gq_resolve.specs.Within.{IsAnswerText, IsWritten};
 
-use crate::answer_text::AnswerText;
 use answer_json::write_refusal;
 use std::alloc::{AllocError, Global};
 
@@ -34,13 +33,13 @@ fn limit_text(alloc: Global, text: String, most: usize) -> Result<String, AllocE
 /// The text of an answer, which was written within `most` bytes if there is such a limit, or its refusal where it has more.
 pub fn whole_text(
     alloc: Global,
-    written: &mut AnswerText,
+    written: Option<String>,
     most: Option<usize>,
 ) -> Result<String, AllocError>
-    ensures { (plan : PlanOf) (m : MemoryOf) → IsWritten most plan m written.old
+    ensures { (plan : PlanOf) (m : MemoryOf) → IsWritten most plan m written
         → IfOk result (IsAnswerText most plan m) }
 {
-    match (written.finish()?, most) {
+    match (written, most) {
         (Some(text), Some(most)) => limit_text(alloc, text, most),
         (Some(text), None) => Ok(text),
         (None, Some(_)) => too_long(alloc),

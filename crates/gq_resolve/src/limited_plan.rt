@@ -3,13 +3,14 @@ ghost use Rattle.std.specs.Prelude.{◌≡◌, length};
 ghost use Rattle.std.specs.Arc.{arc_value};
 ghost use Rattle.gq_check.specs.Plans.{plan_of};
 ghost use Rattle.gq_resolve.specs.PreparedPlans.{within};
+ghost use Rattle.gq_resolve.specs.StepsLeft.{steps_left};
 ghost use Rattle.gq_resolve.specs.Suspended.{FitsMemory};
 ghost use Rattle.gq_resolve.specs.Within.{text_within};
 ghost use Rattle.plan_program.specs.PlanPrograms.{plan_program};
 
 use crate::prepared_plan::PreparedPlan;
 use crate::root_state::RootState;
-use execution::{CountWork, Execute, ExecutionResult};
+use execution::{CountWork, Counted, Execute, ExecutionResult};
 use futures::task::Poll;
 use gq_check::Plan;
 use load_memory::Memory;
@@ -95,6 +96,8 @@ impl Execute<RootState> for LimitedPlan {
 
     ghost fits = { λ limited state m. FitsMemory (plan_of limited.plan) state m };
 
+    ghost left = { λ limited state m. steps_left (plan_of limited.plan) limited.most state m };
+
     fn start(&self) -> RootState {
         RootState::new(self.plan.plan())
     }
@@ -117,7 +120,7 @@ impl Execute<RootState> for LimitedPlan {
         alloc: Global,
         memory: &Memory,
         steps: usize,
-    ) -> Result<bool, AllocError> {
+    ) -> Result<Option<usize>, AllocError> {
         self.plan.begin(progress)?;
         progress.work_ahead(alloc, self.plan.plan(), memory, self.most, steps)
     }
@@ -131,5 +134,16 @@ impl CountWork<RootState> for LimitedPlan {
         most: usize,
     ) -> Result<Option<usize>, AllocError> {
         self.plan.work_left(alloc, memory, most)
+    }
+
+    fn count_ahead(
+        &self,
+        progress: &mut RootState,
+        alloc: Global,
+        memory: &Memory,
+        most: usize,
+        steps: usize,
+    ) -> Result<Option<Counted>, AllocError> {
+        self.plan.count_ahead(progress, alloc, memory, most, steps)
     }
 }

@@ -1,7 +1,7 @@
 //! A sink that stops a walk after so many steps, and goes on where it stopped.
 //!
 //! A walk that was stopped is begun anew at its root. What was put before is passed over: on each level the walk goes at once to the field
-//! or item at which it was stopped. So it goes over as many levels again as it was in.
+//! or item at which it was stopped. So it goes over as many levels again as it was in, and always comes back to where it was stopped.
 
 use load_memory::KeyRef;
 use plan_program::LeafValue;
@@ -39,35 +39,40 @@ pub struct Pausing<S> {
 impl<S> Pausing<S> {
     ghost use Rattle.std.specs.Prelude.{◌≡◌, OnOk, OnErr};
     ghost use Rattle.gq_resolve.specs.Points.{with_more, origin};
-    ghost use Rattle.gq_resolve.specs.Pauses.{point_of};
+    ghost use Rattle.gq_resolve.specs.Pauses.{point_of, begun_course};
     ghost use Rattle.gq_resolve.specs.declared.pausing.Course.TheVariants as course;
 
-    /// For the start of a walk.
-    pub fn new(alloc: Global, out: S, steps: usize) -> Pausing<S>
+    /// For a walk that isn't begun: it is stopped at its start.
+    pub fn new(alloc: Global, out: S) -> Pausing<S>
         ensures out { result.out ≡ out }
-        ensures course { result.course ≡ course.Onward }
+        ensures course { result.course ≡ course.Stopped }
         ensures point { point_of result ≡ origin }
     {
         Pausing {
             out,
-            course: Course::Onward,
+            course: Course::Stopped,
             path: Vec::new(alloc),
             is_entered: true,
             goal: Vec::new(alloc),
-            steps,
+            steps: 0,
         }
     }
 
-    /// For the walk that goes on, where one was stopped.
+    /// For the walk that goes on where this one was stopped, for so many steps.
     pub fn go_on(&mut self, alloc: Global, steps: usize)
         ensures out { self.new.out ≡ self.old.out }
-        ensures course { self.new.course ≡ course.Back }
+        ensures course { self.new.course ≡ begun_course self.old.is_entered }
         ensures point { point_of self.new ≡ origin }
         ensures goal { self.new.goal ≡ self.old.path }
+        ensures steps { self.new.steps ≡ steps }
     {
+        self.course = if self.is_entered {
+            Course::Onward
+        } else {
+            Course::Back
+        };
         self.goal = mem::replace(&mut self.path, Vec::new(alloc));
         self.is_entered = true;
-        self.course = Course::Back;
         self.steps = steps;
     }
 
@@ -87,24 +92,41 @@ impl<S> Pausing<S> {
 }
 
 impl<S> Pausing<S> {
-    ghost use Rattle.std.specs.Prelude.{◌≡◌, IsTrue};
-    ghost use Rattle.gq_resolve.specs.Pauses.{point_of, goal_of};
+    ghost use Rattle.std.specs.Prelude.{◌≡◌, false};
+    ghost use Rattle.gq_resolve.specs.Pauses.{FallsShort, TurnsBy};
 
-    // Returns how many positions of the innermost object or list were put before, all of them where the walk was stopped in it.
-    fn before(&self) -> usize {
+    // Returns how many positions more of the innermost object or list were put before, all of them where the walk was stopped in it.
+    fn before(&self) -> usize
+        ensures { FallsShort result self.now.path.items self.now.goal.items }
+    {
         let depth = self.path.len();
-        match self.goal.get(depth.saturating_sub(1)) {
-            Some(there) if depth == self.goal.len() => *there,
-            Some(there) => there.saturating_sub(1),
+        let Some(last) = depth.checked_sub(1) else {
+            return 0;
+        };
+        let come = self.path[last];
+        match self.goal.get(last) {
+            Some(there) if depth == self.goal.len() => there.saturating_sub(come),
+            Some(there) => there.saturating_sub(1).saturating_sub(come),
             None => 0,
         }
     }
 
-    // Tells whether the walk is where it was stopped.
-    fn is_back(&self) -> bool
-        ensures { IsTrue result → point_of self.now ≡ goal_of self.now }
+    // Comes past what was entered last. A walk that is back where it was stopped goes onward.
+    fn come_past(&mut self)
+        ensures turned { TurnsBy self.old.course self.new }
+        ensures others { self.new
+            ≡ record self.old { is_entered = false; course = self.new.course } }
     {
-        !self.is_entered && self.path.as_slice() == self.goal.as_slice()
+        self.is_entered = false;
+        match self.course {
+            Course::Stopped => {}
+            Course::Onward => {}
+            Course::Back => {
+                if self.path.as_slice() == self.goal.as_slice() {
+                    self.course = Course::Onward;
+                }
+            }
+        }
     }
 }
 
@@ -124,7 +146,7 @@ impl<S: Sink> Sink for Pausing<S> {
             Course::Onward => self.out.begin(kind)?,
         }
         self.path.push(0)?;
-        self.is_entered = false;
+        self.come_past();
         Ok(())
     }
 
@@ -135,7 +157,7 @@ impl<S: Sink> Sink for Pausing<S> {
             Course::Onward => self.out.end(kind, nullability)?,
         }
         self.path.truncate(self.path.len().saturating_sub(1));
-        self.is_entered = false;
+        self.come_past();
         Ok(())
     }
 
@@ -143,7 +165,10 @@ impl<S: Sink> Sink for Pausing<S> {
         match self.course {
             Course::Stopped => return Ok(()),
             Course::Back => {}
-            Course::Onward => self.out.field(position)?,
+            Course::Onward => {
+                self.out.field(position)?;
+                self.steps = self.steps.saturating_sub(1);
+            }
         }
         self.come_to(1)?;
         self.is_entered = true;
@@ -154,7 +179,10 @@ impl<S: Sink> Sink for Pausing<S> {
         match self.course {
             Course::Stopped => return Ok(()),
             Course::Back => {}
-            Course::Onward => self.out.item(items, number)?,
+            Course::Onward => {
+                self.out.item(items, number)?;
+                self.steps = self.steps.saturating_sub(1);
+            }
         }
         self.come_to(1)?;
         self.is_entered = true;
@@ -171,7 +199,7 @@ impl<S: Sink> Sink for Pausing<S> {
             Course::Back => {}
             Course::Onward => self.out.leaf_value(leaf_value, nullability)?,
         }
-        self.is_entered = false;
+        self.come_past();
         Ok(())
     }
 
@@ -181,7 +209,7 @@ impl<S: Sink> Sink for Pausing<S> {
             Course::Back => {}
             Course::Onward => self.out.cell(leaf, nullability)?,
         }
-        self.is_entered = false;
+        self.come_past();
         Ok(())
     }
 
@@ -199,7 +227,7 @@ impl<S: Sink> Sink for Pausing<S> {
             Course::Back => {}
             Course::Onward => self.out.wait(onward, loader, key)?,
         }
-        self.is_entered = false;
+        self.come_past();
         Ok(())
     }
 
@@ -212,15 +240,11 @@ impl<S: Sink> Sink for Pausing<S> {
             Course::Stopped => true,
             Course::Back => false,
             Course::Onward => {
-                if self.is_entered {
+                if self.is_entered || self.steps > 0 {
                     return false;
                 }
-                let Some(steps) = self.steps.checked_sub(1) else {
-                    self.course = Course::Stopped;
-                    return true;
-                };
-                self.steps = steps;
-                false
+                self.course = Course::Stopped;
+                true
             }
         }
     }
@@ -235,11 +259,8 @@ impl<S: Sink> Sink for Pausing<S> {
                 }
                 let passed = self.before().min(count);
                 match self.come_to(passed) {
-                    Ok(()) => {}
+                    Ok(()) => self.come_past(),
                     Err(_) => return 0,
-                }
-                if self.is_back() {
-                    self.course = Course::Onward;
                 }
                 passed
             }

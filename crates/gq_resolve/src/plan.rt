@@ -1,7 +1,8 @@
 //! Plans, as what is executed.
-ghost use Rattle.std.specs.Prelude.{length};
+ghost use Rattle.std.specs.Prelude.{None, length};
 ghost use Rattle.gq_check.specs.Plans.{plan_of};
 ghost use Rattle.gq_resolve.specs.Answered.{answer_text};
+ghost use Rattle.gq_resolve.specs.StepsLeft.{steps_left};
 ghost use Rattle.gq_resolve.specs.Suspended.{FitsMemory};
 ghost use Rattle.plan_program.specs.PlanPrograms.{plan_program};
 
@@ -21,6 +22,8 @@ impl Execute<RootState> for Plan {
     ghost loaders = { λ plan. length (plan_of plan).bindings.loaders };
 
     ghost fits = { λ plan state m. FitsMemory (plan_of plan) state m };
+
+    ghost left = { λ plan state m. steps_left (plan_of plan) None state m };
 
     fn start(&self) -> RootState {
         RootState::new(self)
@@ -42,7 +45,7 @@ impl Execute<RootState> for Plan {
         alloc: Global,
         memory: &Memory,
         steps: usize,
-    ) -> Result<bool, AllocError> {
+    ) -> Result<Option<usize>, AllocError> {
         progress.work_ahead(alloc, self, memory, None, steps)
     }
 }

@@ -4,13 +4,15 @@ ghost use Rattle.std.specs.Prelude.{◌≡◌, ◌≤◌, IfOk, IfSome, OnOk, le
 ghost use Rattle.load_memory.specs.Pairs.{MemoryOf};
 ghost use Rattle.execution.specs.Work.{IsLeft};
 ghost use Rattle.gq_check.specs.Plans.{IsSameBut, plan_of};
+ghost use Rattle.gq_resolve.specs.StepsLeft.{CountsAhead};
 ghost use Rattle.gq_resolve.specs.Suspended.{FitsMemory};
 ghost use Rattle.gq_resolve.specs.WorkLeft.{plan_work};
 
 use crate::advance::{RootObject, prepare_root};
 use crate::most_groups::{most_ahead_of, most_groups_of};
 use crate::root_state::RootState;
-use crate::work::work_left;
+use crate::work::{root_of, work_left};
+use execution::Counted;
 use gq_check::Plan;
 use load_memory::Memory;
 use plan_program::agrees_on_directives;
@@ -142,17 +144,37 @@ impl PreparedPlan {
             memory,
             most: most_groups_of(&self.plan),
         };
-        let rooted = match &self.rooted {
-            Some(rooted) => rooted.copy()?,
-            None => prepare_root(&walk)?,
-        };
+        let rooted = root_of(&walk, &self.rooted)?;
         work_left(&walk, rooted, most)
+    }
+
+    /// Does what [`work_left`](PreparedPlan::work_left) does in steps, with a count that the progress keeps.
+    pub(crate) fn count_ahead(
+        &self,
+        progress: &mut RootState,
+        alloc: Global,
+        memory: &Memory,
+        most: usize,
+        steps: usize,
+    ) -> Result<Option<Counted>, AllocError>
+        requires { length (plan_of self.now).bindings.loaders ≤ length memory.now.modes }
+        ensures { IfOk result
+            (CountsAhead (plan_of self.now) memory.now most steps progress.old progress.new) }
+    {
+        let walk = Walk {
+            alloc,
+            plan: &self.plan,
+            memory,
+            most: most_groups_of(&self.plan),
+        };
+        progress.count_ahead(&walk, &self.rooted, most, steps)
     }
 
     // Begins an execution with a copy of what was prepared, where nothing of it is done yet.
     pub(crate) fn begin(&self, progress: &mut RootState) -> Result<(), AllocError>
-        ensures { OnOk result ((m : MemoryOf) → FitsMemory (plan_of self.now) progress.old m
+        ensures fits { OnOk result ((m : MemoryOf) → FitsMemory (plan_of self.now) progress.old m
             → FitsMemory (plan_of self.now) progress.new m) }
+        ensures others { progress.new ≡ record progress.old { stopped = progress.new.stopped } }
     {
         match &self.rooted {
             Some(rooted) => progress.begin_prepared(rooted),

@@ -1,12 +1,13 @@
 //! The execution of a plan that is polled, and goes on where it stopped.
 
-ghost use Rattle.std.specs.Prelude.{◌≡◌, length, None, IfOk, IfSome, OnOk, OnErr};
+ghost use Rattle.std.specs.Prelude.{◌≡◌, ◌≤◌, length, None, IfOk, IfSome, OnOk, OnErr};
 ghost use Rattle.load_memory.specs.Pairs.{MemoryOf};
 ghost use Rattle.execution.specs.Executes.{CanExecute, IsExecuted, GrowsTo};
 ghost use Rattle.gq_check.specs.Plans.{PlanOf, plan_of};
 ghost use Rattle.plan_program.specs.PlanPrograms.{plan_program};
 ghost use Rattle.gq_resolve.specs.Evaluated.{missing_over, AddsPart};
 ghost use Rattle.gq_resolve.specs.Suspended.{FitsMemory, IsFinished, IsRooted, plan_on};
+ghost use Rattle.gq_resolve.specs.StepsLeft.{WorksAhead, CountsAhead};
 ghost use Rattle.gq_resolve.specs.Within.{text_within};
 
 use crate::advance::{FinishedWalk, RootObject, Suspension, advance};
@@ -15,7 +16,8 @@ use crate::limited::whole_text;
 use crate::most_groups::most_groups_of;
 use crate::output::NO_LIMIT;
 use crate::wanting::add_wants;
-use execution::ExecutionResult;
+use crate::work::{WorkCount, root_of};
+use execution::{Counted, ExecutionResult};
 use futures::task::Poll;
 use gq_check::Plan;
 use load_memory::Memory;
@@ -37,6 +39,8 @@ pub struct RootState {
     stopped: Option<Suspension>,
     /// The answer, where it is written ahead.
     ahead: Option<Box<AnswerAhead>>,
+    /// The count of the work over the memory, where it is made ahead.
+    count: Option<Box<WorkCount>>,
 }
 
 impl Drop for RootState {
@@ -45,6 +49,7 @@ impl Drop for RootState {
             most: _,
             stopped: _stopped,
             ahead: _ahead,
+            count: _count,
         } = self;
     }
 }
@@ -59,13 +64,15 @@ impl RootState {
             most: most_groups_of(plan),
             stopped: None,
             ahead: None,
+            count: None,
         }
     }
 
     /// Begins with a copy of what was prepared of the plan, where nothing is done yet.
     pub(crate) fn begin_prepared(&mut self, prepared: &RootObject) -> Result<(), AllocError>
-        ensures { (plan : PlanOf) → OnOk result (IsRooted plan prepared.now → (m : MemoryOf)
+        ensures fits { (plan : PlanOf) → OnOk result (IsRooted plan prepared.now → (m : MemoryOf)
             → FitsMemory plan self.old m → FitsMemory plan self.new m) }
+        ensures others { self.new ≡ record self.old { stopped = self.new.stopped } }
     {
         if self.stopped.is_none() && self.ahead.is_none() {
             let rooted = prepared.copy()?;
@@ -111,6 +118,7 @@ impl RootState {
             memory,
             most: self.most,
         };
+        self.count = None;
         if self.ahead.is_some() {
             if let Some(result) = self.finish_ahead(&walk, most)? {
                 return Ok(Poll::Ready(result));
@@ -119,7 +127,7 @@ impl RootState {
         let mut walked = advance(&walk, most.unwrap_or(NO_LIMIT), self.stopped.take())?;
         if walked.out.blocked.is_empty() {
             let loads = walked.out.loads;
-            let text = whole_text(alloc, &mut walked.out.text, most)?;
+            let text = whole_text(alloc, walked.out.text.finish()?, most)?;
             return Ok(Poll::Ready(ExecutionResult { text, loads }));
         }
         let out = walked.out;
@@ -143,16 +151,16 @@ impl RootState {
         let Some(ahead) = self.ahead.take() else {
             return Ok(None);
         };
-        let Some(mut whole) = Box::into_inner(ahead).finish(walk, most)? else {
+        let Some(whole) = Box::into_inner(ahead).finish(walk, most)? else {
             return Ok(None);
         };
-        let loads = whole.out.loads;
-        let text = whole_text(walk.alloc, &mut whole.out.text, most)?;
+        let loads = whole.loads;
+        let text = whole_text(walk.alloc, whole.text.finish()?, most)?;
         Ok(Some(ExecutionResult { text, loads }))
     }
 
-    /// Works ahead: looks for what is missing, and where nothing is, writes so many fields and items of the answer at most. Returns true
-    /// once nothing is left of that.
+    /// Works ahead: looks for what is missing, and where nothing is, writes so many fields and items of the answer at most, or one. Returns
+    /// how many of the steps weren't needed once nothing is left of that.
     ///
     /// # Errors
     ///
@@ -164,9 +172,9 @@ impl RootState {
         memory: &Memory,
         most: Option<usize>,
         steps: usize,
-    ) -> Result<bool, AllocError>
-        ensures { OnOk result ((m : MemoryOf) → FitsMemory (plan_of plan.now) self.old memory.now
-            → GrowsTo memory.now m → FitsMemory (plan_of plan.now) self.new m) }
+    ) -> Result<Option<usize>, AllocError>
+        ensures { IfOk result
+            (WorksAhead (plan_of plan.now) memory.now most steps self.old self.new) }
     {
         let walk = Walk {
             alloc,
@@ -175,22 +183,52 @@ impl RootState {
             most: self.most,
         };
         let ahead = match self.ahead.take() {
-            Some(ahead) => Box::into_inner(ahead).go_on(&walk, steps)?,
+            Some(ahead) => Box::into_inner(ahead),
             None => {
                 let FinishedWalk { rooted, out } = search(&walk, self.stopped.take())?;
                 if !out.blocked.is_empty() {
                     let waiting = out.blocked;
                     self.stopped = Some(Suspension { rooted, waiting });
-                    return Ok(true);
+                    return Ok(Some(steps));
                 }
-                AnswerAhead::begin(&walk, most, rooted, steps)?
+                AnswerAhead::new(alloc, rooted, most)
             }
         };
-        let Some(ahead) = ahead else {
-            return Ok(true);
+        let before = ahead.walked.taken;
+        let ahead = ahead.go_on(&walk, steps.max(1))?;
+        let rest = ahead.walked.steps_over(before, steps);
+        let over = if ahead.walked.is_whole() {
+            Some(rest)
+        } else {
+            None
         };
-        let is_whole = ahead.is_whole();
         self.ahead = Some(Box::new(alloc, ahead)?);
-        Ok(is_whole)
+        Ok(over)
+    }
+
+    /// Goes on with the count of the work over the memory, for so many positions at most, or one. A count begins at a copy of the root that
+    /// was prepared. Returns what the work leaves of `most`, and how many of the steps weren't needed, once the count is done.
+    ///
+    /// # Errors
+    ///
+    /// Only when out of memory. The count begins anew then.
+    pub fn count_ahead(
+        &mut self,
+        walk: &Walk<'_>,
+        prepared: &Option<RootObject>,
+        most: usize,
+        steps: usize,
+    ) -> Result<Option<Counted>, AllocError>
+        requires { length (plan_on walk.now).bindings.loaders ≤ length walk.now.memory.now.modes }
+        ensures { IfSome prepared.now (IsRooted (plan_on walk.now)) → IfOk result
+            (CountsAhead (plan_on walk.now) walk.now.memory.now most steps self.old self.new) }
+    {
+        let count = match self.count.take() {
+            Some(count) => Box::into_inner(count),
+            None => WorkCount::new(walk.alloc, root_of(walk, prepared)?),
+        };
+        let (count, counted) = count.go_on(walk, most, steps)?;
+        self.count = Some(Box::new(walk.alloc, count)?);
+        Ok(counted)
     }
 }

@@ -20,7 +20,7 @@ use Rattle.load_rounds.specs.Reading.{KeysOf}
 use Rattle.load_rounds.specs.SharedRounds.{report_of}
 use Rattle.load_rounds.specs.declared.answer.Answer.{Answer}
 use Rattle.plan_requests.specs.Servers.{ServerOf}
-use Rattle.rounds_by_hand.specs.Hands.{FarOf, can_advance, handed, pending_in}
+use Rattle.rounds_by_hand.specs.Hands.{FarOf, IsReady, can_advance, handed, ready, out, over, pending_in}
 use Rattle.rounds_by_hand.specs.Pending.{MayReply, TakesReply, RefusesReply, is_in_at, order_in}
 use Rattle.rounds_by_hand.specs.declared.fault.TakeFault.{TakeFault}
 use Rattle.rounds_by_hand.specs.declared.fault.TakeFault.TheVariants as take
@@ -28,7 +28,7 @@ use Rattle.rounds_by_hand.specs.declared.handed_in.HandedIn.{HandedIn}
 use Rattle.rounds_by_hand.specs.declared.pending.Pending.{Pending}
 use Rattle.rounds_by_hand.specs.declared.pending.Pending.TheVariants.{In, Out}
 use Rattle.rounds_by_hand.specs.declared.progress.Progress.{Progress}
-use Rattle.rounds_by_hand.specs.declared.progress.Progress.TheVariants.{Done, Round, Waiting, Over}
+use Rattle.rounds_by_hand.specs.declared.progress.Progress.TheVariants.{Done, Round, Working, Waiting, Over}
 use Rattle.server.specs.Clients.{ClientOf, IsClientCall, IsSameClient, client_of}
 use Rattle.server.specs.Hands.{ByHandOf, GivesUp, GoesOn, IsUnderway, Responds, StoresReplies, by_hand_of}
 use Rattle.server.specs.LoadsByHand.{LoadByHandOf, ClientLoads, ClientStopsLoad, ClientStores, LoadGoesOn, load_by_hand_of}
@@ -68,6 +68,13 @@ pub holds-loading : (old new : LoadByHandOf HandedIn) (before orders : List Orde
     → HoldsLoading old before → HoldsLoading new orders
 holds-loading old new before orders goes same are h =
     holds-after old.client.server new.client.server old.far new.far before orders same.server (λ c. goes c.session) (λ c is. is) are h
+
+-- where steps are left no order is out
+pub none-out : {P E : Type 0} (far : FarOf P E) → IsReady far → [] ≡ map order_in (pending_in far)
+none-out handed is = absurd is
+none-out (ready run) is = refl
+none-out (out run pending) is = absurd is
+none-out over is = absurd is
 
 -- what holds of what is begun
 pub holds-begun : (hand : ByHandOf HandedIn) (c : ClientOf HandedIn) (server : ServerOf) (planned : PlannedOf) (asked : HostAsked) (orders : List OrderOf) → hand ≡ by_hand_of c planned handed
@@ -138,7 +145,7 @@ module _ (u : UnderWayOf) (new : ByHandOf HandedIn) (same : IsSameClient u.hand.
 module _ (l new : LoadByHandOf HandedIn) (keys : new.keys ≡ l.keys) (same : IsSameClient l.client new.client) (c : ClientOf HandedIn) (is : c ≡ new.client) where
   pub loads-it : (outcomes : Vec Outcome) (asked : KeysOf) → asked ≡ l.keys → (flat : List OutcomeOf) → flat ≡ map outcome_of outcomes.items → can_advance l.far ≡ true → ClientStores l new.client
       → ClientLoads any_tell l new (Done outcomes) → GoesOnWith (Loading l) (Loaded (record { client = c; asked = asked; outcomes = flat })) (Ok (Done tt))
-  loads-it outcomes asked asks flat are ready stored loads = rw (is, asks, are) (record { same = same; stored = stored }, record { ready = ready; asked_is = refl; loads = loads })
+  loads-it outcomes asked asks flat are can stored loads = rw (is, asks, are) (record { same = same; stored = stored }, record { ready = can; asked_is = refl; loads = loads })
 
   pub gives-up-load : LoadGoesOn any_tell l new → ClientStopsLoad any_tell new c → IsGivenUp (Loading l) (Idle c)
   gives-up-load goes stops = (
@@ -164,6 +171,7 @@ stops u v new same kept left =
 pub can-end : (u v : UnderWayOf) (did : Result (Progress Answer) AllocError) → StepsOn u v did → CanEnd did (Asked v)
 can-end u v (Ok (Done answer)) steps = steps.0
 can-end u v (Ok Round) steps = tt
+can-end u v (Ok Working) steps = tt
 can-end u v (Ok Waiting) steps = tt
 can-end u v (Ok Over) steps = tt
 can-end u v (Err e) steps = tt
@@ -172,6 +180,7 @@ pub steps-on : (u v : UnderWayOf) (did : Result (Progress Answer) AllocError) (n
     → GoesOnWith (Asked u) new result
 steps-on u v (Ok (Done answer)) new result steps ends = rw (ends.0, ends.1) steps.1
 steps-on u v (Ok Round) new result steps ends = rw (ends.0, ends.1) steps
+steps-on u v (Ok Working) new result steps ends = rw (ends.0, ends.1) steps
 steps-on u v (Ok Waiting) new result steps ends = rw (ends.0, ends.1) steps
 steps-on u v (Ok Over) new result steps ends = let gone = stops u v new steps.0 steps.1 ends.0 in rw ends.1 (gone, steps.2)
 steps-on u v (Err e) new result steps ends = let gone = stops u v new steps.0 steps.1 ends.0 in rw ends.1 (gone, refl)
@@ -208,10 +217,10 @@ module _ (old new : List Pending) (number : ℕ) (reply : Result (Vec Item) Fetc
   -- the orders are those of before, or none where memory ran out
   pub orders-are : {H : Type 0} (was now : H) (IsOver : Type 0) (r : Result (Unit {0}) TakeFault) (orders : List OrderOf) → orders ≡ map order_in old → OnOk r (TakesReply old number reply new)
       → RefusesReply old number was now IsOver r → (now ≡ was → new ≡ old) → (IsOver → new ≡ []) → orders_after r orders ≡ map order_in new
-  orders-are was now IsOver (Ok done) orders are takes refuses same over = are ∙ sym (orders-kept old new number reply takes)
-  orders-are was now IsOver (Err take.NoSuchOrder) orders are takes refuses same over = are ∙ ap (map order_in) (sym (same (refuses.none refl)))
-  orders-are was now IsOver (Err take.Replied) orders are takes refuses same over = are ∙ ap (map order_in) (sym (same (refuses.kept refl)))
-  orders-are was now IsOver (Err take.NoMemory) orders are takes refuses same over = ap (map order_in) (sym (over (refuses.over refl)))
+  orders-are was now IsOver (Ok done) orders are takes refuses same ends = are ∙ sym (orders-kept old new number reply takes)
+  orders-are was now IsOver (Err take.NoSuchOrder) orders are takes refuses same ends = are ∙ ap (map order_in) (sym (same (refuses.none refl)))
+  orders-are was now IsOver (Err take.Replied) orders are takes refuses same ends = are ∙ ap (map order_in) (sym (same (refuses.kept refl)))
+  orders-are was now IsOver (Err take.NoMemory) orders are takes refuses same ends = ap (map order_in) (sym (ends (refuses.over refl)))
 
 -- an order waits at whose reply memory runs out
 pub waits-at : (pending : List Pending) (number : ℕ) (r : Result (Unit {0}) TakeFault) → r ≡ Err take.NoMemory → (r ≡ Err take.NoSuchOrder) ↔ (length pending ≤ number)
@@ -223,12 +232,12 @@ waits-at pending number r is none replied =
 pub takes-it : {H O : Type 0} (client : H → HostClient) (was now : H) (number : ℕ) (reply : Result (Vec Item) FetchFault) (r : Result (Unit {0}) TakeFault)
     → RefusesReply (pending_of (client was)) number was now O r → OnOk r (TakesReply (pending_of (client was)) number reply (pending_of (client now))) → IsSameWork (client was) (client now)
     → client_in (client now) ≡ client_in (client was) → (O → IsStopped (client now)) → Takes number reply (client was) (client now) r
-takes-it client was now number reply (Ok done) refuses takes same is over = record { goes_on = same; client_is = is; takes = takes }
-takes-it client was now number reply (Err take.NoSuchOrder) refuses takes same is over = (ap client (refuses.none refl), refuses.no_order.0 refl)
-takes-it client was now number reply (Err take.Replied) refuses takes same is over = (ap client (refuses.kept refl), refuses.replied.0 refl)
-takes-it client was now number reply (Err take.NoMemory) refuses takes same is over = record {
+takes-it client was now number reply (Ok done) refuses takes same is ends = record { goes_on = same; client_is = is; takes = takes }
+takes-it client was now number reply (Err take.NoSuchOrder) refuses takes same is ends = (ap client (refuses.none refl), refuses.no_order.0 refl)
+takes-it client was now number reply (Err take.Replied) refuses takes same is ends = (ap client (refuses.kept refl), refuses.replied.0 refl)
+takes-it client was now number reply (Err take.NoMemory) refuses takes same is ends = record {
   goes_on = same;
   client_is = is;
   waited = waits-at (pending_of (client was)) number (Err take.NoMemory) refl refuses.no_order refuses.replied;
-  is_over = over (refuses.over refl);
+  is_over = ends (refuses.over refl);
 }

@@ -11,16 +11,16 @@ use Rattle.flat_orders.specs.Orders.{keys_of}
 use Rattle.load_rounds.specs.Histories.{Loading as LoadingCall, any_tell}
 use Rattle.load_rounds.specs.Reading.{KeysOf}
 use Rattle.load_rounds.specs.declared.answer.Answer.{Answer}
-use Rattle.rounds_by_hand.specs.Hands.{handed, can_advance, pending_in, IsNewRound, IsWaiting, IsOver}
+use Rattle.rounds_by_hand.specs.Hands.{handed, can_advance, pending_in, IsNewRound, IsReady, IsWaiting, IsOver}
 use Rattle.rounds_by_hand.specs.Pending.{TakesReply as TakesReplyAt, is_in_at, order_in}
 use Rattle.rounds_by_hand.specs.declared.fault.TakeFault.{TakeFault}
 use Rattle.rounds_by_hand.specs.declared.fault.TakeFault.TheVariants as take
 use Rattle.rounds_by_hand.specs.declared.pending.Pending.{Pending}
 use Rattle.rounds_by_hand.specs.declared.progress.Progress.{Progress}
-use Rattle.rounds_by_hand.specs.declared.progress.Progress.TheVariants.{Done, Round, Waiting, Over}
+use Rattle.rounds_by_hand.specs.declared.progress.Progress.TheVariants.{Done, Round, Working, Waiting, Over}
 use Rattle.plan_requests.specs.Servers.{ServerOf}
 use Rattle.server.specs.Clients.{ClientOf, IsClientCall, IsSameClient}
-use Rattle.server.specs.Hands.{IsUnderway, GoesOn, GivesUp, StoresReplies}
+use Rattle.server.specs.Hands.{IsUnderway, GoesOn, GivesUp, Nears, StoresReplies}
 use Rattle.server.specs.LoadsByHand.{LoadByHandOf, ClientStopsLoad, ClientStores, IsLoadUnderway, LoadGoesOn, load_by_hand_of}
 use Rattle.rounds_by_hand.specs.declared.handed_in.HandedIn.{HandedIn}
 use Rattle.host_clients.specs.Asked.{HostAsked, PlansHost, AnswersHost}
@@ -164,6 +164,13 @@ MakesRound (Asked u) (Asked v) = IsSameRequest u v × IsNewRound v.hand.far
 MakesRound (Loading l) (Loading m) = (l.far ≡ handed) × IsSameLoad l m × IsNewRound m.far
 MakesRound old new = ⊥
 
+-- Steps are left, and no order is out. The client has a limit on steps. Where some were left before, fewer are now, so that such calls in a row
+-- come to an end. Keys that are loaded leave none.
+abbrev pub LeavesSteps : HostClient → HostClient → Type 0
+LeavesSteps (Asked u) (Asked v) = IsSameRequest u v × IsReady v.hand.far
+    × Nears u.hand v.hand Working
+LeavesSteps old new = ⊥
+
 -- the server and the limits stay, and the replies are stored
 pub record Stores (old new : HostClient) : Type 0 where
   pub same : IsSameClient (client_in old) (client_in new)
@@ -173,6 +180,7 @@ pub record Stores (old new : HostClient) : Type 0 where
 abbrev pub GoesOnWith : HostClient → HostClient → Result (Progress (Unit {0})) Fault → Type 0
 GoesOnWith old new (Ok (Done done)) = Stores old new × Finishes old new
 GoesOnWith old new (Ok Round) = Stores old new × MakesRound old new
+GoesOnWith old new (Ok Working) = Stores old new × LeavesSteps old new
 GoesOnWith old new (Ok Waiting) = Waits old × (new ≡ old)
 GoesOnWith old new (Ok Over) = IsGivenUp old new × IsStopped old
 GoesOnWith old new (Err e) = IsGivenUp old new × (e ≡ fault.NoMemory)
@@ -219,6 +227,7 @@ abbrev pub StepsOn : UnderWayOf → UnderWayOf → Result (Progress Answer) Allo
 StepsOn u v (Ok (Done answer)) = IsAnswered v answer
     × GoesOnWith (Asked u) (Answered (answered_by v answer)) (Ok (Done tt))
 StepsOn u v (Ok Round) = GoesOnWith (Asked u) (Asked v) (Ok Round)
+StepsOn u v (Ok Working) = GoesOnWith (Asked u) (Asked v) (Ok Working)
 StepsOn u v (Ok Waiting) = GoesOnWith (Asked u) (Asked v) (Ok Waiting)
 StepsOn u v (Ok Over) = IsSameRequest u v × IsSameClient u.hand.client v.hand.client
     × IsStopped (Asked u)
@@ -238,6 +247,7 @@ abbrev pub Ends : Result (Progress Answer) AllocError → HostClient
     → HostClient → Result (Progress (Unit {0})) Fault → Type 0
 Ends (Ok (Done answer)) old new result = (new ≡ answered_with old answer) × (result ≡ Ok (Done tt))
 Ends (Ok Round) old new result = (new ≡ old) × (result ≡ Ok Round)
+Ends (Ok Working) old new result = (new ≡ old) × (result ≡ Ok Working)
 Ends (Ok Waiting) old new result = (new ≡ old) × (result ≡ Ok Waiting)
 Ends (Ok Over) old new result = Settles old new × (result ≡ Ok Over)
 Ends (Err e) old new result = Settles old new × (result ≡ Err fault.NoMemory)
@@ -249,9 +259,10 @@ LoadsOn old new result = Unit {0}
 
 -- ---- replies
 
--- a step that makes a round puts its orders in place of those of the round before
+-- a step that makes a round puts its orders in place of those of the round before; where steps are left, none are out
 abbrev pub orders_then : {T : Type 0} → Progress T → List OrderOf → List OrderOf → List OrderOf
 orders_then Round made orders = made
+orders_then Working made orders = []
 orders_then did made orders = orders
 
 -- where memory ran out no orders are out any more

@@ -66,3 +66,7 @@ LimitsWork most c d = d ≡ client_of c.server c.most (record c.limits { work = 
 -- at most `most` rounds may be made for what is asked together from now on
 abbrev pub LimitsRounds : Option ℕ → ClientOf HandedIn → ClientOf HandedIn → Type 0
 LimitsRounds most c d = d ≡ client_of c.server c.most (record c.limits { rounds = most }) c.session
+
+-- a call to go on takes at most `steps` steps from now on
+abbrev pub LimitsSteps : Option ℕ → ClientOf HandedIn → ClientOf HandedIn → Type 0
+LimitsSteps steps c d = d ≡ client_of c.server c.most (record c.limits { steps = steps }) c.session

@@ -210,8 +210,10 @@ impl HostClient {
         Ok(())
     }
 
-    /// Goes on: stores the round that is out, if each of its orders has a reply, and answers, gives the outcomes or makes the next round. It is
-    /// over where memory ran out before: then it is given up, and the finished rounds stay known.
+    /// Goes on: stores the round that is out, if each of its orders has a reply, and answers, gives the outcomes or makes the next round. Once
+    /// it has taken as many steps of a request as the client's limit has ([`limit_steps`](HostClient::limit_steps)) and some are left, it
+    /// returns [`Progress::Working`]: nothing is asked, and it is to be called again. Such calls in a row come to an end. It is over where
+    /// memory ran out before: then it is given up, and the finished rounds stay known.
     ///
     /// # Errors
     ///
@@ -241,6 +243,7 @@ impl HostClient {
                 Ok(Progress::Done(()))
             }
             Ok(Progress::Round) => Ok(Progress::Round),
+            Ok(Progress::Working) => Ok(Progress::Working),
             Ok(Progress::Waiting) => Ok(Progress::Waiting),
             Ok(Progress::Over) => {
                 self.settle();

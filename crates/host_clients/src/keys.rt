@@ -6,7 +6,7 @@ ghost use Rattle.load_rounds.specs.Histories.{ClearingAll};
 ghost use Rattle.server.specs.Clients.{begun};
 ghost use Rattle.host_clients.specs.Clients.{LacksLoader, client_in, is_busy, width_in};
 ghost use Rattle.host_clients.specs.Known.{Calls, Clears, Forgets, KeepsOrForgets, OnClient, Primes, PrimesSaid, items_in, key_in};
-ghost use Rattle.host_clients.specs.Known.{LimitsAnswers, LimitsRounds, LimitsWork};
+ghost use Rattle.host_clients.specs.Known.{LimitsAnswers, LimitsRounds, LimitsSteps, LimitsWork};
 ghost use Rattle.host_clients.specs.Laid.{AreKeyTexts, KeyFault, laid_reply, texts_at};
 ghost use Rattle.host_clients.specs.Logs.{AreBatches, LogHolds};
 ghost use Rattle.host_clients.specs.Refused.{BeginFault, BusyFault, ClearFault, KnownFault, LoaderFault, PrimeFault};
@@ -258,6 +258,24 @@ impl HostClient {
             (BusyFault self.old) }
     {
         self.idle_mut()?.limit_rounds(most);
+        Ok(())
+    }
+
+    /// From now on a call of [`advance`](HostClient::advance) takes at most `steps` steps of a request, and at least one; `None` is no limit.
+    /// A step is a position that is counted, or a field or item that is written. Keys that are loaded have no limit.
+    ///
+    /// # Errors
+    ///
+    /// [`Busy`](Fault::Busy).
+    pub fn limit_steps(&mut self, steps: Option<usize>) -> Result<(), Fault>
+        ensures limited { OnOk result (OnClient (LimitsSteps steps) self.old self.new) }
+        ensures kept { OnErr result (self.new ≡ self.old) }
+        ensures busy { is_busy self.old ≡ true
+            → self.new ≡ self.old }
+        ensures fault { IfErr result
+            (BusyFault self.old) }
+    {
+        self.idle_mut()?.limit_steps(steps);
         Ok(())
     }
 

@@ -117,6 +117,7 @@ impl LoadUnderWay {
                 let loading = LoadUnderWay { hand, orders };
                 (HostClient::Loading(loading), Ok(Progress::Waiting))
             }
+            Ok(Progress::Working) => unreachable!(),
             Ok(Progress::Over) => (HostClient::Idle(idle_of(hand, orders)), Ok(Progress::Over)),
             Err(_) => (
                 HostClient::Idle(idle_of(hand, orders)),

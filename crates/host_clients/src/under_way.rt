@@ -89,7 +89,8 @@ pub(crate) fn write_orders(orders: &mut FlatOrders, pending: &[Pending]) -> Resu
     Ok(())
 }
 
-/// Says what came of a step. The orders of a round that is out since then are written, to be copied out.
+/// Says what came of a step. The orders of a round that is out since then are written, to be copied out. Where steps are left, those of the
+/// round before are gone.
 pub(crate) fn stepped<T>(
     did: Result<Progress<T>, AllocError>,
     orders: &mut FlatOrders,
@@ -103,6 +104,10 @@ pub(crate) fn stepped<T>(
         Progress::Round => {
             write_orders(orders, pending)?;
             Ok(Progress::Round)
+        }
+        Progress::Working => {
+            orders.clear();
+            Ok(Progress::Working)
         }
         did => Ok(did),
     }
@@ -152,7 +157,7 @@ impl UnderWay {
         }
     }
 
-    /// Goes on: stores the round that is out, if each of its orders has a reply, and answers or makes the next round.
+    /// Goes on: stores the round that is out, if each of its orders has a reply, and answers or makes the next round, unless steps are left.
     ///
     /// # Errors
     ///
@@ -162,6 +167,7 @@ impl UnderWay {
     {
         match stepped(self.hand.advance(), &mut self.orders, self.hand.orders()) {
             Ok(Progress::Round) => Ok(Progress::Round),
+            Ok(Progress::Working) => Ok(Progress::Working),
             Ok(Progress::Waiting) => Ok(Progress::Waiting),
             Ok(Progress::Done(answer)) => {
                 give_up(&mut self.hand, &mut self.orders);

@@ -231,28 +231,28 @@ unreported-is None b e f = refl
 unreported-is (Some a) b e f = absurd (cc (sym e ∙ f))
 
 module _ {P E : Type 0} (program : P → Program) (text_of : P → AnsweredOf → List ℕ) (loaders : P → ℕ) (fits : P → E → MemoryOf → Type 0) (rounds : ℕ) (m : MemoryOf) (plan : P) where
-  -- an answer stays
-  pub part-kept : (progress : E) (report : Option ReportOf) → is_some report ≡ true → FitsPart program text_of loaders fits plan progress report m
-      → GoesOn program text_of loaders fits rounds m (record { plan = plan; progress = progress; report = report }) (record { plan = plan; progress = progress; report = report })
-  part-kept progress None there fit = absurd (cc there)
-  part-kept progress (Some report) there fit = record {
+  -- an answer stays, with a progress that fits any memory
+  pub part-kept : (before progress : E) (report : Option ReportOf) → is_some report ≡ true → ((later : MemoryOf) → fits plan progress later) → FitsPart program text_of loaders fits plan before report m
+      → GoesOn program text_of loaders fits rounds m (record { plan = plan; progress = before; report = report }) (record { plan = plan; progress = progress; report = report })
+  part-kept before progress None there begun fit = absurd (cc there)
+  part-kept before progress (Some report) there begun fit = record {
     same = refl;
-    report = (fit.complete, inl refl);
-    fitting = λ later grown. done-later (loaders plan) (request_of (program plan) (text_of plan)) m later report fit grown;
-    within = fit.within;
+    report = (fit.0.complete, inl refl);
+    fitting = λ later grown. (done-later (loaders plan) (request_of (program plan) (text_of plan)) m later report fit.0 grown, begun later);
+    within = fit.0.within;
   }
 
   pub part-front : (progress : E) (report : Option ReportOf) → is_some report ≡ true → FitsPart program text_of loaders fits plan progress report m → front m.modes (program plan) (look m.pairs) ≡ []
   part-front progress None there fit = absurd (cc there)
-  part-front progress (Some report) there fit = fit.complete
+  part-front progress (Some report) there fit = fit.0.complete
 
   -- nothing is missing for it any more
-  pub part-ready : (before progress : E) (old : Option ReportOf) (report : ReportOf) → old ≡ None → report.rounds ≡ rounds → front m.modes (program plan) (look m.pairs) ≡ [] → IsTextOf (text_of plan) (program plan) (read m.modes (look m.pairs)) report.text → report.loads ≡ counted (count_read (program plan) (read m.modes (look m.pairs))) → HasLoaders (loaders plan) (program plan)
+  pub part-ready : (before progress : E) (old : Option ReportOf) (report : ReportOf) → old ≡ None → report.rounds ≡ rounds → front m.modes (program plan) (look m.pairs) ≡ [] → IsTextOf (text_of plan) (program plan) (read m.modes (look m.pairs)) report.text → report.loads ≡ counted (count_read (program plan) (read m.modes (look m.pairs))) → ((later : MemoryOf) → GrowsTo m later → fits plan progress later) → HasLoaders (loaders plan) (program plan)
       → GoesOn program text_of loaders fits rounds m (record { plan = plan; progress = before; report = old }) (record { plan = plan; progress = progress; report = Some report })
-  part-ready before progress old report none count complete answered loads within = record {
+  part-ready before progress old report none count complete answered loads fitting within = record {
     same = refl;
     report = (complete, inr (none, count));
-    fitting = λ later grown. done-later (loaders plan) (request_of (program plan) (text_of plan)) m later report (record { complete = complete; answered = answered; within = within; loads = loads }) grown;
+    fitting = λ later grown. (done-later (loaders plan) (request_of (program plan) (text_of plan)) m later report (record { complete = complete; answered = answered; within = within; loads = loads }) grown, fitting later grown);
     within = within;
   }
 
@@ -261,9 +261,9 @@ module _ {P E : Type 0} (program : P → Program) (text_of : P → AnsweredOf �
       → GoesOn program text_of loaders fits rounds m (record { plan = plan; progress = before; report = old }) (record { plan = plan; progress = progress; report = old })
   part-waits before progress old none lacks fitting within = rw none (record { same = refl; report = (lacks, refl); fitting = fitting; within = within })
 
-  pub part-fits : (progress : E) (report : Option ReportOf) → report ≡ None → FitsPart program text_of loaders fits plan progress report m → fits plan progress m
-  part-fits progress None none fit = fit
-  part-fits progress (Some report) none fit = absurd (cc none)
+  pub part-fits : (progress : E) (report : Option ReportOf) → FitsPart program text_of loaders fits plan progress report m → fits plan progress m
+  part-fits progress None fit = fit
+  part-fits progress (Some report) fit = fit.1
 
 -- one more has begun, of which nothing is done
 module _ {P E : Type 0} (program : P → Program) (text_of : P → AnsweredOf → List ℕ) (loaders : P → ℕ) (fits : P → E → MemoryOf → Type 0) where

@@ -1,4 +1,4 @@
-pub mod Ahead
+pub mod WorkingAhead
 pub mod Advancing
 pub mod Cutting
 pub mod Following

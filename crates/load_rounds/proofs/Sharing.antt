@@ -133,11 +133,11 @@ module _ {P E : Type 0} (program : P → Program) where
           let same : session_modes (state_of s) ≡ session_modes old = ap modes_of kept in
           let own = own-chain (may_at may old.loaders) rules ListOf all (program r) limited within-rules among M0 log (look s.pairs) made.rounds in (
             record {
-              answered = rw same at done.answered;
+              answered = rw same at done.0.answered;
               counted = counted;
               chained = omega (arith, own, counted);
               fewest = λ Ns run. omega (arith, counted, own-sparing (may_at may old.loaders) rules ListOf all (program r) limited within-rules among M0 log (look s.pairs) Ns made.rounds run);
-              loads = rw same at done.loads;
+              loads = rw same at done.0.loads;
             },
             tt,
           )

@@ -43,7 +43,7 @@ module _ {P E : Type 0} (program : P → Program) (text_of : P → AnsweredOf �
       go : (t : Option ReportOf) → is_none t ≡ false → FitsPart program text_of loaders fits y.plan y.progress t m → AreTexts (requests program text_of (plans_in ys)) (read m.modes (look m.pairs)) (reports_in ys)
           → AreTexts (requests program text_of (plans_in (y ∷ ys))) (read m.modes (look m.pairs)) (given_to t ++ reports_in ys)
       go None known own later = absurd (cc known)
-      go (Some t) known own later = (own.answered, later)
+      go (Some t) known own later = (own.0.answered, later)
 
   module _ {S : Type 0} (may : S → List KeyOf → AnswerOf → Type 0) (begun : StateOf S) where
     -- a run that was just begun

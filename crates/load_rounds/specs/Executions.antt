@@ -1,5 +1,5 @@
 -- Executions of several plans, which share rounds: what contracts see of them, and how far each is.
-use Rattle.std.specs.Prelude.{◌≡◌, ◌≢◌, ◌⊎◌, ◌++◌, ℕ, List, [], ◌∷◌, map, length, Option, Some, None}
+use Rattle.std.specs.Prelude.{◌≡◌, ◌≢◌, ◌⊎◌, ◌+◌, ◌++◌, ℕ, List, [], ◌∷◌, map, length, Option, Some, None}
 use Rattle.load_memory.specs.Pairs.{MemoryOf, look}
 use Rattle.load_memory.specs.Replies.{ReplyOf}
 use Rattle.execution.specs.Loads.{Load, Memory, read}
@@ -62,6 +62,11 @@ module _ {P E : Type 0} where
   reports_in [] = []
   reports_in (x ∷ xs) = given_to x.report ++ reports_in xs
 
+  -- how many steps are left to do ahead over a memory, of all of them
+  abbrev pub left_in : (P → E → MemoryOf → ℕ) → List (PartOf P E) → MemoryOf → ℕ
+  left_in left [] m = 0
+  left_in left (x ∷ xs) m = left x.plan x.progress m + left_in left xs m
+
   -- each has counted the rounds of a log
   abbrev pub CountRounds : (P → Program) → List RuleOf → Memory
       → List (List ReplyOf) → List (PartOf P E) → Type 0
@@ -75,6 +80,7 @@ module _ {P E : Type 0} where
     FitsPart plan progress None m = fits plan progress m
     FitsPart plan progress (Some report) m =
         IsDone (loaders plan) (request_of (program plan) (text_of plan)) m report
+        × fits plan progress m
 
     -- each is of an execution, and holds nothing as done that isn't so over the memory
     abbrev pub FitParts : List (PartOf P E) → MemoryOf → Type 0

@@ -14,3 +14,4 @@ pub mod Runs
 pub mod Sessions
 pub mod SharedKeyByKey
 pub mod SharedRounds
+pub mod Steps

@@ -1,7 +1,8 @@
 -- Limits of answers, on their work and on their rounds.
-use Rattle.std.specs.Prelude.{◌≡◌, ◌≢◌, ◌≤◌, ◌<◌, ◌⊎◌, ◌+◌, ℕ, Bool, true, false, List, [], ◌∷◌, map, length, Option, Some, None, Result, Ok, Err}
+use Rattle.std.specs.Prelude.{◌≡◌, ◌≢◌, ◌≤◌, ◌<◌, ◌⊎◌, ◌+◌, ℕ, Bool, true, false, List, [], ◌∷◌, map, length, Option, Some, None, Result, Ok, Err, IsSome}
 use Rattle.std.specs.Global.{Vec}
 use Rattle.load_memory.specs.Keys.{KeyOf}
+use Rattle.load_memory.specs.Pairs.{MemoryOf}
 use Rattle.load_memory.specs.Replies.{ReplyOf}
 use Rattle.load_queue.specs.Answers.{AnswerOf}
 use Rattle.load_queue.specs.Loaders.{AreOnRecord}
@@ -9,11 +10,11 @@ use Rattle.execution.specs.Loads.{Reader, read}
 use Rattle.execution.specs.Work.{work}
 use Rattle.execution.specs.Program.{Program}
 use Rattle.execution.specs.Completion.{AnsweredOf}
-use Rattle.load_rounds.specs.Sessions.{StateOf, session_modes}
+use Rattle.load_rounds.specs.Sessions.{SessionOf, StateOf, state_of, session_modes, memory_of}
 use Rattle.load_rounds.specs.Calls.{RoundRan}
 use Rattle.load_rounds.specs.Headline.{MakesRounds, HasHeadline}
 use Rattle.load_rounds.specs.SharedRounds.{RequestOf, report_of, requests, together, SharedHeadline}
-use Rattle.load_rounds.specs.Executions.{plans_in}
+use Rattle.load_rounds.specs.Executions.{plans_in, left_in}
 use Rattle.load_rounds.specs.ByHand.{front_in}
 use Rattle.load_rounds.specs.Runs.{RunOf, IsRun}
 use Rattle.load_rounds.specs.declared.answer.Answer.{Answer}
@@ -22,10 +23,12 @@ use Rattle.load_rounds.specs.declared.limits.Excess.{Excess}
 use Rattle.load_rounds.specs.declared.limits.Overrun.{Overrun}
 use Rattle.load_rounds.specs.declared.limits.Excess.TheVariants.{Work, Rounds}
 use Rattle.load_rounds.specs.declared.rounds.Stage.TheVariants.{Ready, Finished}
+use Rattle.load_rounds.specs.declared.steps.Ahead.{Ahead}
+use Rattle.load_rounds.specs.declared.steps.Ahead.TheVariants.{Working, Over, Done}
 
--- no limit on the work, and none on the rounds
+-- no limit on the work, none on the rounds, and none on the steps of a call
 abbrev pub no_limits : Limits
-no_limits = record { work = None; rounds = None }
+no_limits = record { work = None; rounds = None; steps = None }
 
 -- *Work* of several requests: that of each, added up
 abbrev pub work_of_all : List RequestOf → Reader → ℕ
@@ -139,3 +142,17 @@ AsksInTime program text_of may limits old new run later = (begun : StateOf _)
     → IsRun program text_of may begun old run
     → AreAskedInTime may begun new limits
     (requests program text_of (plans_in run.parts)) later.rounds
+
+module _ {P E : Type 0} (program : P → Program) (text_of : P → AnsweredOf → List ℕ)
+    (left : P → E → MemoryOf → ℕ) {S : Type 0} where
+  -- By what came of steps that are done ahead of a round: some are left, fewer than before, and there is a limit on them; or none is left, and the
+  -- answers are over a limit, or may go on.
+  abbrev pub TellsAhead : Limits → SessionOf S → RunOf P E → RunOf P E → Ahead → Type 0
+  TellsAhead limits session run later Working = IsSome limits.steps
+      × (left_in left later.parts (memory_of session) < left_in left run.parts (memory_of session))
+  TellsAhead limits session run later (Over excess) =
+      AreOver limits (requests program text_of (plans_in later.parts)) (state_of session)
+      later.rounds excess
+  TellsAhead limits session run later Done =
+      MayGoOn limits (requests program text_of (plans_in later.parts)) (state_of session)
+      later.rounds

@@ -33,7 +33,7 @@ reading loader keys = Under ListOf (reads_from 0 loader keys)
 abbrev pub no_text : AnsweredOf → List ℕ
 no_text answered = []
 
--- says of keys what an execution says: their program, its text, and the loaders that it asks
+-- says of keys what an execution says: their program, its text, the loaders that it asks, and that nothing can be done ahead
 abbrev pub keys_program : KeysOf → Program
 keys_program k = reading k.loader k.keys
 
@@ -45,6 +45,9 @@ keys_loaders k = k.loader + 1
 
 abbrev pub keys_fits : KeysOf → Unit {0} → MemoryOf → Type 0
 keys_fits k progress m = Unit {0}
+
+abbrev pub keys_left : KeysOf → Unit {0} → MemoryOf → ℕ
+keys_left k progress m = 0
 
 module _ {S : Type 0} where
   -- the session has the loader, and no loader's limit is 0

@@ -3,14 +3,15 @@
 //! Several plans are one program, the items of a list, each of nullable type. So the log of shared rounds is lawful by the same
 //! definition as any other, and a plan's own rounds are those in which its own front isn't empty. The execution of a plan alone takes
 //! no list.
-ghost use Rattle.std.specs.Prelude.{◌≡◌, ◌<◌, ◌∷◌, [], length, map, option_map, slice_index_or, IfOk};
+ghost use Rattle.std.specs.Prelude.{◌≡◌, ◌<◌, ◌≤◌, ◌∷◌, [], All, length, map, option_map, slice_index_or, IfOk};
 ghost use Rattle.std.specs.Borrow.{sem};
 ghost use Rattle.load_rounds.specs.SharedRounds.{report_of};
 ghost use Rattle.load_rounds.specs.Executions.{AreBegun, plans_in, reports_in, first_report};
 
 use crate::answer::Answer;
 use crate::plan_execution::{PlanExecution, answers_in};
-use execution::Execute;
+use execution::{CountWork, Counted, Execute};
+use load_memory::Memory;
 use std::alloc::{AllocError, Global};
 use std::marker::Model;
 
@@ -96,6 +97,78 @@ impl<E, P: Execute<E>> Executions<P, E> {
         Executions {
             held: Held::One(PlanExecution::start(plan)),
         }
+    }
+}
+
+impl<E, P: Execute<E>> Executions<P, E> {
+    ghost use Rattle.load_rounds.specs.Executions.{FitParts};
+    ghost use Rattle.load_rounds.specs.Steps.{PartsAhead};
+
+    /// Works ahead on each that has no answer yet, in order, by so many `steps` in sum: each has what the one before left over. Returns the
+    /// steps that are left over once nothing is left to do ahead.
+    pub(crate) fn work_ahead(
+        &mut self,
+        alloc: Global,
+        memory: &Memory,
+        steps: usize,
+    ) -> Result<Option<usize>, AllocError>
+        requires fits { FitParts P.program P.text_of P.loaders P.fits self.old memory.now }
+        ensures ahead { PartsAhead P.program P.text_of P.loaders P.fits P.left (λ rest. rest)
+            steps memory.now result self.old self.new }
+    {
+        let mut rest = steps;
+        for at in 0..self.len() {
+            match self.execution_mut(at).work_ahead(alloc, memory, rest)? {
+                Some(over) => rest = over,
+                None => return Ok(None),
+            }
+        }
+        Ok(Some(rest))
+    }
+}
+
+impl<E, P: CountWork<E>> Executions<P, E> {
+    ghost use Rattle.load_memory.specs.Pairs.{look};
+    ghost use Rattle.execution.specs.Loads.{read};
+    ghost use Rattle.load_rounds.specs.SharedRounds.{requests};
+    ghost use Rattle.load_rounds.specs.Executions.{FitParts};
+    ghost use Rattle.load_rounds.specs.Steps.{PartsAhead, TellsCount, over};
+    ghost use Rattle.load_rounds.specs.Limits.{work_of_all};
+
+    /// Counts the work of all plans, in order, by so many `steps` in sum: each has what the one before left over, of the limit too. Once it is
+    /// counted, or over the limit, returns what it leaves of `most` and the steps that are left over.
+    pub(crate) fn count_ahead(
+        &mut self,
+        alloc: Global,
+        memory: &Memory,
+        most: usize,
+        steps: usize,
+    ) -> Result<Option<Counted>, AllocError>
+        requires enough { All (λ plan. P.loaders plan
+            ≤ length memory.now.modes) (plans_in self.old) }
+        requires fits { FitParts P.program P.text_of P.loaders P.fits self.old memory.now }
+        ensures counted { IfOk result (TellsCount most (work_of_all (requests P.program P.text_of
+            (plans_in self.old)) (read memory.now.modes (look memory.now.pairs)))) }
+        ensures ahead { PartsAhead P.program P.text_of P.loaders P.fits P.left over
+            steps memory.now result self.old self.new }
+    {
+        let mut left = most;
+        let mut rest = steps;
+        for at in 0..self.len() {
+            let execution = self.execution_mut(at);
+            let Some(counted) = execution.count_ahead(alloc, memory, left, rest)? else {
+                return Ok(None);
+            };
+            match counted.left {
+                Some(more) => left = more,
+                None => return Ok(Some(counted)),
+            }
+            rest = counted.steps;
+        }
+        Ok(Some(Counted {
+            left: Some(left),
+            steps: rest,
+        }))
     }
 }
 

@@ -9,7 +9,7 @@ ghost use Rattle.load_rounds.specs.Calls.{load_of, reader_of};
 ghost use Rattle.load_rounds.specs.Reading.{keys_of, no_text, reading};
 
 use crate::session::Session;
-use execution::{CountWork, Execute, ExecutionResult};
+use execution::{CountWork, Counted, Execute, ExecutionResult};
 use futures::task::Poll;
 use load_memory::{Key, Keys, Memory, Outcome, Probe};
 use load_queue::Wants;
@@ -74,7 +74,7 @@ impl KeysToLoad {
 }
 
 impl Execute<()> for KeysToLoad {
-    ghost use Rattle.load_rounds.specs.Reading.{keys_fits, keys_loaders, keys_program, keys_text};
+    ghost use Rattle.load_rounds.specs.Reading.{keys_fits, keys_left, keys_loaders, keys_program, keys_text};
 
     ghost program = { keys_program };
 
@@ -83,6 +83,8 @@ impl Execute<()> for KeysToLoad {
     ghost loaders = { keys_loaders };
 
     ghost fits = { keys_fits };
+
+    ghost left = { keys_left };
 
     fn start(&self) {}
 
@@ -102,9 +104,9 @@ impl Execute<()> for KeysToLoad {
         _progress: &mut (),
         _alloc: Global,
         _memory: &Memory,
-        _steps: usize,
-    ) -> Result<bool, AllocError> {
-        Ok(true)
+        steps: usize,
+    ) -> Result<Option<usize>, AllocError> {
+        Ok(Some(steps))
     }
 }
 
@@ -121,6 +123,21 @@ impl CountWork<()> for KeysToLoad {
             return Ok(None);
         }
         Ok(Some(most - keys - 1))
+    }
+
+    // The count takes no steps: it is made at once.
+    fn count_ahead(
+        &self,
+        _progress: &mut (),
+        alloc: Global,
+        memory: &Memory,
+        most: usize,
+        steps: usize,
+    ) -> Result<Option<Counted>, AllocError> {
+        Ok(Some(Counted {
+            left: self.work_left(alloc, memory, most)?,
+            steps,
+        }))
     }
 }
 
@@ -140,6 +157,8 @@ impl<'k> Execute<()> for LentKeys<'k> {
 
     ghost fits = { λ _ _ _. ⊤ };
 
+    ghost left = { λ _ _ _. 0 };
+
     fn start(&self) {}
 
     fn execute(
@@ -158,9 +177,9 @@ impl<'k> Execute<()> for LentKeys<'k> {
         _progress: &mut (),
         _alloc: Global,
         _memory: &Memory,
-        _steps: usize,
-    ) -> Result<bool, AllocError> {
-        Ok(true)
+        steps: usize,
+    ) -> Result<Option<usize>, AllocError> {
+        Ok(Some(steps))
     }
 }
 

@@ -1,7 +1,7 @@
 //! Plans that are lent to a run.
 ghost use Rattle.std.specs.Prelude.{◌≡◌};
 
-use execution::{CountWork, Execute, ExecutionResult};
+use execution::{CountWork, Counted, Execute, ExecutionResult};
 use futures::task::Poll;
 use load_memory::Memory;
 use load_queue::Wants;
@@ -37,6 +37,8 @@ impl<'p, E, P: Execute<E>> Execute<E> for Lent<'p, P> {
 
     ghost fits = { P.fits };
 
+    ghost left = { P.left };
+
     fn start(&self) -> E {
         self.plan.start()
     }
@@ -57,7 +59,7 @@ impl<'p, E, P: Execute<E>> Execute<E> for Lent<'p, P> {
         alloc: Global,
         memory: &Memory,
         steps: usize,
-    ) -> Result<bool, AllocError> {
+    ) -> Result<Option<usize>, AllocError> {
         self.plan.work_ahead(progress, alloc, memory, steps)
     }
 }
@@ -70,5 +72,16 @@ impl<'p, E, P: CountWork<E>> CountWork<E> for Lent<'p, P> {
         most: usize,
     ) -> Result<Option<usize>, AllocError> {
         self.plan.work_left(alloc, memory, most)
+    }
+
+    fn count_ahead(
+        &self,
+        progress: &mut E,
+        alloc: Global,
+        memory: &Memory,
+        most: usize,
+        steps: usize,
+    ) -> Result<Option<Counted>, AllocError> {
+        self.plan.count_ahead(progress, alloc, memory, most, steps)
     }
 }

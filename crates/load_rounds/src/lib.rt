@@ -21,7 +21,7 @@
 //! there is one log, and each answer has a headline of its own (`specs::SharedRounds`, `SharedHeadline`).
 //!
 //! Answers may have limits ([`Limits`]), on the work of their plans and on their rounds ([`Session::answer_within`], `specs::Limits`). Whoever
-//! advances a run asks [`Rounds::excess`] before each round.
+//! advances a run asks [`Rounds::excess`] before each round, or [`Rounds::step`], which counts and works ahead so many steps at a time.
 #![tactic(auto)]
 
 pub mod answer;
@@ -37,6 +37,7 @@ mod restart;
 mod round;
 pub mod rounds;
 pub mod session;
+pub mod steps;
 
 pub use answer::Answer;
 pub use answering::Answering;
@@ -47,3 +48,4 @@ pub use lent::Lent;
 pub use limits::{Excess, Limits, Overrun};
 pub use rounds::{Rounds, Stage};
 pub use session::Session;
+pub use steps::Ahead;

@@ -20,18 +20,22 @@ pub struct Limits {
     pub work: Option<usize>,
     /// How many rounds may be made for them.
     pub rounds: Option<u32>,
+    /// How many steps one call may take of answers by hand, at least one; then it returns that it isn't done. Answers in one call, and those
+    /// by workers, take none.
+    pub steps: Option<usize>,
 }
 
 impl Limits {
     ghost use Rattle.load_rounds.specs.Limits.{no_limits};
 
-    /// Returns no limit on the work, and none on the rounds.
+    /// Returns no limit on the work, none on the rounds, and none on the steps of a call.
     pub fn none() -> Limits
         ensures { result ≡ no_limits }
     {
         Limits {
             work: None,
             rounds: None,
+            steps: None,
         }
     }
 }
@@ -100,7 +104,7 @@ impl<E: Drop, P: CountWork<E>> Rounds<P, E> {
     }
 
     // Returns true if something is missing and one round more would be over a limit. Each plan is begun anew here, so that nothing changes.
-    fn are_rounds_over<S>(
+    pub(crate) fn are_rounds_over<S>(
         &self,
         session: &Session<S>,
         limit: Option<u32>,
@@ -131,7 +135,7 @@ impl<E: Drop, P: CountWork<E>> Rounds<P, E> {
     }
 
     /// Returns which limit the answers are over already, by what is known, if they are over one. Nothing is asked, and nothing changes. To stay
-    /// within limits a caller asks this before each [`advance`](Rounds::advance).
+    /// within limits a caller asks this before each [`advance`](Rounds::advance), or [`step`](Rounds::step), which tells it too.
     ///
     /// It takes time for the work that is known, at most for one position more than the limit. Where no round more may be made, it
     /// executes the plans to see whether anything is missing.

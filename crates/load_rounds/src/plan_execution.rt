@@ -1,5 +1,5 @@
 //! Executions of plans: each with its answer once nothing that it needs is missing.
-ghost use Rattle.std.specs.Prelude.{◌≡◌, map, is_none, None, option_map, IfOk, OnOk};
+ghost use Rattle.std.specs.Prelude.{◌≡◌, ◌≤◌, length, map, is_none, None, option_map, IfOk, OnOk};
 ghost use Rattle.execution.specs.Front.{front, wanting};
 ghost use Rattle.load_memory.specs.Pairs.{look};
 ghost use Rattle.execution.specs.Executes.{CanExecute};
@@ -7,7 +7,7 @@ ghost use Rattle.load_rounds.specs.SharedRounds.{report_of};
 ghost use Rattle.load_rounds.specs.Executions.{reports_in};
 
 use crate::answer::Answer;
-use execution::Execute;
+use execution::{CountWork, Counted, Execute};
 use futures::task::Poll;
 use load_memory::Memory;
 use load_queue::Wants;
@@ -42,8 +42,6 @@ impl<P, E> PlanExecution<P, E> {
 }
 
 impl<E, P: Execute<E>> PlanExecution<P, E> {
-    ghost use Rattle.load_rounds.specs.Executions.{FitsPart, GoesOn};
-
     /// The execution of a plan of which nothing is done.
     pub(crate) fn start(plan: P) -> PlanExecution<P, E>
         ensures plan { result.plan ≡ plan }
@@ -57,9 +55,13 @@ impl<E, P: Execute<E>> PlanExecution<P, E> {
             answer: None,
         }
     }
+}
+
+impl<E: Drop, P: Execute<E>> PlanExecution<P, E> {
+    ghost use Rattle.load_rounds.specs.Executions.{FitsPart, GoesOn};
 
     /// Goes on with the execution over the memory, unless there is an answer already. If loads are missing, adds them to the wants
-    /// and returns true.
+    /// and returns true. Where there is one, the progress begins anew: what it has counted may be of this memory alone.
     pub(crate) fn go_on(
         &mut self,
         alloc: Global,
@@ -80,6 +82,7 @@ impl<E, P: Execute<E>> PlanExecution<P, E> {
         ensures kept { self.new.plan ≡ self.old.plan }
     {
         if self.answer.is_some() {
+            self.progress = self.plan.start();
             return Ok(false);
         }
         match self.plan.execute(&mut self.progress, alloc, memory, wants)? {
@@ -94,27 +97,58 @@ impl<E, P: Execute<E>> PlanExecution<P, E> {
             Poll::Pending => Ok(true),
         }
     }
+}
 
-    /// Works ahead on the execution over the memory, by at most `steps` steps, unless there is an answer already. Returns true once
-    /// nothing is left to do ahead.
+impl<E, P: Execute<E>> PlanExecution<P, E> {
+    ghost use Rattle.load_rounds.specs.Executions.{FitsPart};
+    ghost use Rattle.load_rounds.specs.Steps.{PartAhead};
+
+    /// Works ahead on the execution over the memory by so many `steps`, unless there is an answer already. Returns the steps that are left
+    /// over once nothing is left to do ahead.
     pub(crate) fn work_ahead(
         &mut self,
         alloc: Global,
         memory: &Memory,
         steps: usize,
-    ) -> Result<bool, AllocError>
+    ) -> Result<Option<usize>, AllocError>
         requires fits { FitsPart P.program P.text_of P.loaders P.fits
             self.old.plan self.old.progress self.old.report memory.now }
-        ensures fits { OnOk result (FitsPart P.program P.text_of P.loaders P.fits
-            self.new.plan self.new.progress self.new.report memory.now) }
-        ensures plan { self.new.plan ≡ self.old.plan }
-        ensures report { self.new.report ≡ self.old.report }
+        ensures ahead { PartAhead P.program P.text_of P.loaders P.fits P.left (λ rest. rest)
+            steps memory.now result self.old self.new }
     {
         if self.answer.is_some() {
-            return Ok(true);
+            return Ok(Some(steps));
         }
         self.plan
             .work_ahead(&mut self.progress, alloc, memory, steps)
+    }
+}
+
+impl<E, P: CountWork<E>> PlanExecution<P, E> {
+    ghost use Rattle.execution.specs.Loads.{read};
+    ghost use Rattle.execution.specs.Work.{work};
+    ghost use Rattle.load_rounds.specs.Executions.{FitsPart};
+    ghost use Rattle.load_rounds.specs.Steps.{PartAhead, TellsCount, over};
+
+    /// Counts the work over the memory by so many `steps`, whether there is an answer or not. Once it is counted, returns what it leaves of
+    /// `most` and the steps that are left over.
+    pub(crate) fn count_ahead(
+        &mut self,
+        alloc: Global,
+        memory: &Memory,
+        most: usize,
+        steps: usize,
+    ) -> Result<Option<Counted>, AllocError>
+        requires can { P.loaders self.old.plan ≤ length memory.now.modes }
+        requires fits { FitsPart P.program P.text_of P.loaders P.fits
+            self.old.plan self.old.progress self.old.report memory.now }
+        ensures counted { IfOk result (TellsCount most (work (P.program self.old.plan)
+            (read memory.now.modes (look memory.now.pairs)))) }
+        ensures ahead { PartAhead P.program P.text_of P.loaders P.fits P.left over
+            steps memory.now result self.old self.new }
+    {
+        self.plan
+            .count_ahead(&mut self.progress, alloc, memory, most, steps)
     }
 }
 

@@ -20,7 +20,7 @@ use std::marker::Model;
 /// Says what may be done next with a run.
 #[derive(Clone, Copy, Debug, PartialEq, Eq)]
 pub enum Stage {
-    /// [`advance`](Rounds::advance) may be called, and [`work_ahead`](Rounds::work_ahead).
+    /// [`advance`](Rounds::advance) may be called, and [`step`](Rounds::step) before it.
     Ready,
     /// A round is out. [`take`](Rounds::take) expects its receipts.
     Out,
@@ -42,8 +42,8 @@ pub enum Stage {
 #[derive(Drop)]
 pub struct Rounds<P, E> {
     pub(crate) executions: Executions<P, E>,
-    rounds: u32,
-    stage: Stage,
+    pub(crate) rounds: u32,
+    pub(crate) stage: Stage,
 }
 
 impl<P, E> Model for Rounds<P, E> {
@@ -151,12 +151,9 @@ impl<P: Drop, E: Drop> Rounds<P, E> {
     }
 }
 
-impl<E, P: Execute<E>> Rounds<P, E> {
-    ghost use Rattle.load_rounds.specs.Executions.{plans_in};
+impl<E: Drop, P: Execute<E>> Rounds<P, E> {
     ghost use Rattle.load_rounds.specs.Sessions.{state_of};
-    ghost use Rattle.load_rounds.specs.Histories.{any_tell};
-    ghost use Rattle.load_rounds.specs.ByHand.{AreReceiptsIn, AreReceivedIn, AwaitsReplies, RunsIfReceived, RunsReceipts};
-    ghost use Rattle.load_rounds.specs.Runs.{FailsToAsk, FailsToTake, GoesOnFrom, GoesOnIfReceived, Holds, IsNext, IsTurn, KeepsPlans, MayRun, TakesReplies, WorksAhead, program_of};
+    ghost use Rattle.load_rounds.specs.Runs.{FailsToAsk, GoesOnFrom, Holds, IsNext, IsTurn, KeepsPlans, MayRun, program_of};
 
     /// Goes on with each plan that isn't finished, in order. Returns the orders of the next round, by number of loader and then by
     /// piece, which is then out, and nothing if nothing is missing any more.
@@ -209,46 +206,37 @@ impl<E, P: Execute<E>> Rounds<P, E> {
         Ok(Some(orders))
     }
 
-    /// Works ahead on each plan that isn't finished, in order, so that the next [`advance`](Rounds::advance) has less to do. Each does at most
-    /// `steps` steps of that over what the session knows ([`Execute::work_ahead`]). Returns false at the first that has steps left, and
-    /// true once none has.
-    ///
-    /// The steps are those of each plan, not of all together, and what a step is, is the plan's affair: no clause counts them, or says which
-    /// are left. So a caller may advance at any time, also where it returned false.
-    ///
-    /// # Errors
-    ///
-    /// When out of memory, the run is [`Failed`](Stage::Failed), with as many rounds as before (`ahead`).
-    ///
-    /// # Headline
-    ///
-    /// As `Session::begin` says
-    pub fn work_ahead<S: LocalSource>(
+    /// Advances, and runs a new round in turn on this thread. Returns true if it made one.
+    pub(crate) fn turn<S: LocalSource>(
         &mut self,
-        session: &Session<S>,
-        steps: usize,
+        session: &mut Session<S>,
     ) -> Result<bool, AllocError>
         requires ready { self.old.stage ≡ Stage.Ready }
-        requires holds { Holds P.program P.text_of P.loaders P.fits self.old session.now }
-        ensures ahead { WorksAhead result self.old self.new }
-        ensures holds { Holds P.program P.text_of P.loaders P.fits self.new session.now }
+        requires holds { Holds P.program P.text_of P.loaders P.fits self.old session.old }
+        ensures turned { IfOk result (IsTurn P.program P.text_of S.may_tell
+            self.old self.new (state_of session.old) (state_of session.new)) }
+        ensures may { OnOk result
+            (MayRun (program_of P.program P.text_of self.old) (state_of session.old)) }
+        ensures holds { Holds P.program P.text_of P.loaders P.fits self.new session.new }
         ensures run { GoesOnFrom P.program P.text_of S.may_tell
-            (state_of session.now) (state_of session.now) self.old self.new }
-        ensures kept { KeepsPlans session.now session.now self.old self.new }
+            (state_of session.old) (state_of session.new) self.old self.new }
+        ensures kept { KeepsPlans session.old session.new self.old self.new }
     {
+        let Some(orders) = self.advance(session)? else {
+            return Ok(false);
+        };
         self.stage = Stage::Failed;
-        let alloc = session.alloc();
-        let memory = session.memory();
-        for at in 0..self.executions.len() {
-            let execution = self.executions.execution_mut(at);
-            if !execution.work_ahead(alloc, memory, steps)? {
-                self.stage = Stage::Ready;
-                return Ok(false);
-            }
-        }
+        session.run(orders)?;
         self.stage = Stage::Ready;
         Ok(true)
     }
+}
+
+impl<E, P: Execute<E>> Rounds<P, E> {
+    ghost use Rattle.load_rounds.specs.Sessions.{state_of};
+    ghost use Rattle.load_rounds.specs.Histories.{any_tell};
+    ghost use Rattle.load_rounds.specs.ByHand.{AreReceiptsIn, AreReceivedIn, AwaitsReplies, RunsIfReceived, RunsReceipts};
+    ghost use Rattle.load_rounds.specs.Runs.{FailsToTake, GoesOnFrom, GoesOnIfReceived, Holds, KeepsPlans, TakesReplies, program_of};
 
     /// Stores the replies to the round that is out, given by their receipts in any order. The session is as the round left it: where
     /// another call changed it since, this one can't be made.
@@ -329,30 +317,5 @@ impl<E, P: Execute<E>> Rounds<P, E> {
         session.receive_owned(replies)?;
         self.stage = Stage::Ready;
         Ok(())
-    }
-
-    /// Advances, and runs a new round in turn on this thread. Returns true if it made one.
-    pub(crate) fn turn<S: LocalSource>(
-        &mut self,
-        session: &mut Session<S>,
-    ) -> Result<bool, AllocError>
-        requires ready { self.old.stage ≡ Stage.Ready }
-        requires holds { Holds P.program P.text_of P.loaders P.fits self.old session.old }
-        ensures turned { IfOk result (IsTurn P.program P.text_of S.may_tell
-            self.old self.new (state_of session.old) (state_of session.new)) }
-        ensures may { OnOk result
-            (MayRun (program_of P.program P.text_of self.old) (state_of session.old)) }
-        ensures holds { Holds P.program P.text_of P.loaders P.fits self.new session.new }
-        ensures run { GoesOnFrom P.program P.text_of S.may_tell
-            (state_of session.old) (state_of session.new) self.old self.new }
-        ensures kept { KeepsPlans session.old session.new self.old self.new }
-    {
-        let Some(orders) = self.advance(session)? else {
-            return Ok(false);
-        };
-        self.stage = Stage::Failed;
-        session.run(orders)?;
-        self.stage = Stage::Ready;
-        Ok(true)
     }
 }

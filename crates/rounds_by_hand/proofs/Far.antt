@@ -1,10 +1,9 @@
 -- Lemmas on how far a hand is, and what its calls make of that.
-use Rattle.std.proofs.Common.{◌≡◌, ◌<◌, ◌≤◌, ◌∙◌, ◌⊎◌, ◌+◌, ℕ, List, [], ◌∷◌, map, length, refl, ap, sym, subst, arith, inl, inr, false, None, Ok}
+use Rattle.std.proofs.Common.{◌≡◌, ◌<◌, ◌≤◌, ◌∙◌, ◌⊎◌, ◌+◌, ℕ, List, [], ◌∷◌, map, length, refl, ap, sym, subst, arith, inl, inr, false}
 use Rattle.std.proofs.lemmas.List.{length-map}
 use Rattle.std.proofs.lemmas.List.Elements.{All-head, All-tail, All-nil, All-cons}
 use Rattle.std.proofs.lemmas.List.Sorted.{IsPermutation-refl}
 use Rattle.std.specs.Prelude.{All}
-use Rattle.std.specs.Global.{Vec}
 use Rattle.load_memory.specs.Keys.{KeyOf}
 use Rattle.load_memory.specs.Pairs.{MemoryOf}
 use Rattle.load_memory.specs.Replies.{ReplyOf}
@@ -21,24 +20,20 @@ use Rattle.execution.specs.Sessions.{Forgot, Lost}
 use Rattle.load_rounds.specs.Headline.{StopsAnswering}
 use Rattle.load_rounds.specs.Sessions.{SessionOf, StateOf, state_of, rules_of, after_step, of_first}
 use Rattle.load_rounds.specs.ByHand.{AreReceived, front_in, orders_in, received, IsAsked, IsRound, IsUnasked}
-use Rattle.load_rounds.specs.SharedRounds.{report_of, requests, joint, SharedHeadline}
-use Rattle.load_rounds.specs.Limits.{AreAnswersWithin, AreAskedInTime, AreOver, AreWithin, IsWithin, MayGoOn}
+use Rattle.load_rounds.specs.SharedRounds.{joint}
 use Rattle.load_rounds.specs.declared.limits.Limits.{Limits}
-use Rattle.load_rounds.specs.declared.limits.Overrun.{Overrun}
-use Rattle.load_rounds.specs.Executions.{plans_in, reports_in}
-use Rattle.load_rounds.specs.Runs.{RunOf, IsNext, IsRun, Holds as HoldsRun, GoesOnFrom, program_of}
+use Rattle.load_rounds.specs.Executions.{plans_in}
+use Rattle.load_rounds.specs.Runs.{RunOf}
 use Rattle.load_rounds.specs.declared.rounds.Stage.TheVariants as stage
 use Rattle.load_rounds.proofs.Numbering.{orders-below, orders-loads}
 use Rattle.load_rounds.proofs.Runs.{lost-rules, round-asked, round-orders}
-use Rattle.load_rounds.proofs.Limiting.{refused, last-within, finished-within}
 use Rattle.load_rounds.proofs.Stages.{stopped-all}
 use Rattle.load_rounds.proofs.Stepping.{record-logged, record-many, record-same, record-then}
-use Rattle.load_rounds.specs.declared.answer.Answer.{Answer}
 use Rattle.rounds_by_hand.specs.declared.pending.Pending.{Pending}
 use Rattle.rounds_by_hand.specs.declared.pending.Pending.TheVariants.{Out, In}
 use Rattle.rounds_by_hand.specs.Pending.{order_in, still_out, is_in, IsReplied}
 use Rattle.rounds_by_hand.proofs.Orders.{out-orders, out-away, out-own}
-use Rattle.rounds_by_hand.specs.Hands.{FarOf, HandOf, handed, out, over, AsksAndStores, IsFarWithin, IsOver, IsUnderway, KeepsHand, KeepsLoaders, IsOutWith, HoldsFar, HasGone, Readies, Refuses}
+use Rattle.rounds_by_hand.specs.Hands.{FarOf, HandOf, handed, ready, out, over, IsFarWithin, KeepsHand, KeepsLoaders, IsOutWith, HoldsFar, HasGone}
 
 -- orders of which none has a reply
 pub none-replied : (may : ℕ → List KeyOf → AnswerOf → Type 0) (ps : List Pending) → All (λ one. is_in one ≡ false) ps → All (IsReplied may) ps
@@ -98,10 +93,12 @@ module _ {S : Type 0} where
 
   module _ {P E : Type 0} (program : P → Program) (text_of : P → AnsweredOf → List ℕ) (may : S → List KeyOf → AnswerOf → Type 0) where
     -- a property of the session whatever comes next
-    pub gone-stops : (loaders : P → ℕ) (fits : P → E → MemoryOf → Type 0) (begun now : SessionOf S) (plans : List P) (far : FarOf P E) → HasGone program text_of may begun now plans far → (now ≡ begun) ⊎ StopsAnswering may (state_of begun) (state_of now) (joint program text_of plans)
-    gone-stops loaders fits begun now plans handed h = inl h
-    gone-stops loaders fits begun now plans (out run ps) h = inr (stopped-all program text_of loaders fits may (state_of begun) (state_of now) plans run h.0 h.1)
-    gone-stops loaders fits begun now plans over h = inr h
+    pub gone-stops : (loaders : P → ℕ) (fits : P → E → MemoryOf → Type 0) (begun now : SessionOf S) (plans : List P) (limits : Limits) (far : FarOf P E) → HasGone program text_of may begun now plans limits far
+        → (now ≡ begun) ⊎ StopsAnswering may (state_of begun) (state_of now) (joint program text_of plans)
+    gone-stops loaders fits begun now plans limits handed h = inl h
+    gone-stops loaders fits begun now plans limits (ready run) h = inr (stopped-all program text_of loaders fits may (state_of begun) (state_of now) plans run h.0 h.1)
+    gone-stops loaders fits begun now plans limits (out run ps) h = inr (stopped-all program text_of loaders fits may (state_of begun) (state_of now) plans run h.0 h.1)
+    gone-stops loaders fits begun now plans limits over h = inr h
 
   module _ {P E : Type 0} (program : P → Program) (text_of : P → AnsweredOf → List ℕ) where
     -- the orders of a round that was just made
@@ -130,57 +127,10 @@ module _ {S : Type 0} where
       session = kept;
     }
 
-  -- a run was made ready, and the answers are over a limit
-  module _ {P E : Type 0} (program : P → Program) (text_of : P → AnsweredOf → List ℕ) (loaders : P → ℕ) (fits : P → E → MemoryOf → Type 0) (may : S → List KeyOf → AnswerOf → Type 0) (old mid : HandOf S P E) (run : RunOf P E) (ready : Readies program text_of may loaders fits old mid run) (same : mid.plans ≡ old.plans)
-      (limited : mid.limits ≡ old.limits) where
-    same-plans : plans_in run.parts ≡ mid.plans
-    same-plans = ready.plans ∙ sym same
-
-    in-time : (begun : SessionOf S) → IsUnderway program text_of may begun old → AreAskedInTime may (state_of begun) (state_of mid.session) mid.limits (requests program text_of mid.plans) run.rounds
-    in-time begun h =
-        subst (λ ps. AreAskedInTime may (state_of begun) (state_of mid.session) mid.limits (requests program text_of ps) run.rounds) (sym same)
-        (subst (λ l. AreAskedInTime may (state_of begun) (state_of mid.session) l (requests program text_of old.plans) run.rounds) (sym limited) (ready.in_time begun h))
-
-    pub refuses : (overrun : Overrun) → overrun.rounds ≡ run.rounds → AreOver mid.limits (requests program text_of (plans_in run.parts)) (state_of mid.session) run.rounds overrun.excess → AsksAndStores may old mid → Refuses program text_of may (¬ (IsOver old.far)) (AsksAndStores may old mid) old mid overrun
-    refuses overrun counted exceeds stored = record {
-      could = ready.left;
-      knows = stored;
-      exceeds = subst (λ ps. AreOver mid.limits (requests program text_of ps) (state_of mid.session) overrun.rounds overrun.excess) same-plans (subst (λ n. AreOver mid.limits (requests program text_of (plans_in run.parts)) (state_of mid.session) n overrun.excess) (sym counted) exceeds);
-      went = λ begun h. refused program text_of may (state_of begun) (state_of mid.session) mid.limits mid.plans run same-plans overrun counted ready.stage (ready.went begun h) exceeds (in-time begun h);
+    pub kept-then : (old mid new : HandOf S P E) → KeepsHand program text_of loaders fits old mid → KeepsHand program text_of loaders fits mid new → KeepsHand program text_of loaders fits old new
+    kept-then old mid new h k = record {
+      holds = k.holds;
+      plans = k.plans ∙ h.plans;
+      limits = k.limits ∙ h.limits;
+      session = then-kept (state_of old.session) (state_of mid.session) (state_of new.session) h.session k.session;
     }
-
-    pub refused-stops : (begun : SessionOf S) → IsUnderway program text_of may begun old → StopsAnswering may (state_of begun) (state_of mid.session) (joint program text_of mid.plans)
-    refused-stops begun h = stopped-all program text_of loaders fits may (state_of begun) (state_of mid.session) mid.plans run same-plans (ready.went begun h)
-
-  -- a run was made ready and went on
-  module _ {P E : Type 0} (program : P → Program) (text_of : P → AnsweredOf → List ℕ) (loaders : P → ℕ) (fits : P → E → MemoryOf → Type 0) (may : S → List KeyOf → AnswerOf → Type 0) (old mid : HandOf S P E) (run later : RunOf P E) (now : SessionOf S)
-      (ready : Readies program text_of may loaders fits old mid run) (same : mid.plans ≡ old.plans) (limited : mid.limits ≡ old.limits) (kept : plans_in later.parts ≡ plans_in run.parts) (went : GoesOnFrom program text_of may (state_of mid.session) (state_of now) run later) where
-    own : plans_in later.parts ≡ mid.plans
-    own = kept ∙ ready.plans ∙ sym same
-
-    ran : (begun : SessionOf S) → IsUnderway program text_of may begun old → IsRun program text_of may (state_of begun) (state_of now) later
-    ran begun h = went (state_of begun) (ready.went begun h)
-
-    -- it is over
-    pub advanced-stops : (begun : SessionOf S) → IsUnderway program text_of may begun old → StopsAnswering may (state_of begun) (state_of now) (joint program text_of mid.plans)
-    advanced-stops begun h = stopped-all program text_of loaders fits may (state_of begun) (state_of now) mid.plans later own (ran begun h)
-
-    -- nothing is missing any more
-    pub advanced-tells : MayGoOn mid.limits (requests program text_of (plans_in run.parts)) (state_of mid.session) run.rounds → IsNext program text_of run later (state_of mid.session) (state_of now) None → (answers : Vec Answer) → map report_of answers.items ≡ reports_in later.parts
-        → (begun : SessionOf S) → IsUnderway program text_of may begun old → AreAnswersWithin may (state_of begun) (state_of now) mid.limits (requests program text_of mid.plans) (Ok answers)
-    advanced-tells might last answers are begun h =
-        let rounds = subst (λ (l : Limits). IsWithin l.rounds run.rounds) (sym limited) ready.within in
-        let within = last-within program text_of mid.limits (state_of mid.session) (state_of now) run later kept last.0.same last.1 might rounds in
-        let done = finished-within program text_of may (state_of begun) (state_of now) mid.limits mid.plans later own last.2 (ran begun h) within in
-        subst (λ ts. (headline : SharedHeadline may (state_of begun) (state_of now) (requests program text_of mid.plans) ts) × AreWithin mid.limits (requests program text_of mid.plans) (state_of now) (length headline.log)) (sym are) done
-
-    -- a round is out
-    module _ (orders : List CutOf) (ps : List Pending) (each : ps ≡ map still_out orders) where
-      pub advanced-away : All (λ one. is_in one ≡ false) ps
-      advanced-away = rw each (out-away orders)
-
-      pub advanced-holds : later.stage ≡ stage.Out → IsRound (program_of program text_of run) (state_of mid.session) (state_of now) orders → HoldsRun program text_of loaders fits later now → HoldsFar program text_of loaders fits now mid.plans (out later ps)
-      advanced-holds away is holds = (own, out-with program text_of (state_of mid.session) (state_of now) (plans_in run.parts) later orders ps kept away is each, holds)
-
-      pub advanced-out : (begun : SessionOf S) → IsUnderway program text_of may begun old → HasGone program text_of may begun now mid.plans (out later ps)
-      advanced-out begun h = (own, ran begun h, none-replied (may_at may now.loaders) ps advanced-away)

@@ -15,7 +15,7 @@ use Rattle.rounds_by_hand.specs.declared.pending.Pending.{Pending}
 use Rattle.rounds_by_hand.specs.declared.pending.Pending.TheVariants.{Out, In}
 use Rattle.rounds_by_hand.specs.Pending.{is_in, replies_in, IsReplyFor, AreRepliesFor}
 use Rattle.rounds_by_hand.specs.Stored.{Stores, StoresRound}
-use Rattle.rounds_by_hand.specs.Hands.{FarOf, HandOf, handed, out, over, can_advance, pending_in, AsksAndOverruns, IsOver, Overruns, StoresFrom, StoresAskedFrom}
+use Rattle.rounds_by_hand.specs.Hands.{FarOf, HandOf, handed, ready, out, over, can_advance, pending_in, AsksAndOverruns, IsOver, Overruns, StoresFrom, StoresAskedFrom}
 use Rattle.rounds_by_hand.specs.declared.fault.HandFault.{HandFault}
 use Rattle.rounds_by_hand.specs.declared.fault.HandFault.TheVariants as fault
 
@@ -48,12 +48,14 @@ module _ {S P E : Type 0} (may : S → List KeyOf → AnswerOf → Type 0) where
   -- says the same by how far they are
   pub stores-given : (far : FarOf P E) (old new : SessionOf S) → list_all is_in (pending_in far) ≡ true → StoresAskedFrom may far old new → StoresFrom far old new
   stores-given handed old new e h = h
+  stores-given (ready run) old new e h = h
   stores-given (out run ps) old new e h = round-given may old new ps e h
   stores-given over old new e h = h
 
 -- it was under way, and each order had a reply
 could-go : {P E : Type 0} (far : FarOf P E) → ¬ (IsOver far) → list_all is_in (pending_in far) ≡ true → can_advance far ≡ true
 could-go handed left each = refl
+could-go (ready run) left each = refl
 could-go (out run ps) left each = each
 could-go over left each = absurd (left refl)
 

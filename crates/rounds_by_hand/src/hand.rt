@@ -10,7 +10,7 @@ use crate::steps::store;
 use execution::CountWork;
 use load_memory::Item;
 use load_queue::{FetchFault, LocalSource};
-use load_rounds::{Answer, Limits, Rounds, Session};
+use load_rounds::{Ahead, Answer, Limits, Rounds, Session};
 use std::alloc::AllocError;
 use std::marker::Model;
 use std::mem;
@@ -20,6 +20,8 @@ use std::mem;
 pub(crate) enum Far<P, E> {
     /// Nothing is done yet of these plans.
     Handed(Vec<P>),
+    /// A run that is ready to go on, no round of which is out: it has steps left.
+    Ready(Box<Rounds<P, E>>),
     /// A round is out, with its orders. The run stays in its place from round to round.
     Out(Box<Rounds<P, E>>, Vec<Pending>),
     /// Nothing more can be done.
@@ -35,10 +37,13 @@ pub(crate) enum Far<P, E> {
 /// It is used in turns. [`advance`](Hand::advance) returns the answers, or a new round is out: then the caller replies to each of the orders
 /// ([`orders`](Hand::orders)) by its number, in any order ([`reply`](Hand::reply)), and advances again.
 ///
+/// With `steps` in its limits a call returns [`Progress::Working`] after so many steps: nothing is asked then, and the call is to be made again.
+/// Calls in a row come to an end, with the next round or the answers.
+///
 /// A contract sees the session, the plans, their limits, and how far they are. `Holds` of `specs/Hands.antt` is what each call needs and
-/// keeps: the session has the loaders of each plan, as where they were begun, and a round that is out was asked within the limits. (No
-/// invariant of the type says it, since the type asks nothing of its parameters.) What was done in the session since they were begun is
-/// `IsUnderway` of `specs/Hands.antt`: each call keeps it, and in the end it is the headline.
+/// keeps: the session has the loaders of each plan, as where they were begun, a run that is ready is of this session, and a round that is out
+/// was asked within the limits. (No invariant of the type says it, since the type asks nothing of its parameters.) What was done in the
+/// session since they were begun is `IsUnderway` of `specs/Hands.antt`: each call keeps it, and in the end it is the headline.
 #[derive(Drop)]
 pub struct Hand<S, P, E> {
     session: Session<S>,
@@ -93,7 +98,7 @@ impl<S, P, E> Hand<S, P, E> {
 }
 
 impl<S: LocalSource, P: CountWork<E> + Drop, E: Drop> Hand<S, P, E> {
-    ghost use Rattle.rounds_by_hand.specs.Hands.{Advances, AsksAndAdvances, AsksAndOverruns, AsksAndStores, AsksWithin, AnswersFrom, GoesOn, GoesOnIfMay, GivesUp, Holds, IsOver, KeepsHand, KeepsLoaders, KeepsSession, Overruns, Readies, StoresReplies, given_up, pending_in};
+    ghost use Rattle.rounds_by_hand.specs.Hands.{Advances, AsksAndAdvances, AsksAndOverruns, AsksAndStores, AsksWithin, AnswersFrom, GoesOn, GoesOnIfMay, GivesUp, Holds, IsOver, KeepsHand, KeepsLoaders, KeepsSession, MayTurn, Nears, Overruns, Readies, StoresReplies, Turns, given_up, pending_in, with_run};
     ghost use Rattle.rounds_by_hand.specs.Progress.{OnStep};
     ghost use Rattle.rounds_by_hand.specs.Pending.{RefusesReply, TakesReply};
 
@@ -101,7 +106,8 @@ impl<S: LocalSource, P: CountWork<E> + Drop, E: Drop> Hand<S, P, E> {
     /// plan in order, or makes the next round. The first call begins, and forgets failed batches.
     ///
     /// The answers and a round that is made are within the limits. The work is counted before each round, so a call takes time for as much
-    /// work as the limit allows.
+    /// work as the limit allows. With a limit on its steps it does so many, and while some are left it returns [`Working`](Progress::Working), each
+    /// time with fewer than before (`working`): what the replies said is stored then, and nothing was asked.
     ///
     /// # Errors
     ///
@@ -124,6 +130,8 @@ impl<S: LocalSource, P: CountWork<E> + Drop, E: Drop> Hand<S, P, E> {
             (AnswersFrom P.program P.text_of S.may_tell self.old self.new) }
         ensures refused { IfErr result
             (Overruns P.program P.text_of S.may_tell self.old self.new) }
+        ensures working { IfOk result
+            (Nears P.left self.old self.new) }
         // What was given as the reply to an order is what is stored.
         ensures stored { IfOk result (λ did. OnStep did
             (StoresReplies self.old self.new)) }
@@ -134,8 +142,8 @@ impl<S: LocalSource, P: CountWork<E> + Drop, E: Drop> Hand<S, P, E> {
         self.ask_and_advance()
     }
 
-    // A run that is ready to go on: that of plans of which nothing is done yet, or the one whose round was out, once the replies to it are
-    // stored. None where they are over. They are over meanwhile.
+    // A run that is ready to go on: that of plans of which nothing is done yet, the one that has steps left, or the one whose round was out, once
+    // the replies to it are stored. None where they are over. They are over meanwhile.
     fn ready(&mut self) -> Result<Option<Box<Rounds<P, E>>>, AllocError>
         requires { Holds P.program P.text_of P.loaders P.fits
             self.old.session self.old.plans self.old.limits self.old.far }
@@ -157,6 +165,7 @@ impl<S: LocalSource, P: CountWork<E> + Drop, E: Drop> Hand<S, P, E> {
                 let run = self.session.begin_all(plans)?;
                 Ok(Some(Box::new(self.session.alloc(), run)?))
             }
+            Far::Ready(run) => Ok(Some(run)),
             Far::Out(run, pending) => {
                 let mut run = run;
                 store(&mut self.session, &mut *run, pending)?;
@@ -188,23 +197,44 @@ impl<S: LocalSource, P: CountWork<E> + Drop, E: Drop> Hand<S, P, E> {
             (AsksAndOverruns P.program P.text_of S.may_tell self.old self.new) }
         ensures stored { OnOk result
             (AsksAndStores S.may_tell self.old self.new) }
+        ensures working { IfOk result
+            (Nears P.left self.old self.new) }
     {
         let Some(run) = self.ready()? else {
             return Ok(Progress::Over);
         };
         let mut run = run;
-        if let Some(excess) = run.excess(&self.session, self.limits)? {
-            return Err(HandFault::Over(run.overrun(excess)));
-        }
-        match run.advance(&mut self.session)? {
-            None => {
-                let answers = Box::into_inner(run).into_answers(self.session.alloc())?;
-                Ok(Progress::Done(answers))
+        match run.step(&self.session, self.limits)? {
+            Ahead::Over(excess) => Err(HandFault::Over(run.overrun(excess))),
+            Ahead::Working => {
+                self.far = Far::Ready(run);
+                Ok(Progress::Working)
             }
+            Ahead::Done => match self.turn(run)? {
+                Some(answers) => Ok(Progress::Done(answers)),
+                None => Ok(Progress::Round),
+            },
+        }
+    }
+
+    // Goes on with a run that is ready and within the limits: returns the answers, or nothing where a new round is out. They are over meanwhile.
+    fn turn(&mut self, run: Box<Rounds<P, E>>) -> Result<Option<Vec<Answer>>, AllocError>
+        requires { MayTurn P.program P.text_of S.may_tell P.loaders P.fits self.old run.value }
+        ensures kept { KeepsHand P.program P.text_of P.loaders P.fits
+            (with_run self.old run.value) self.new }
+        ensures over { OnErr result (IsOver self.new.far) }
+        ensures underway { GoesOn P.program P.text_of S.may_tell
+            (with_run self.old run.value) self.new }
+        ensures turned { IfOk result (Turns P.program P.text_of S.may_tell
+            (with_run self.old run.value) self.new) }
+    {
+        let mut run = run;
+        match run.advance(&mut self.session)? {
+            None => Ok(Some(Box::into_inner(run).into_answers(self.session.alloc())?)),
             Some(orders) => {
                 let pending = all_out(orders)?;
                 self.far = Far::Out(run, pending);
-                Ok(Progress::Round)
+                Ok(None)
             }
         }
     }
@@ -248,7 +278,8 @@ impl<S: LocalSource, P: CountWork<E> + Drop, E: Drop> Hand<S, P, E> {
         }
     }
 
-    /// Gives up the round that is out, if one is: it is lost, and its batches stay in the logs as not stored. It is over then.
+    /// Gives up what is on its way: a round that is out, or a run that has steps left. It is over then. The finished rounds stay, and a round
+    /// that was out is lost: its batches stay in the logs as not stored.
     pub fn give_up(&mut self)
         requires { Holds P.program P.text_of P.loaders P.fits
             self.old.session self.old.plans self.old.limits self.old.far }
@@ -259,10 +290,11 @@ impl<S: LocalSource, P: CountWork<E> + Drop, E: Drop> Hand<S, P, E> {
         ensures underway { GoesOn P.program
             P.text_of S.may_tell self.old self.new }
     {
-        let Far::Out(_, _) = &mut self.far else {
-            return;
-        };
-        self.far = Far::Over;
+        match &self.far {
+            Far::Handed(_) | Far::Over => {}
+            Far::Ready(_) => self.far = Far::Over,
+            Far::Out(_, _) => self.far = Far::Over,
+        }
     }
 
     /// Gives the session back, whatever is done: the finished rounds stay, and a round that is out is lost. Its batches stay in the logs

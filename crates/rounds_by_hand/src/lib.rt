@@ -11,6 +11,9 @@
 //! The answers have limits ([`Limits`](load_rounds::Limits)): a round is made only within them, and where the answers are over one by what is
 //! known, they are refused, and only then (`Overruns` of `specs/Hands.antt`).
 //!
+//! With a limit on its steps a call does so many, and then says that some are left: nothing was asked, what the replies said is stored, and each
+//! such call leaves fewer (`Nears` of `specs/Hands.antt`). So a thread that has other things to do goes on with those in between.
+//!
 //! Keys of one loader are loaded so too: their program is a plan like any other (`KeysToLoad` of `load_rounds`).
 #![tactic(auto)]
 

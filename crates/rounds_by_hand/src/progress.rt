@@ -9,6 +9,8 @@ pub enum Progress<T> {
     Done(T),
     /// A new round is out. Its orders wait for their replies.
     Round,
+    /// Nothing was asked: steps are left to do before the next round or the answer. The call is to be made again.
+    Working,
     /// Nothing: an order of the round that is out has no reply.
     Waiting,
     /// Nothing: it was done before, or memory ran out.
@@ -22,7 +24,7 @@ impl<T> Progress<T> {
     {
         match self {
             Progress::Done(done) => Some(done),
-            Progress::Round | Progress::Waiting | Progress::Over => None,
+            Progress::Round | Progress::Working | Progress::Waiting | Progress::Over => None,
         }
     }
 
@@ -40,6 +42,7 @@ impl<T> Progress<T> {
         match self {
             Progress::Done(done) => Ok(Progress::Done(make(done)?)),
             Progress::Round => Ok(Progress::Round),
+            Progress::Working => Ok(Progress::Working),
             Progress::Waiting => Ok(Progress::Waiting),
             Progress::Over => Ok(Progress::Over),
         }

@@ -4,7 +4,7 @@ use Rattle.host_clients.specs.Faults.{code_of}
 use Rattle.host_clients.specs.declared.fault.Fault.{Fault}
 use Rattle.host_clients.specs.declared.fault.Fault.TheVariants as fault
 use Rattle.rounds_by_hand.specs.declared.progress.Progress.{Progress}
-use Rattle.rounds_by_hand.specs.declared.progress.Progress.TheVariants.{Done, Round, Waiting, Over}
+use Rattle.rounds_by_hand.specs.declared.progress.Progress.TheVariants.{Done, Round, Working, Waiting, Over}
 
 abbrev pub code_in : Result (Unit {0}) Fault → ℤ
 code_in (Ok done) = pos 0
@@ -14,5 +14,6 @@ abbrev pub progress_in : Result (Progress (Unit {0})) Fault → ℤ
 progress_in (Ok (Done done)) = pos 0
 progress_in (Ok Round) = pos 1
 progress_in (Ok Waiting) = pos 2
+progress_in (Ok Working) = pos 3
 progress_in (Ok Over) = code_of fault.Stopped
 progress_in (Err e) = code_of e

@@ -9,12 +9,12 @@ use Rattle.load_queue.specs.declared.source.FetchFault.{FetchFault}
 use Rattle.gq_resolve.specs.declared.root_state.RootState.{RootState}
 use Rattle.load_rounds.specs.SharedRounds.{report_of}
 use Rattle.load_rounds.specs.declared.answer.Answer.{Answer}
-use Rattle.rounds_by_hand.specs.Hands.{FarOf, HandOf, handed, AsksAndMoves, Holds, HasGone, IsOver, Moves, StoresAskedFrom, StoresFrom}
+use Rattle.rounds_by_hand.specs.Hands.{FarOf, HandOf, handed, hand_of, AsksAndMoves, Holds, HasGone, IsOver, Moves, Nears as HandNears, StoresAskedFrom, StoresFrom}
 use Rattle.rounds_by_hand.specs.Pending.{order_in, MayReply}
 use Rattle.rounds_by_hand.specs.Progress.{done_in}
 use Rattle.rounds_by_hand.specs.declared.pending.Pending.{Pending}
 use Rattle.rounds_by_hand.specs.declared.progress.Progress.{Progress}
-use Rattle.server.specs.Plans.{limited_program, limited_text, limited_loaders, limited_fits}
+use Rattle.server.specs.Plans.{limited_program, limited_text, limited_loaders, limited_fits, limited_left}
 use Rattle.server.specs.Clients.{ClientOf, HasLoaders, IsSameClient}
 use Rattle.server.specs.Planned.{AskedOf, PlannedOf, PlansAsked, AnswersAsked, StopsAsked, IsResponseOf, is_refused}
 use Rattle.gq_resolve.specs.PreparedPlans.{LimitedPlanOf}
@@ -48,6 +48,10 @@ module _ {S : Type 0} where
   abbrev pub by_hand_of : ClientOf S → PlannedOf → FarOf LimitedPlanOf RootState → ByHandOf S
   by_hand_of client planned far = record { client = client; planned = planned; far = far }
 
+  -- the plans in the client's session, within its limits, and how far they are
+  abbrev pub hand_in : ByHandOf S → HandOf S LimitedPlanOf RootState
+  hand_in b = hand_of b.client.session b.planned.plans b.client.limits b.far
+
   -- Gives what holds between calls: the client has its loaders and the limits of the hand, and nothing is asked for a refused request.
   pub record HoldsByHand (client : ClientOf S) (planned : PlannedOf) (refuses : Bool)
       (hand : HandOf S LimitedPlanOf RootState) : Type 0 where
@@ -69,6 +73,11 @@ module _ {S : Type 0} where
   abbrev pub AsksAndSteps : ByHandOf S → ByHandOf S → Progress Answer → Type 0
   AsksAndSteps old new = AsksAndMoves old.far new.far (Ends old new) (new ≡ old)
 
+  -- A call left steps: the client has a limit on those. Where some were left before it, its session is as it was, and fewer are left. So such
+  -- calls in a row come to an end.
+  abbrev pub Nears : ByHandOf S → ByHandOf S → Progress Answer → Type 0
+  Nears old new = HandNears limited_left (hand_in old) (hand_in new)
+
   -- it is one request that is refused, and the client stays as it is
   abbrev pub StaysRefused : ByHandOf S → ClientOf S → Type 0
   StaysRefused old client = (is_refused old.planned ≡ true) × (client ≡ old.client)
@@ -89,7 +98,7 @@ module _ {S : Type 0} where
     pub record IsUnderway (begun : ClientOf S) (b : ByHandOf S) : Type 0 where
       pub limits : b.client.limits ≡ begun.limits
       pub gone : HasGone limited_program limited_text may begun.session
-          b.client.session b.planned.plans b.far
+          b.client.session b.planned.plans b.client.limits b.far
 
     -- says what was so before a call is so after it, from whichever client it was begun on
     abbrev pub GoesOn : ByHandOf S → ByHandOf S → Type 0

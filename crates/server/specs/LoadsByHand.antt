@@ -1,5 +1,5 @@
 -- Keys that a client loads by hand: a hand whose one program reads them, in the client's session, and what was done there since it was begun.
-use Rattle.std.specs.Prelude.{◌≡◌, ◌⊎◌, List, [], ◌∷◌, Result, IfSome, map}
+use Rattle.std.specs.Prelude.{◌≡◌, ◌≢◌, ◌⊎◌, List, [], ◌∷◌, Result, IfSome, map}
 use Rattle.std.specs.Global.{Vec}
 use Rattle.load_memory.specs.Keys.{KeyOf}
 use Rattle.load_memory.specs.Outcomes.{outcome_of}
@@ -15,12 +15,12 @@ use Rattle.load_rounds.specs.Reading.{KeysOf, keys_fits, keys_loaders, keys_prog
 use Rattle.load_rounds.specs.Sessions.{SessionOf, state_of, rules_of}
 use Rattle.load_rounds.specs.declared.answer.Answer.{Answer}
 use Rattle.plan_requests.specs.Servers.{ServerOf}
-use Rattle.rounds_by_hand.specs.Hands.{FarOf, HandOf, handed, AsksAndMoves, HasGone, Holds, IsOver, Moves, StoresAskedFrom, StoresFrom}
+use Rattle.rounds_by_hand.specs.Hands.{FarOf, HandOf, handed, AsksAndMoves, HasGone, Holds, IsOver, IsReady, Moves, StoresAskedFrom, StoresFrom}
 use Rattle.rounds_by_hand.specs.Pending.{order_in, MayReply}
 use Rattle.rounds_by_hand.specs.Progress.{done_in}
 use Rattle.rounds_by_hand.specs.declared.pending.Pending.{Pending}
 use Rattle.rounds_by_hand.specs.declared.progress.Progress.{Progress}
-use Rattle.rounds_by_hand.specs.declared.progress.Progress.TheVariants.{Round}
+use Rattle.rounds_by_hand.specs.declared.progress.Progress.TheVariants.{Round, Working}
 use Rattle.server.specs.Clients.{ClientOf, HasLoaders, IsClientCall}
 
 -- the client as it is, the keys that it loads, and how far that is
@@ -33,15 +33,15 @@ module _ {S : Type 0} where
   abbrev pub load_by_hand_of : ClientOf S → KeysOf → FarOf KeysOf (Unit {0}) → LoadByHandOf S
   load_by_hand_of client keys far = record { client = client; keys = keys; far = far }
 
-  -- says what a call did, and one that asks the source; a load has at most one round
+  -- says what a call did, and one that asks the source; a load has at most one round, and no call leaves steps
   abbrev pub AdvancesLoad : LoadByHandOf S → LoadByHandOf S → Progress (Vec Outcome) → Type 0
   AdvancesLoad old new did = Moves old.far new.far (IsOver new.far) (new ≡ old) did
-      × (did ≡ Round → old.far ≡ handed)
+      × (did ≡ Round → old.far ≡ handed) × (did ≢ Working)
 
   abbrev pub AsksAndAdvancesLoad : LoadByHandOf S
       → LoadByHandOf S → Progress (Vec Outcome) → Type 0
   AsksAndAdvancesLoad old new did = AsksAndMoves old.far new.far (IsOver new.far) (new ≡ old) did
-      × (did ≡ Round → old.far ≡ handed)
+      × (did ≡ Round → old.far ≡ handed) × (did ≢ Working)
 
   -- What the client knows after a step: what it knew before, with just what the replies to the round say that was out.
   abbrev pub ClientStores : LoadByHandOf S → ClientOf S → Type 0
@@ -53,13 +53,14 @@ module _ {S : Type 0} where
       AreKnown (state_of now) keys.loader keys.keys (map outcome_of outcomes.items)
 
   -- No public clause names it. What holds between calls: the client has its loaders, of which no limit is 0, and the hand reads the keys,
-  -- without limits.
+  -- without limits, so that no steps are left.
   pub record HoldsLoad (server : ServerOf) (keys : KeysOf)
       (hand : HandOf S KeysOf (Unit {0})) : Type 0 where
     pub has : HasLoaders server hand.session
     pub limited : AreLimited (rules_of (state_of hand.session))
     pub plans : hand.plans ≡ keys ∷ []
     pub unlimited : hand.limits ≡ no_limits
+    pub whole : ¬ (IsReady hand.far)
     pub holds : Holds keys_program keys_text keys_loaders keys_fits
         hand.session hand.plans hand.limits hand.far
 
@@ -68,7 +69,7 @@ module _ {S : Type 0} where
     -- its source may give, or none yet.
     abbrev pub IsLoadUnderway : SessionOf S → LoadByHandOf S → Type 0
     IsLoadUnderway begun b =
-        HasGone keys_program keys_text may begun b.client.session (b.keys ∷ []) b.far
+        HasGone keys_program keys_text may begun b.client.session (b.keys ∷ []) no_limits b.far
 
     -- says what was so before a call is so after it, from whichever session the load was begun on
     abbrev pub LoadGoesOn : LoadByHandOf S → LoadByHandOf S → Type 0

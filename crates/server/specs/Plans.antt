@@ -7,6 +7,7 @@ use Rattle.execution.specs.Program.{Program}
 use Rattle.plan_program.specs.PlanPrograms.{plan_program}
 use Rattle.load_rounds.specs.Sessions.{SessionOf}
 use Rattle.load_rounds.specs.SharedRounds.{RequestOf, requests}
+use Rattle.gq_resolve.specs.StepsLeft.{steps_left}
 use Rattle.gq_resolve.specs.Suspended.{FitsMemory}
 use Rattle.gq_resolve.specs.Within.{text_within}
 use Rattle.gq_resolve.specs.declared.root_state.RootState.{RootState}
@@ -25,6 +26,10 @@ limited_loaders l = length (plan_of l.plan).bindings.loaders
 -- an execution of it holds nothing as done that isn't so over the memory
 abbrev pub limited_fits : LimitedPlan → RootState → MemoryOf → Type 0
 limited_fits l state m = FitsMemory (plan_of l.plan) state m
+
+-- how many steps of an execution of it are left to do ahead over the memory
+abbrev pub limited_left : LimitedPlan → RootState → MemoryOf → ℕ
+limited_left l state m = steps_left (plan_of l.plan) l.most state m
 
 -- gives what plans ask, each within its limit
 abbrev pub limited_requests : List LimitedPlan → List RequestOf

@@ -24,8 +24,9 @@ use std::marker::Model;
 ///
 /// It is used in turns. [`advance`](ByHand::advance) returns the answer, or a new round is out: then the caller replies to each of its
 /// orders ([`orders`](ByHand::orders)) by its number, in any order ([`reply`](ByHand::reply)), and advances again. How it asks, and what, is
-/// the caller's affair: one source after another, or all at the same time. At any time it gives the client back
-/// ([`into_client`](ByHand::into_client)).
+/// the caller's affair: one source after another, or all at the same time. Where the client limits the steps of a call
+/// ([`limit_steps`](ClientSession::limit_steps)), the caller advances again as long as steps are left ([`Progress::Working`]). At any time it
+/// gives the client back ([`into_client`](ByHand::into_client)).
 ///
 /// A contract sees the client, what is planned, and how far that is. What was done since it was begun is `IsUnderway` of
 /// `specs/Hands.antt`: each call keeps it, and in the end it says of the answer what [`ClientSession::answer`] says.
@@ -146,11 +147,13 @@ impl<S> ByHand<S> {
 }
 
 impl<S: LocalSource> ByHand<S> {
-    ghost use Rattle.server.specs.Hands.{AsksAndSteps, AsksAndStores, Ends, GivesUp, GoesOn, GoesOnIfMay, Responds, Steps, StoresReplies};
+    ghost use Rattle.server.specs.Hands.{AsksAndSteps, AsksAndStores, Ends, GivesUp, GoesOn, GoesOnIfMay, Nears, Responds, Steps, StoresReplies};
 
     /// Stores the round that is out, if each of its orders has a reply, and goes on over what is known then: returns the answer, or makes
     /// the next round. The first call begins. A request that is refused is answered by each call, and no round is made. Where what is asked is
-    /// over a limit of the client by what is known then, the answer is the refusal of that, and no round more is made.
+    /// over a limit of the client by what is known then, the answer is the refusal of that, and no round more is made. Once the call has taken
+    /// as many steps as the client's limit has ([`limit_steps`](ClientSession::limit_steps)) and some are left, it returns
+    /// [`Progress::Working`]: nothing is asked, and it is to be called again. Such calls in a row come to an end (`working`).
     ///
     /// # Errors
     ///
@@ -172,6 +175,8 @@ impl<S: LocalSource> ByHand<S> {
             self.old self.new }
         ensures answered { IfOk result
             (Responds S.may_tell self.old self.new) }
+        ensures working { IfOk result
+            (Nears self.old self.new) }
         ensures same { IsSameClient
             self.old.client self.new.client }
         ensures planned { self.new.planned
@@ -203,6 +208,8 @@ impl<S: LocalSource> ByHand<S> {
             self.old self.new }
         ensures answered { IfOk result
             (Responds S.may_tell self.old self.new) }
+        ensures working { IfOk result
+            (Nears self.old self.new) }
         ensures same { IsSameClient
             self.old.client self.new.client }
         ensures planned { self.new.planned

@@ -55,7 +55,7 @@ impl<S> Model for ClientSession<S> {
 
 impl<S> ClientSession<S> {
     /// A session of a server's client, which has a loader for each `loader` line of the server's bindings, in order. Answers have no
-    /// limit, nor have their work and their rounds.
+    /// limit, nor have their work, their rounds and the steps of a call.
     pub fn new(alloc: Global, server: Server, session: Session<S>) -> ClientSession<S>
         requires { HasLoaders server session }
         ensures { result ≡ client_of server None no_limits session }
@@ -124,8 +124,19 @@ impl<S> ClientSession<S> {
         self.limits.rounds = most;
     }
 
+    /// Limits how many steps a call of [`ByHand::advance`](crate::ByHand::advance) takes, at least one: then it returns
+    /// [`Progress::Working`](rounds_by_hand::Progress::Working), so that whoever runs an event loop can go on with something else. A step is a
+    /// position that is counted, or a field or item that is written. Without a limit a call goes on to the next round or the answer. Answers in one
+    /// call, and those by workers, aren't cut.
+    pub fn limit_steps(&mut self, steps: Option<usize>)
+        ensures { self.new ≡ client_of self.old.server self.old.most
+            (record self.old.limits { steps = steps }) self.old.session }
+    {
+        self.limits.steps = steps;
+    }
+
     /// Returns within which limits what is asked together is answered ([`limit_work`](ClientSession::limit_work),
-    /// [`limit_rounds`](ClientSession::limit_rounds)).
+    /// [`limit_rounds`](ClientSession::limit_rounds)), and how many steps a call takes ([`limit_steps`](ClientSession::limit_steps)).
     pub fn limits(&self) -> Limits
         ensures { result ≡ self.now.limits }
     {

@@ -15,8 +15,9 @@ use load_rounds::Answer;
 use std::alloc::AllocError;
 
 /// A future of an answer, which owns its client meanwhile. Its output is the client and the answer, or that memory ran out. Each poll
-/// makes one round at most, over the sources of the session, and asks to be polled again; the first one begins. A request that is refused
-/// is answered by the first poll.
+/// makes one round at most, over the sources of the session, or takes as many steps as the client's limit has
+/// ([`limit_steps`](ClientSession::limit_steps)), and asks to be polled again; the first one begins. A request that is refused is answered by
+/// the first poll.
 pub struct ClientAnswering<S> {
     by_hand: Option<ByHand<S>>,
 }
@@ -104,7 +105,7 @@ impl<S: LocalSource + Drop> Future for ClientAnswering<S> {
         match by_hand.ask_and_advance() {
             Ok(progress) => match progress.into_done() {
                 Some(answer) => Poll::Ready((self.take_client(), Ok(answer))),
-                // It never waits, and it isn't over before it has answered: its next round is out.
+                // It never waits, and it isn't over before it has answered: its next round is out, or steps are left.
                 None => cx.yield_now(),
             },
             Err(fault) => Poll::Ready((self.take_client(), Err(fault))),

@@ -153,7 +153,8 @@ impl<S: LocalSource> LoadByHand<S> {
     ghost use Rattle.server.specs.LoadsByHand.{AdvancesLoad, AsksAndAdvancesLoad, ClientAsksAndStores, ClientLoads, ClientStopsLoad, ClientStores, LoadGoesOn, LoadGoesOnIfMay};
 
     /// Stores the round that is out, if each of its orders has a reply, and returns the outcomes, one for each key in order. The first call
-    /// begins: it forgets failed batches, and returns the outcomes if all keys are known; else the round that asks for the others is out.
+    /// begins: it forgets failed batches, and returns the outcomes if all keys are known; else the round that asks for the others is out. A load
+    /// takes no steps, so it never returns [`Progress::Working`].
     ///
     /// # Errors
     ///

@@ -22,7 +22,8 @@ pub trait Sessions {
     /// A new session for one client: a loader for each `loader` line, in order, under its name, and nothing is known of any key. `source`
     /// gives the source of a line. The keys of a line that ends in `fold` are compared without the case of `A` to `Z`. A batch has at
     /// most `max_batch` keys; `None` is no limit. Answers have no limit at first ([`ClientSession::limit_answers`]), nor have their work
-    /// ([`ClientSession::limit_work`]) and their rounds ([`ClientSession::limit_rounds`]).
+    /// ([`ClientSession::limit_work`]), their rounds ([`ClientSession::limit_rounds`]) and the steps of a call
+    /// ([`ClientSession::limit_steps`]).
     ///
     /// # Errors
     ///

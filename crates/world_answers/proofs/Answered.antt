@@ -116,7 +116,7 @@ module _ (w : WorldOf) (has : HasSources w) where
     p = together rs
 
     abbrev limits : Limits
-    limits = record { work = limit; rounds = None }
+    limits = record { work = limit; rounds = None; steps = None }
 
     few : (cur : StateOf SourceOf) (n : ℕ) → InRounds may_tell old cur p n → n ≤ chain p (direct (item_at w.sources))
     few cur n is =

@@ -15,9 +15,9 @@ pub record ServiceOf : Type 0 where
 abbrev pub server_in : ServiceOf → ServerOf
 server_in s = server_of s.world
 
--- the limits of its clients, whose rounds have none
+-- the limits of its clients, whose rounds have none, nor have the steps of a call
 abbrev pub limits_in : ServiceOf → Limits
-limits_in s = record { work = s.work; rounds = None }
+limits_in s = record { work = s.work; rounds = None; steps = None }
 
 -- a world whose answers may have `most` bytes, or any number, and where what is asked together may be this much work, or any
 abbrev pub within : Option ℕ → Option ℕ → WorldOf → ServiceOf

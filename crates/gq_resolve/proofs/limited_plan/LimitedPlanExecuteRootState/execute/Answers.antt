@@ -22,7 +22,7 @@ returns-clause-executed c =
     let own : plan_of c.plan-plan.result.now ≡ plan_of c.args.self.now.plan = ap plan_of (c.plan-plan.ensures ∙ c.deref-2.ensures) ∙ ap (λ (l : LimitedPlanOf). plan_of l.plan) c.self.view_is in
     let first : plan_of c.deref.result.now ≡ plan_of c.args.self.now.plan = ap plan_of c.deref.ensures ∙ ap (λ (l : LimitedPlanOf). plan_of l.plan) c.self.view_is in
     let out = c.poll_text.result in
-    let begun : FitsMemory (plan_of c.args.self.now.plan) c.begin.new.progress c.args.memory.now = subst (λ (plan : PlanOf). FitsMemory plan c.begin.new.progress c.args.memory.now) first (c.in_ok-begin.ensures c.args.memory.now (subst (λ (plan : PlanOf). FitsMemory plan c.args.progress.now c.args.memory.now) (sym first) c.requires.fits)) in
+    let begun : FitsMemory (plan_of c.args.self.now.plan) c.begin.new.progress c.args.memory.now = subst (λ (plan : PlanOf). FitsMemory plan c.begin.new.progress c.args.memory.now) first (c.in_ok-begin.ensures.fits c.args.memory.now (subst (λ (plan : PlanOf). FitsMemory plan c.args.progress.now c.args.memory.now) (sym first) c.requires.fits)) in
     let fits = subst (λ (plan : PlanOf). FitsMemory plan c.begin.new.progress c.args.memory.now) (sym own) begun in
     subst (λ (most : Option ℕ). IfOk out (IsExecuted (text_within most) c.args.wants.now c.poll_text.new.wants (plan_program (plan_of c.args.self.now.plan)) c.args.memory.now)) (ap (λ (l : LimitedPlanOf). l.most) c.self.view_is)
     (subst (λ (plan : PlanOf). IfOk out (IsExecuted (text_within c.self.inside.most) c.args.wants.now c.poll_text.new.wants (plan_program plan) c.args.memory.now)) own (c.poll_text.ensures.ok fits))
@@ -31,7 +31,7 @@ pub returns-clause-fits : goal.returns-clause-fits
 returns-clause-fits c =
     let own : plan_of c.plan-plan.result.now ≡ plan_of c.args.self.now.plan = ap plan_of (c.plan-plan.ensures ∙ c.deref-2.ensures) ∙ ap (λ (l : LimitedPlanOf). plan_of l.plan) c.self.view_is in
     let first : plan_of c.deref.result.now ≡ plan_of c.args.self.now.plan = ap plan_of c.deref.ensures ∙ ap (λ (l : LimitedPlanOf). plan_of l.plan) c.self.view_is in
-    let begun : FitsMemory (plan_of c.args.self.now.plan) c.begin.new.progress c.args.memory.now = subst (λ (plan : PlanOf). FitsMemory plan c.begin.new.progress c.args.memory.now) first (c.in_ok-begin.ensures c.args.memory.now (subst (λ (plan : PlanOf). FitsMemory plan c.args.progress.now c.args.memory.now) (sym first) c.requires.fits)) in
+    let begun : FitsMemory (plan_of c.args.self.now.plan) c.begin.new.progress c.args.memory.now = subst (λ (plan : PlanOf). FitsMemory plan c.begin.new.progress c.args.memory.now) first (c.in_ok-begin.ensures.fits c.args.memory.now (subst (λ (plan : PlanOf). FitsMemory plan c.args.progress.now c.args.memory.now) (sym first) c.requires.fits)) in
     let fits = subst (λ (plan : PlanOf). FitsMemory plan c.begin.new.progress c.args.memory.now) (sym own) begun in
     on_ok c.poll_text.result (λ later grown. subst (λ (plan : PlanOf). FitsMemory plan c.poll_text.new.self later) own (c.poll_text.ensures.grown later fits grown))
 

@@ -1,10 +1,11 @@
 use Rattle.std.proofs.Common.{refl}
-use Rattle.gq_resolve.proofs.Stopping.{put-back, put-onward}
+use Rattle.gq_resolve.proofs.Stopping.{back-past, onward-past}
 use Rattle.gq_resolve.proofs.pausing.PausingSink.cell.Goals as goal
 use Rattle.gq_resolve.proofs.pausing.PausingSink.cell.Goals.{in-Back, in-Onward+in_ok-cell-in-Onward}
 
 pub returns : goal.returns
-returns g c = λ v. elim c.match-self.branch [
-  | in-Back w ↦ put-back g.S.Sink.goes v _ c.args.self.now c.match-self.self _ w.in-Back.is w.self-is refl refl refl refl
-  | in-Onward+in_ok-cell-in-Onward w ↦ put-onward g.S.Sink.goes v _ c.args.self.now c.match-self.self _ w.cell.new.self w.in-Onward.is w.self-is (w.in_ok-cell-in-Onward.ensures v) refl refl refl
-]
+returns g c = λ v.
+    elim c.match-self.branch [
+      | in-Back w ↦ back-past g.S.Sink.goes g.met.S.Sink.none v _ c.args.self.now c.match-self.self _ c.come_past.new.self w.in-Back.is w.self-is c.come_past.ensures.others c.come_past.ensures.turned refl
+      | in-Onward+in_ok-cell-in-Onward w ↦ onward-past g.S.Sink.goes g.met.S.Sink.none v _ c.args.self.now c.match-self.self _ w.cell.new.self c.come_past.new.self w.in-Onward.is w.self-is (w.in_ok-cell-in-Onward.ensures v) c.come_past.ensures.others c.come_past.ensures.turned refl
+    ]

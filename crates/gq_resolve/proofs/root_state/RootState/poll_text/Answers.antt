@@ -1,17 +1,14 @@
-use Rattle.std.proofs.Common.{◌≡◌, refl, rules, ap, sym, subst, ◌∙◌}
+use Rattle.std.proofs.Common.{◌≡◌, refl, rules, ap, sym, subst, ◌∙◌, None}
 use Rattle.load_memory.specs.Pairs.{MemoryOf}
-use Rattle.execution.specs.Completion.{AnsweredOf}
-use Rattle.execution.specs.Executed.{completed}
-use Rattle.execution.specs.Program.{tree}
 use Rattle.gq_check.specs.Plans.{PlanOf, plan_of}
 use Rattle.plan_program.specs.PlanPrograms.{plan_program}
 use Rattle.plan_walk.specs.Reading.{lookup}
 use Rattle.gq_resolve.specs.Evaluated.{AddsPart}
-use Rattle.gq_resolve.specs.Suspended.{FitsMemory, FitsStopped, FitsAhead, Advanced, lacking}
+use Rattle.gq_resolve.specs.Suspended.{FitsMemory, FitsStopped, FitsAhead, FitsCount, Advanced, lacking}
 use Rattle.gq_resolve.specs.declared.root_state.RootState.{RootState}
 use Rattle.gq_resolve.proofs.Evaluating.{on_err}
-use Rattle.gq_resolve.proofs.Polling.{answer-done, answer-shut, answer-within, front-added, loads-counted, part-wanted, still-fits, stopped-more}
-use Rattle.gq_resolve.proofs.Ahead.{still-ahead}
+use Rattle.gq_resolve.proofs.Polling.{answer-ready, limit-given, front-added, part-wanted, still-fits, stopped-more}
+use Rattle.gq_resolve.proofs.Ahead.{found-settled, still-ahead}
 use Rattle.gq_resolve.proofs.root_state.RootState.poll_text.Goals as goal
 use Rattle.gq_resolve.proofs.root_state.RootState.poll_text.Goals.{After-is_empty, then-is_some+in_ok-result+in_default, else-is_some}
 
@@ -20,6 +17,13 @@ same-stopped : (c : After-is_empty) → c.if-is_some.self.stopped ≡ c.args.sel
 same-stopped c = elim c.if-is_some.branch [
   | then-is_some+in_ok-result+in_default w ↦ ap (λ (s : RootState). s.stopped) (w.self-is ∙ w.finish_ahead.ensures.kept)
   | else-is_some w ↦ ap (λ (s : RootState). s.stopped) w.self-is
+]
+
+-- the count was let go
+same-count : (c : After-is_empty) → c.if-is_some.self.count ≡ None
+same-count c = elim c.if-is_some.branch [
+  | then-is_some+in_ok-result+in_default w ↦ ap (λ (s : RootState). s.count) (w.self-is ∙ w.finish_ahead.ensures.kept)
+  | else-is_some w ↦ ap (λ (s : RootState). s.count) w.self-is
 ]
 
 -- the walk came as far as it could
@@ -32,11 +36,9 @@ returns-then-is_empty-clause-ok c = λ fits.
     let m : MemoryOf = c.args.memory.now in
     let came = far (goal.at.returns-then-is_empty-clause-ok c).After-is_empty fits in
     let none = c.if-is_empty.ensures.0 refl in
-    let answer : AnsweredOf = completed (tree (plan_program plan) (lookup m)) in
-    let done = answer-done plan m c.args.wants.now _ c.requires came answer none (λ shut. refl) in
-    let within = answer-within c.args.most c.unwrap_or.result _ plan m _ c.unwrap_or.ensures (came.written none) in
-    let text = c.in_ok-text.ensures plan m within (answer-shut plan m c.args.wants.now _ c.requires came none) in
-    (done.0, record { answered = answer; executed = done.1; report = text }, loads-counted plan m c.in_ok-walked.walked.out.loads c.requires.enough (search rules) (came.loads none), refl)
+    let limit = c.unwrap_or.result in
+    let text = c.in_ok-text.ensures plan m (record { limit = limit; given = limit-given c.args.most limit _ c.unwrap_or.ensures; answers = c.in_ok-finish.ensures limit (plan_program plan) (lookup m) (came.written none) }) in
+    answer-ready plan m c.args.wants.now c.args.most (record { text = c.in_ok-text.text; loads = c.in_ok-walked.walked.out.loads }) c.requires (found-settled plan m c.in_ok-walked.walked came.searched none) text (search rules) (came.loads none)
 
 pub returns-in_err-waiting-clause-err : goal.returns-in_err-waiting-clause-err
 returns-in_err-waiting-clause-err c = λ fits.
@@ -65,10 +67,17 @@ returns-clause-grown c = λ n fits grown.
     record {
       stopped = still-fits plan m n c.in_ok-walked.walked c.in_ok-waiting.waiting (far now fits) c.in_ok-waiting.ensures.kept grown;
       ahead = fits-ahead now n (still-ahead plan m n c.args.self.now.ahead grown fits.ahead);
+      count = subst (FitsCount plan n) (sym (same-count now)) tt;
     }
 
 pub returns-in-Some-clause-grown : goal.returns-in-Some-clause-grown
 returns-in-Some-clause-grown c = λ n fits grown.
     let plan : PlanOf = plan_of c.args.plan.now in
     let m : MemoryOf = c.args.memory.now in
-    rw c.finish_ahead.ensures.kept (record { stopped = stopped-more plan m n c.args.self.now.stopped grown fits.stopped; ahead = tt })
+    rw c.finish_ahead.ensures.kept (record { stopped = stopped-more plan m n c.args.self.now.stopped grown fits.stopped; ahead = tt; count = tt })
+
+pub returns-in_err-result-clause-grown : goal.returns-in_err-result-clause-grown
+returns-in_err-result-clause-grown c = λ n fits grown.
+    let plan : PlanOf = plan_of c.args.plan.now in
+    let m : MemoryOf = c.args.memory.now in
+    rw c.finish_ahead.ensures.kept (record { stopped = stopped-more plan m n c.args.self.now.stopped grown fits.stopped; ahead = tt; count = tt })

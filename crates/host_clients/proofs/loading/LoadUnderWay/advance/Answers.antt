@@ -53,3 +53,6 @@ pub returns : goal.returns
 returns c =
     let e = c.advance.ensures in let back = c.idle_of-in-Err in
     rw (← c.self.view_is) (gives-up-load c.self.inside.hand c.advance.new.self e.asked e.same back.result back.ensures.client e.underway back.ensures.stopped, refl)
+
+pub unreachable-requires : goal.unreachable-requires
+unreachable-requires c = let did = rw c.in-Ok-Working.field-0-is at c.in-Ok-Working.ensures.did in (rw did at c.advance.ensures.advanced).2 refl

@@ -3,7 +3,7 @@ use Rattle.rounds_by_hand.specs.Pending.{order_in}
 use Rattle.rounds_by_hand.specs.declared.handed_in.HandedIn.{HandedIn}
 use Rattle.server.specs.Hands.{ByHandOf}
 use Rattle.host_clients.specs.UnderWay.{UnderWayOf, orders_out}
-use Rattle.host_clients.proofs.Underway.{answer-of, answers-it, given-up-after, holds-given-up, holds-under-way}
+use Rattle.host_clients.proofs.Underway.{answer-of, answers-it, given-up-after, holds-given-up, holds-under-way, none-out}
 use Rattle.host_clients.proofs.under_way.UnderWay.advance.Goals as goal
 
 pub invariant_of-self : goal.invariant_of-self
@@ -11,6 +11,12 @@ invariant_of-self c =
     let own = c.self.inside in let e = c.advance.ensures in
     holds-under-way own.queries.value own.hand c.advance.new.self own.note.asked own.orders c.stepped.new.orders e.underway e.planned
     (rw c.in-Ok-Round.field-0-is at c.in-Ok-Round.ensures.orders ∙ ap (map order_in) c.orders.ensures) c.self.invariant
+
+pub invariant_of-self-in-Ok-Working : goal.invariant_of-self-in-Ok-Working
+invariant_of-self-in-Ok-Working c =
+    let own = c.self.inside in let e = c.advance.ensures in let did = rw c.in-Ok-Working.field-0-is at c.in-Ok-Working.ensures.did in let new = c.advance.new.self in
+    holds-under-way own.queries.value own.hand new own.note.asked own.orders c.stepped.new.orders e.underway e.planned
+    (rw c.in-Ok-Working.field-0-is at c.in-Ok-Working.ensures.orders ∙ none-out new.far (rw did at e.stepped).1) c.self.invariant
 
 pub invariant_of-self-in-Ok-Waiting : goal.invariant_of-self-in-Ok-Waiting
 invariant_of-self-in-Ok-Waiting c =
@@ -38,6 +44,12 @@ returns-in-Ok-Round c =
     let e = c.advance.ensures in let did = rw c.in-Ok-Round.field-0-is at c.in-Ok-Round.ensures.did in
     rw (← c.self.view_is)
     (record { same = e.same; stored = rw did at e.stored }, (record { server_is = refl; asked_is = refl; planned_is = e.planned; goes_on = e.underway }, (rw did at e.stepped).1))
+
+pub returns-in-Ok-Working : goal.returns-in-Ok-Working
+returns-in-Ok-Working c =
+    let e = c.advance.ensures in let did = rw c.in-Ok-Working.field-0-is at c.in-Ok-Working.ensures.did in
+    rw (← c.self.view_is)
+    (record { same = e.same; stored = rw did at e.stored }, (record { server_is = refl; asked_is = refl; planned_is = e.planned; goes_on = e.underway }, (rw did at e.stepped).1, rw did at e.working))
 
 pub returns-in-Ok-Done : goal.returns-in-Ok-Done
 returns-in-Ok-Done c =

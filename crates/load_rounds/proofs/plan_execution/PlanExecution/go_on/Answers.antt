@@ -9,7 +9,7 @@ returns-then-is_some-clause-went g c =
     let self = c.self.inside in
     let there = report-is self.answer c.is_some.result c.is_some.ensures c.if-is_some.true in
     let fit = rw (← c.self.view_is) at c.requires.fits in
-    rw (← c.self.view_is) (part-kept g.P.Execute.program g.P.Execute.text_of g.P.Execute.loaders g.P.Execute.fits c.args.rounds c.args.memory.now self.plan self.progress (option_map report_of self.answer) there fit)
+    rw (← c.self.view_is) (part-kept g.P.Execute.program g.P.Execute.text_of g.P.Execute.loaders g.P.Execute.fits c.args.rounds c.args.memory.now self.plan self.progress c.start.result (option_map report_of self.answer) there c.start.ensures fit)
 
 pub returns-then-is_some-clause-wanted : goal.returns-then-is_some-clause-wanted
 returns-then-is_some-clause-wanted g c =
@@ -22,17 +22,16 @@ returns-then-is_some-clause-wanted g c =
 pub execute-requires : goal.execute-requires
 execute-requires g c =
     let self = c.self.inside in
-    let none = unreported-is self.answer c.is_some.result c.is_some.ensures c.if-is_some.false in
     let can = rw (← c.self.view_is) at c.requires.can in
     let fit = rw (← c.self.view_is) at c.requires.fits in
-    record { can = can; fits = part-fits g.P.Execute.program g.P.Execute.text_of g.P.Execute.loaders g.P.Execute.fits c.args.rounds c.args.memory.now self.plan self.progress (option_map report_of self.answer) none fit }
+    record { can = can; fits = part-fits g.P.Execute.program g.P.Execute.text_of g.P.Execute.loaders g.P.Execute.fits c.args.rounds c.args.memory.now self.plan self.progress (option_map report_of self.answer) fit }
 
 pub returns-in-Ready-clause-went : goal.returns-in-Ready-clause-went
 returns-in-Ready-clause-went g c =
     let self = c.self.inside in
     let none = unreported-is self.answer c.is_some.result c.is_some.ensures c.if-is_some.false in
     let done = rw c.in-Ready.is at c.in_ok-result.ensures.executed in
-    rw (← c.self.view_is) (part-ready g.P.Execute.program g.P.Execute.text_of g.P.Execute.loaders g.P.Execute.fits c.args.rounds c.args.memory.now self.plan self.progress c.execute.new.progress (option_map report_of self.answer) (report_of (record { text = c.in-Ready.result.text; rounds = c.args.rounds; loads = c.in-Ready.result.loads })) none refl done.0 done.1 done.2 c.in_ok-result.ensures.within)
+    rw (← c.self.view_is) (part-ready g.P.Execute.program g.P.Execute.text_of g.P.Execute.loaders g.P.Execute.fits c.args.rounds c.args.memory.now self.plan self.progress c.execute.new.progress (option_map report_of self.answer) (report_of (record { text = c.in-Ready.result.text; rounds = c.args.rounds; loads = c.in-Ready.result.loads })) none refl done.0 done.1 done.2 c.in_ok-result.ensures.fits c.in_ok-result.ensures.within)
 
 pub returns-in-Ready-clause-wanted : goal.returns-in-Ready-clause-wanted
 returns-in-Ready-clause-wanted g c =

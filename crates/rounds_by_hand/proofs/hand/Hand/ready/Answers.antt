@@ -9,7 +9,9 @@ use Rattle.load_rounds.specs.SharedRounds.{requests, joint}
 use Rattle.load_rounds.specs.Limits.{AreAskedInTime, IsWithin}
 use Rattle.load_rounds.proofs.Stages.{forgot-stops, stopped-all}
 use Rattle.load_rounds.proofs.States.{on-err}
+use Rattle.rounds_by_hand.specs.Hands.{far_of}
 use Rattle.rounds_by_hand.proofs.Far.{forgot-kept, same-kept}
+use Rattle.rounds_by_hand.proofs.Readying.{begun-readies, ready-kept, same-readies}
 use Rattle.rounds_by_hand.proofs.Within.{stored-in-time}
 use Rattle.rounds_by_hand.proofs.hand.Hand.ready.Goals as goal
 
@@ -50,24 +52,43 @@ returns-in_ok-store-in-Out-clause-ready g c =
     let rounds = ap (λ (r : RunOf g.row.P.Denot g.row.E.Denot). r.rounds) ready in
     let old = state_of c.self.inside.session in
     let now = state_of c.store.new.session in
+    let plans = ap (λ (r : RunOf g.row.P.Denot g.row.E.Denot). plans_in r.parts) ready ∙ round.0 in
+    let stage = ap (λ (r : RunOf g.row.P.Denot g.row.E.Denot). r.stage) ready in
     rw (← c.self.view_is) (record {
       left = rw value (λ e. absurd (cc e));
-      stage = ap (λ (r : RunOf g.row.P.Denot g.row.E.Denot). r.stage) ready;
-      plans = ap (λ (r : RunOf g.row.P.Denot g.row.E.Denot). plans_in r.parts) ready ∙ round.0;
-      holds = c.in_ok-store-in-Out.ensures.holds;
+      kept = ready-kept X.program X.text_of X.loaders X.fits _ c.store.new.session c.store.new.run plans stage c.in_ok-store-in-Out.ensures.holds (subst (IsWithin c.self.inside.limits.rounds) (sym rounds) within.rounds) c.store.ensures.loaders;
       went = λ begun h.
           let gone = rw value at h in
-          c.in_ok-store-in-Out.ensures.ran gone.2 (state_of begun) (subst (λ (r : RunOf g.row.P.Denot g.row.E.Denot). IsRun X.program X.text_of may (state_of begun) old r) (sym same) gone.1);
-      in_time = λ begun h.
-          let gone = rw value at h in
           let away = rw round.1.stage at gone.1 in
-          let ran = subst (λ (r : RunOf g.row.P.Denot g.row.E.Denot). RunsAsked may (program_of X.program X.text_of r) old now) same (c.in_ok-store-in-Out.ensures.in_one gone.2) in
-          subst (λ n. AreAskedInTime may (state_of begun) now c.self.inside.limits (requests X.program X.text_of c.self.inside.plans.value.items) n) (sym rounds)
-          (stored-in-time X.program X.text_of c.self.inside.plans.value.items run round.0 c.self.inside.limits may (state_of begun) old now within away ran);
-      within = subst (IsWithin c.self.inside.limits.rounds) (sym rounds) within.rounds;
+          let ran = subst (λ (r : RunOf g.row.P.Denot g.row.E.Denot). RunsAsked may (program_of X.program X.text_of r) old now) same (c.in_ok-store-in-Out.ensures.in_one gone.2) in (
+            plans,
+            c.in_ok-store-in-Out.ensures.ran gone.2 (state_of begun) (subst (λ (r : RunOf g.row.P.Denot g.row.E.Denot). IsRun X.program X.text_of may (state_of begun) old r) (sym same) gone.1),
+            subst (λ n. AreAskedInTime may (state_of begun) now c.self.inside.limits (requests X.program X.text_of c.self.inside.plans.value.items) n) (sym rounds)
+                (stored-in-time X.program X.text_of c.self.inside.plans.value.items run round.0 c.self.inside.limits may (state_of begun) old now within away ran),
+          );
+      same = rw value (λ is. absurd is);
     })
 
+pub returns-in_ok-new-in-Handed-clause-ready : goal.returns-in_ok-new-in-Handed-clause-ready
+returns-in_ok-new-in-Handed-clause-ready g c =
+    let X = g.P.Execute in
+    let value = sym c.replace.ensures.value ∙ c.in-Handed.is in
+    let begun = rw (rw value at c.self.invariant, ← c.in_ok-new-in-Handed.ensures.ok) at c.in_ok-run-in-Handed.ensures.begun in
+    let kept = forgot-kept (state_of c.self.inside.session) (state_of c.begin_all.new.self) c.begin_all.ensures.forgot in
+    rw (← c.self.view_is) (begun-readies X.program X.text_of X.loaders X.fits g.S.LocalSource.may_tell _ c.begin_all.new.self _ c.in_ok-new-in-Handed.field-0.value (ap far_of value) begun kept)
+
+pub returns-in-Ready-clause-ready : goal.returns-in-Ready-clause-ready
+returns-in-Ready-clause-ready g c =
+    let X = g.P.Execute in
+    let value = sym c.replace.ensures.value ∙ c.in-Ready.is in
+    rw (← c.self.view_is) (same-readies X.program X.text_of X.loaders X.fits g.S.LocalSource.may_tell _ _ c.in-Ready.run'.value (ap far_of value) (rw (← c.self.view_is) at c.requires))
+
 -- ---- the loaders stay
+
+pub returns-in-Ready-clause-loaders : goal.returns-in-Ready-clause-loaders
+returns-in-Ready-clause-loaders g c =
+    let s = state_of c.self.inside.session in
+    rw (← c.self.view_is) (same-kept s s refl)
 
 pub returns-in-Over-clause-loaders : goal.returns-in-Over-clause-loaders
 returns-in-Over-clause-loaders g c =
