@@ -1,4 +1,4 @@
-/* Every call, right and wrong, after every other: each move below is made on each of four handles, from each of ten states, after each other
+/* Every call, right and wrong, after every other: each move below is made on each of four handles, from each of nine states, after each other
    move; and then in long walks of moves drawn at random. A model of the handles tells which code is wanted. At the end of each sequence every
    client still answers a request as it should, and by all queries one is still answered so.
 
@@ -17,9 +17,9 @@ enum { NO_REQUEST = 0, REQUEST = 1, LOAD = 2 };
 /* What a client may know: the user 1, the user 2, all users. */
 enum { USER_1 = 1, USER_2 = 2, ALL_USERS = 4 };
 
-/* What is known of a handle. A client has a phase, what it knows and what failed since it was asked last, what that was, whether a call does one step
-   alone, and of the round that is out what each order asks for and whether it has its reply. */
-typedef struct { int kind, phase, known, failed, asked, one_step, orders, asks[2], replied[2], fails[2]; } handle_model;
+/* What is known of a handle. A client has a phase, what it knows and what failed since it was asked last, what that was, and of the round that is
+   out what each order asks for and whether it has its reply. */
+typedef struct { int kind, phase, known, failed, asked, orders, asks[2], replied[2], fails[2]; } handle_model;
 typedef struct { rz_handle at[HANDLES]; handle_model of[HANDLES]; } world;
 
 static byte_buffer schema, bindings;
@@ -110,18 +110,6 @@ static int32_t go_on(handle_model *model) {
     else if (model->asked == LOAD && !has_round) make_load_round(model);
     else model->phase = model->asked == LOAD ? LOADED : ANSWERED;
     return model->phase == OUT ? RZ_ROUND : RZ_DONE;
-}
-
-/* Whether steps may be left after a call that goes on. */
-static int may_work(const handle_model *model) {
-    int goes = model->phase == BEGUN || (model->phase == OUT && !lacks_reply(model));
-    return model->kind == CLIENT && model->one_step && model->asked != LOAD && goes;
-}
-
-/* Steps are left: the client is as one that was begun, and the round that was out is stored. */
-static void leave_steps(handle_model *model) {
-    if (model->phase == OUT) store_round(model);
-    model->phase = BEGUN;
 }
 
 /* The answer or the outcomes are let go, where a client isn't busy. */
@@ -282,9 +270,8 @@ static void reads_outcomes(world *w, int h) {
 /* ---- Moves on rounds and answers. */
 
 static void goes_on(world *w, int h) {
-    int32_t code = rz_next(&w->at[h]);
-    if (code == RZ_WORKING && may_work(&w->of[h])) leave_steps(&w->of[h]);
-    else check("rz_next(&w->at[h])", code, go_on(&w->of[h]));
+    int32_t wanted = go_on(&w->of[h]);
+    CHECK(rz_next(&w->at[h]), wanted);
 }
 
 static void cancels(world *w, int h) {
@@ -408,7 +395,6 @@ static void limits(world *w, int h) {
     CHECK(rz_limit_answers(&w->at[h], 5), unless_busy(&w->of[h], RZ_DONE));
     CHECK(rz_limit_work(&w->at[h], SIZE_MAX), unless_busy(&w->of[h], RZ_DONE));
     CHECK(rz_limit_rounds(&w->at[h], UINT32_MAX), unless_busy(&w->of[h], RZ_DONE));
-    if (CHECK(rz_limit_steps(&w->at[h], 1), unless_busy(&w->of[h], RZ_DONE))) w->of[h].one_step = 1;
     lets_go(&w->of[h]);
 }
 
@@ -497,7 +483,7 @@ static move *const MOVES[] = {
     takes_wrong_faults, limits, restarts, primes, clears, clears_all, knows_wrong_texts, knows_no_loader, reads_log, loads, loads_wrongly,
     reads_outcomes,
 };
-enum { MOVE_COUNT = sizeof MOVES / sizeof *MOVES, STATES = 10, PLACES = MOVE_COUNT * HANDLES, WALKS = 1000, WALK = 300 };
+enum { MOVE_COUNT = sizeof MOVES / sizeof *MOVES, STATES = 9, PLACES = MOVE_COUNT * HANDLES, WALKS = 1000, WALK = 300 };
 
 static void go_until_done(world *w, int h) {
     for (int turn = 0; turn < 3; turn++) {
@@ -523,9 +509,6 @@ static void start(world *w, int state) {
     if (state >= 6) loads(w, 1);
     if (state >= 7) goes_on(w, 1);
     if (state >= 8) go_until_done(w, 1);
-    if (state >= 9) limits(w, 1);
-    if (state >= 9) begins(w, 1);
-    if (state >= 9) goes_on(w, 1);
 }
 
 /* Whatever was done, a client answers as it should, by queries that are as they were. */
@@ -537,7 +520,6 @@ static void still_answers(rz_handle *client, rz_handle *queries) {
     CHECK(rz_limit_answers(&host.client, 0), RZ_DONE);
     CHECK(rz_limit_work(&host.client, 0), RZ_DONE);
     CHECK(rz_limit_rounds(&host.client, 0), RZ_DONE);
-    CHECK(rz_limit_steps(&host.client, 0), RZ_DONE);
     CHECK(rz_restart(&host.client), RZ_DONE);
     CHECK(rz_begin(&host.client, queries, TEXT(LINE)), RZ_DONE);
     CHECK(rz_next(&host.client), RZ_ROUND);

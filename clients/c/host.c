@@ -382,11 +382,11 @@ static int32_t reply_to_round(host *host) {
     return code;
 }
 
-/* Goes on until it is done. A host with an event loop lets that come round at RZ_WORKING, which only a client returns whose steps are limited. */
+/* Goes on until it is done. */
 static int32_t run_rounds(host *host) {
     int32_t code;
-    while ((code = rz_next(&host->client)) == RZ_ROUND || code == RZ_WORKING)
-        if (code == RZ_ROUND && (code = reply_to_round(host)) < 0) return code;
+    while ((code = rz_next(&host->client)) == RZ_ROUND)
+        if ((code = reply_to_round(host)) < 0) return code;
     return code;
 }
 

@@ -202,13 +202,12 @@ static void close_client(host *host) {
 }
 
 /* Limits a client. A request of four rounds is refused after one, also where another one was made before memory ran out. From then on only the work
-   is counted, and a call does a few steps alone. */
+   is counted. */
 static void limit_again(host *host, rz_handle *queries) {
     request asked = {.query = text_of("{users{liked{author{name}}}}"), .operation = text_of(""), .variables = text_of(""),
                      .answer = text_of("{\"errors\":[{\"message\":\"too many rounds\"}]}")};
     AGAIN(rz_limit_work(&host->client, SIZE_MAX));
     AGAIN(rz_limit_rounds(&host->client, 1));
-    AGAIN(rz_limit_steps(&host->client, 5));
     answer_again(host, queries, &asked);
     AGAIN(rz_limit_rounds(&host->client, 0));
 }

@@ -58,7 +58,6 @@ static void no_client(rz_handle *handle) {
     WANTS(rz_limit_answers(handle, 1), RZ_BAD_HANDLE);
     WANTS(rz_limit_work(handle, 1), RZ_BAD_HANDLE);
     WANTS(rz_limit_rounds(handle, 1), RZ_BAD_HANDLE);
-    WANTS(rz_limit_steps(handle, 1), RZ_BAD_HANDLE);
     WANTS(rz_prime(handle, 0, none, 0, byte, 0, 0, 0, none, 0, byte, 0, &word), RZ_BAD_HANDLE);
     WANTS(rz_clear(handle, 0, none, 0, byte, 0, &word), RZ_BAD_HANDLE);
     WANTS(rz_clear_all(handle, 0), RZ_BAD_HANDLE);
@@ -155,7 +154,6 @@ static void turns(rz_handle *client) {
     WANTS(rz_limit_answers(client, 9), RZ_BUSY);
     WANTS(rz_limit_work(client, 9), RZ_BUSY);
     WANTS(rz_limit_rounds(client, 9), RZ_BUSY);
-    WANTS(rz_limit_steps(client, 9), RZ_BUSY);
     WANTS(rz_clear_all(client, 0), RZ_BUSY);
     WANTS(rz_clear(client, 0, none, 0, byte, 0, &word), RZ_BUSY);
     WANTS(rz_sizes(client, &sizes), RZ_DONE);

@@ -40,7 +40,6 @@ enum {
     RZ_DONE = 0,
     RZ_ROUND = 1,           /* rz_next: a round of orders is out */
     RZ_WAITING = 2,         /* rz_next: an order of the round that is out has no reply yet */
-    RZ_WORKING = 3,         /* rz_next: steps are left, and nothing is asked: call it again */
     RZ_NO_MEMORY = -1,      /* out of memory */
     RZ_BAD_HANDLE = -2,     /* a handle is empty, or holds an object of another kind */
     RZ_NOT_UTF8 = -3,       /* a text isn't UTF-8 */
@@ -78,7 +77,7 @@ enum {
 /* ---- The library. */
 
 /* The version of this header. It goes with a library whose rz_version is the same, or has the same major number and a larger rest. */
-#define RZ_VERSION 131584u
+#define RZ_VERSION 131328u
 
 /* The version of the library: 65536 * major + 256 * minor + patch. */
 uint32_t rz_version(void);
@@ -145,11 +144,6 @@ int32_t rz_limit_work(rz_handle *client, size_t positions);
    answer or outcomes go. RZ_BUSY. */
 int32_t rz_limit_rounds(rz_handle *client, uint32_t rounds);
 
-/* From now on one call of rz_next takes at most `steps` steps of a request, or of all requests of an array in sum, and at least one; 0 for no limit.
-   A step is a position of the answer that is counted, or a field or item that is written. Where steps are left then, the call returns RZ_WORKING, so
-   that an event loop can go on in between. Keys that are loaded have no limit. It lets an answer or outcomes go. RZ_BUSY. */
-int32_t rz_limit_steps(rz_handle *client, size_t steps);
-
 /* Forgets all keys, logs and rounds, and lets an answer or outcomes go. The limits of the client stay. RZ_BUSY; RZ_NO_MEMORY, and then an answer or
    outcomes are let go, and all else is as it was. */
 int32_t rz_restart(rz_handle *client);
@@ -171,9 +165,8 @@ int32_t rz_begin_request(rz_handle *client, rz_handle *queries, const uint8_t *q
 int32_t rz_cancel(rz_handle *client);
 
 /* Goes on. RZ_DONE: there is an answer, or what was to be loaded is. RZ_ROUND: a round is out. RZ_WAITING: an order of it has no reply yet, and
-   nothing changes. RZ_WORKING, only where rz_limit_steps set a limit: steps are left, the replies are stored, no order is out, and rz_next is to be
-   called again; such calls in a row come to an end. RZ_IDLE where nothing was begun. RZ_NO_MEMORY, and RZ_STOPPED after a reply that memory ran out
-   at: the request or the load is given up. The finished rounds stay known. */
+   nothing changes. RZ_IDLE where nothing was begun. RZ_NO_MEMORY, and RZ_STOPPED after a reply that memory ran out at: the request or the load is
+   given up. The finished rounds stay known. */
 int32_t rz_next(rz_handle *client);
 
 /* What the buffers of rz_orders and rz_answer have to hold; 0 of a round where none is out, as before the first rz_next, and of an answer where

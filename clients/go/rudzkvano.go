@@ -60,9 +60,6 @@ type Options struct {
 	// MaxRounds is how many rounds a request may take, or all of an array together. One that needs more is answered with "too many rounds". 0 is no
 	// limit.
 	MaxRounds int
-	// MaxSteps is how many steps of an answer are done in one call of the library. Then other goroutines have their turn, and the context is looked at,
-	// before the answer goes on. A step is a position that is counted for MaxWork, or a field or item that is written. 0 is no limit.
-	MaxSteps int
 	// OnRound is called after each round.
 	OnRound func(Round)
 }
@@ -427,7 +424,7 @@ func (o *Options) check() error {
 	limits := []struct {
 		name string
 		most int
-	}{{"MaxAnswer", o.MaxAnswer}, {"MaxWork", o.MaxWork}, {"MaxRounds", o.MaxRounds}, {"MaxSteps", o.MaxSteps}}
+	}{{"MaxAnswer", o.MaxAnswer}, {"MaxWork", o.MaxWork}, {"MaxRounds", o.MaxRounds}}
 	for _, limit := range limits {
 		if limit.most < 0 {
 			return fmt.Errorf("%s is %d, and not 0 or more", limit.name, limit.most)
@@ -473,9 +470,6 @@ func limitAnswers(client *C.rz_handle, options *Options) C.int32_t {
 	}
 	if code >= 0 && options.MaxRounds > 0 {
 		code = C.rz_limit_rounds(client, C.uint32_t(limit(options.MaxRounds)))
-	}
-	if code >= 0 && options.MaxSteps > 0 {
-		code = C.rz_limit_steps(client, C.size_t(options.MaxSteps))
 	}
 	return code
 }
@@ -601,8 +595,12 @@ func (m *memory) begin(request Request) error {
 
 func (m *memory) runRounds(ctx context.Context, functions Loaders, options *Options) error {
 	for round := 1; ; round++ {
-		isDone, err := m.next(ctx)
-		if err != nil || isDone {
+		// before the next round is begun: its batches stand in the log from then on
+		if err := ctx.Err(); err != nil {
+			return err
+		}
+		code, err := m.handle.call(func(at *C.rz_handle) C.int32_t { return C.rz_next(at) })
+		if err != nil || code == C.RZ_DONE {
 			return err
 		}
 		batches, err := m.runRound(ctx, functions)
@@ -612,21 +610,6 @@ func (m *memory) runRounds(ctx context.Context, functions Loaders, options *Opti
 		if options != nil && options.OnRound != nil {
 			options.OnRound(Round{round, batches})
 		}
-	}
-}
-
-// next goes on as long as steps are left, and finds out whether all is done. Else a round is out. The context is looked at before each call of the
-// library, also since the batches of a round stand in the log as soon as it is begun.
-func (m *memory) next(ctx context.Context) (bool, error) {
-	for {
-		if err := ctx.Err(); err != nil {
-			return false, err
-		}
-		code, err := m.handle.call(func(at *C.rz_handle) C.int32_t { return C.rz_next(at) })
-		if err != nil || code != C.RZ_WORKING {
-			return code == C.RZ_DONE, err
-		}
-		runtime.Gosched()
 	}
 }
 

@@ -16,7 +16,7 @@
 
 /* Codes beside those of the library. NEED_ROOM: a round is out that needs as many words as word 1 says; `look` reads it then. TEXT_TOO_LONG: a
    text is longer than a string may be. Where an answer took more than KEPT_BYTES, the rest is given back. */
-enum { HEAD = 8, NEED_ROOM = 1000, TEXT_TOO_LONG = -1000, MOST_ARGUMENTS = 5, KEPT_BYTES = 1 << 20 };
+enum { HEAD = 8, NEED_ROOM = 3, TEXT_TOO_LONG = -1000, MOST_ARGUMENTS = 5, KEPT_BYTES = 1 << 20 };
 
 /* What one environment (Node's main thread, or a worker) shares with its JavaScript: the words, and the page that a reply is put together in, which
    has words and bytes. `bytes` is where other texts are put together and taken apart. `most_units` is how many UTF-16 units a string may have. */
@@ -157,18 +157,16 @@ static size_t number_at(const uint32_t *words) {
     return (size_t)words[1] << 32 | words[0];
 }
 
-/* Limits a client, by how many bytes an answer may have and how much work it may be, both in two words; how many rounds it may take, in one; and
-   how many steps of it are done in one go, in two. */
+/* Limits a client, by how many bytes an answer may have, how much work it may be, both in two words, and how many rounds it may take. */
 static int32_t limit(rz_handle *client, const uint32_t *words) {
-    size_t bytes = number_at(words), work = number_at(words + 2), steps = number_at(words + 5);
+    size_t bytes = number_at(words), work = number_at(words + 2);
     int32_t code = bytes ? rz_limit_answers(client, bytes) : RZ_DONE;
     if (code >= 0 && work) code = rz_limit_work(client, work);
     if (code >= 0 && words[4]) code = rz_limit_rounds(client, words[4]);
-    if (code >= 0 && steps) code = rz_limit_steps(client, steps);
     return code;
 }
 
-/* Opens a client of a server. The head has the number of limits on batches, which come after it, and the other limits. */
+/* Opens a client of a server. The head has the number of limits on batches, which come after it, and the limits on answers. */
 static int32_t open_client(border *border, held *client, held *server) {
     uint32_t *words = border->words;
     if (HEAD + (size_t)words[0] > border->words_len) return RZ_BAD_SIZE;
@@ -247,10 +245,9 @@ static napi_value read_outcomes(napi_env env, border *border, rz_handle *client)
     return outcomes;
 }
 
-/* What there is to read after this code. Where it is RZ_WAITING or RZ_WORKING that is nothing, and the head has the code. */
 static napi_value read_state(napi_env env, border *border, held *client, int32_t code) {
     rz_sizes_t sizes;
-    if (code == RZ_DONE || code == RZ_ROUND) code = rz_sizes(&client->handle, &sizes);
+    if (code >= 0 && code != RZ_WAITING) code = rz_sizes(&client->handle, &sizes);
     if (code != RZ_DONE) return tell(border, code);
     if (sizes.orders) return read_round(env, border, &client->handle, &sizes);
     return client->loads ? read_outcomes(env, border, &client->handle) : read_answer(env, border, client, &sizes);
@@ -265,13 +262,6 @@ static napi_value go_on(napi_env env, border *border, held *client, int32_t code
 static napi_value go_begun(napi_env env, border *border, held *client, int32_t code, bool loads) {
     if (code >= 0) client->loads = loads;
     return go_on(env, border, client, code);
-}
-
-/* next(client): goes on, where steps are left. */
-static napi_value next(napi_env env, napi_callback_info info) {
-    call call;
-    if (!arguments(env, info, &call, true)) return refused(env, "next");
-    return go_on(env, call.border, call.held, RZ_DONE);
 }
 
 /* look(client): a round, or outcomes, that needed room. */
@@ -625,7 +615,7 @@ NAPI_MODULE_INIT() {
     } calls[] = {{"share", share}, {"sharePage", share_page}, {"limitTexts", limit_texts}, {"room", room}, {"version", version},
                  {"codeName", code_name}, {"codeText", code_text}, {"hold", hold}, {"open", open_server}, {"loaders", read_loaders},
                  {"client", client}, {"close", close_held}, {"begin", begin}, {"beginRequest", begin_request}, {"beginLoad", begin_load},
-                 {"next", next}, {"look", look}, {"reply", reply}, {"fail", fail}, {"cancel", cancel}, {"prime", prime}, {"clear", clear},
+                 {"look", look}, {"reply", reply}, {"fail", fail}, {"cancel", cancel}, {"prime", prime}, {"clear", clear},
                  {"clearAll", clear_all}, {"restart", restart}, {"log", read_log}};
     if (rz_version() < RZ_VERSION || rz_version() >> 16 != RZ_VERSION >> 16) return refused(env, "the library is older or newer than rudzkvano.h");
     border *border = calloc(1, sizeof *border);

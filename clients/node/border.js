@@ -9,8 +9,8 @@ const addon = loadAddon();
 
 /** How many words stand before the others, how many there are at first, and how many stay where a request needed more. */
 const [HEAD, FIRST_WORDS, KEPT_WORDS] = [8, 1 << 12, 1 << 16];
-/** The codes of the library for how far a request is, where it isn't refused, and the one of the addon where it needs more words. */
-const [DONE, ROUND, WAITING, WORKING, NEED_ROOM] = [0, 1, 2, 3, 1000];
+/** The codes of a step, where it isn't refused. */
+const [DONE, ROUND, WAITING, NEED_ROOM] = [0, 1, 2, 3];
 /** The codes of rows that aren't those of the keys of their order. */
 const [NO_KEY_COLUMN, NOT_ASKED] = [-20, -21];
 /** The code of the addon for a text that is longer than a string may be. */
@@ -167,5 +167,5 @@ function readLog(client, loader) {
 
 module.exports = {
   addon, border, call, code, giveBackWords, leaveHead, makeRoom, readLoaders, readLog, readOutcomes, readRound, refusal, RudzkvanoError, DONE,
-  FIRST_WORDS, HEAD, KEPT_WORDS, NEED_ROOM, NO_KEY_COLUMN, NOT_ASKED, ROUND, WAITING, WORKING,
+  FIRST_WORDS, HEAD, KEPT_WORDS, NEED_ROOM, NO_KEY_COLUMN, NOT_ASKED, ROUND, WAITING,
 };

@@ -84,9 +84,7 @@ export interface Round {
 }
 
 export interface AnswerOptions {
-  /**
-   * Gives the request up: no further batch is asked for, no further step is done (`maxSteps`), and the answer rejects with the signal's reason.
-   */
+  /** Gives the request up: no further batch is asked for, and the answer rejects with the signal's reason. */
   signal?: AbortSignal;
   /** Is called after each round. */
   onRound?(round: Round): void;
@@ -99,7 +97,7 @@ export interface AnswerOptions {
   rows?: Form | { readonly [loader: string]: Form };
   /**
    * Answers an operation that asks for `__schema` or `__type` alone, which isn't in an array: what `require('graphql')` returns. Without it these
-   * are refused. graphql-js has no limits for a query: `maxAnswer` holds for what it has answered, and the other limits don't.
+   * are refused. graphql-js has no limits for a query: `maxAnswer` holds for what it has answered, and `maxWork` and `maxRounds` don't.
    */
   introspection?: GraphQLLibrary;
 }
@@ -121,11 +119,6 @@ export interface Options extends AnswerOptions {
   maxWork?: number;
   /** How many rounds a request may take, or all of an array together. One that needs more is answered with `too many rounds`. 0 is no limit. */
   maxRounds?: number;
-  /**
-   * How many steps of an answer are done in one go. Then the event loop has its turn, before the answer goes on. A step is a position that is counted
-   * for `maxWork`, or a field or item that is written. Where it isn't given, it is 20,000: a guess at a millisecond or two. 0 and null are no limit.
-   */
-  maxSteps?: number | null;
 }
 
 /** A call of the library was refused. `name` is the name of the code, as RZ_BUSY. */

@@ -15,10 +15,8 @@ const { Run } = require('./run.js');
 const BAD_SCHEMA = -4;
 /** The largest word. */
 const MOST_WORD = 0xffffffff;
-/** How many steps of an answer are done in one go, where that isn't said. */
-const MAX_STEPS = 20_000;
-/** The words that a client without other limits is opened with. */
-const NO_OTHER_LIMITS = [0, 0, 0, 0, 0, 0, MAX_STEPS, 0];
+/** The words that a client without limits is opened with. */
+const NO_LIMITS = [0, 0, 0, 0, 0, 0];
 
 /** What holds nothing now, for clients that answer once. */
 const spare = [];
@@ -129,13 +127,12 @@ class Server {
   }
 
   /** The words that a client is opened with. */
-  #limits({ maxBatch, maxAnswer, maxWork, maxRounds, maxSteps = MAX_STEPS }) {
+  #limits({ maxBatch, maxAnswer, maxWork, maxRounds }) {
     if (this.#closed) throw new Error('the server is closed');
-    const hasOthers = maxBatch !== undefined || maxAnswer !== undefined || maxWork !== undefined || maxRounds !== undefined;
-    if (!hasOthers && maxSteps === MAX_STEPS) return NO_OTHER_LIMITS;
+    if (maxBatch === undefined && maxAnswer === undefined && maxWork === undefined && maxRounds === undefined) return NO_LIMITS;
     const batches = this.#batches(maxBatch);
     const answers = [...twoWordsOf(maxAnswer, 'maxAnswer'), ...twoWordsOf(maxWork, 'maxWork'), wordOf(maxRounds, 'maxRounds')];
-    return [batches.length, ...answers, ...twoWordsOf(maxSteps ?? 0, 'maxSteps'), ...batches];
+    return [batches.length, ...answers, 0, 0, ...batches];
   }
 
   /** For each loader how many keys one batch may have; or no element. */

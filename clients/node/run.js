@@ -1,9 +1,9 @@
-// One request that is being answered, or keys that are loaded: from each call of the library to the next, with the batches in between.
+// One request that is being answered, or keys that are loaded: from each step of the library to the next, with the batches in between.
 'use strict';
 
 const {
   addon, border, code, giveBackWords, leaveHead, makeRoom, readOutcomes, readRound, refusal, DONE, HEAD, NEED_ROOM, NO_KEY_COLUMN, NOT_ASKED, ROUND,
-  WAITING, WORKING,
+  WAITING,
 } = require('./border.js');
 const { editErrors, faultText, messageOf, plainText, shownBy, withExtensions } = require('./faults.js');
 const { formOf } = require('./forms.js');
@@ -11,11 +11,8 @@ const { handInPage } = require('./page.js');
 const { leaveWithoutCasts, writeKeys, writeReply } = require('./rows.js');
 const { jsonOf } = require('./text.js');
 
-/** What a call of the library leaves where it has done as many steps as one call may: the next one goes on. */
-const STEPS_LEFT = Symbol('steps left');
-
-/** The call that begins the answer to a request, and goes on. */
-function requestCall(request) {
+/** The step that begins the answer to a request, and goes on. */
+function requestStep(request) {
   if (typeof request === 'string') return (handle, server) => addon.begin(handle, server, request);
   const { query, operationName, variables } = request;
   const operation = operationName ?? '';
@@ -27,8 +24,8 @@ function requestCall(request) {
   return (handle, server) => addon.beginRequest(handle, server, query, operation, values);
 }
 
-/** The call that begins to load keys, which are arrays of texts, and goes on. */
-function loadCall(loader, keys) {
+/** The step that begins to load keys, which are arrays of texts, and goes on. */
+function loadStep(loader, keys) {
   const texts = keys.flat();
   return (handle) => {
     const text = writeKeys(texts, HEAD + keys.length);
@@ -70,34 +67,32 @@ class Run {
 
   /** Begins to answer a request. */
   start(request) {
-    this.begin(() => requestCall(request));
+    this.begin(() => requestStep(request));
   }
 
   /** Begins to load keys of a loader. */
   startLoad(loader, keys) {
     this.loads = true;
-    this.begin(() => loadCall(loader, keys));
+    this.begin(() => loadStep(loader, keys));
   }
 
-  /** Makes the first call, and goes on. */
-  begin(firstCall) {
+  /** Makes the first step, and goes on. */
+  begin(firstStep) {
     try {
       this.signal?.throwIfAborted();
       // a getter of the request may stop it
-      const call = firstCall();
+      const step = firstStep();
       this.signal?.throwIfAborted();
       if (this.over) return;
       this.signal?.addEventListener('abort', this.abort);
       if (this.server) leaveHead(this.limits);
-      this.go(this.left(call(this.handle, this.server)));
+      this.go(this.left(step(this.handle, this.server)));
     } catch (error) {
       this.stop(error);
     }
   }
 
-  /**
-   * What a call of the library left: the orders of a round, the text of the answer or outcomes, STEPS_LEFT, or undefined where it waits for replies.
-   */
+  /** What a step of the library left: the orders of a round, the text of the answer or outcomes, or undefined where it waits for replies. */
   left(text) {
     switch (code()) {
       case DONE:
@@ -107,8 +102,6 @@ class Run {
         return readRound(this.loaders, text);
       case WAITING:
         return undefined;
-      case WORKING:
-        return STEPS_LEFT;
       case NEED_ROOM:
         makeRoom(border.words[1]);
         return this.left(addon.look(this.handle));
@@ -117,22 +110,13 @@ class Run {
     }
   }
 
-  /** Goes on from what a call of the library left, as far as it goes without waiting. */
+  /** Goes on from what a step left, as far as it goes without waiting. */
   go(left) {
     while (Array.isArray(left) && !this.over) left = this.ask(left);
-    if (left === undefined || this.over) return;
-    if (left === STEPS_LEFT) this.goLater();
-    else this.end(undefined, left);
+    if (left !== undefined && !this.over) this.end(undefined, left);
   }
 
-  /** Goes on when the event loop has come round, unless the request was stopped meanwhile, as by its signal. */
-  goLater() {
-    setImmediate(() => {
-      if (!this.over) this.resume(() => this.left(addon.next(this.handle)));
-    });
-  }
-
-  /** Asks for all batches of a round. Returns what the last call of the library left. */
+  /** Asks for all batches of a round. Returns what the last step left. */
   ask(orders) {
     let left;
     this.rounds++;
@@ -141,7 +125,7 @@ class Run {
     return left;
   }
 
-  /** Calls a batch function. Returns what the library's call after it left, or undefined where the reply comes later. */
+  /** Calls a batch function. Returns what the step after it left, or undefined where the reply comes later. */
   run(order) {
     if (this.over) return undefined;
     const { name } = order.loader;
@@ -161,10 +145,10 @@ class Run {
     return undefined;
   }
 
-  /** Goes on from what a call leaves, as when a reply has come. */
-  resume(call) {
+  /** Goes on when a reply has come. */
+  resume(reply) {
     try {
-      this.go(call());
+      this.go(reply());
     } catch (error) {
       this.stop(error);
     }
@@ -195,7 +179,7 @@ class Run {
     return this.told(order, this.left(text));
   }
 
-  /** Has the library take a reply, unless a getter of a row, or a hook, has stopped the request. Returns what the call returned. */
+  /** Has the library take a reply, unless a getter of a row, or a hook, has stopped the request. Returns what the step left. */
   handIn(order, { page, text }) {
     if (this.over) return undefined;
     page.words[0] = order.number;

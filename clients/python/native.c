@@ -21,7 +21,7 @@ typedef struct {
 } Types;
 
 #define CALLS(CALL) \
-    CALL(client) CALL(queries) CALL(limit_steps) CALL(begin) CALL(begin_request) CALL(next) CALL(cancel) CALL(sizes) CALL(orders) CALL(take_rows) \
+    CALL(client) CALL(queries) CALL(begin) CALL(begin_request) CALL(next) CALL(cancel) CALL(sizes) CALL(orders) CALL(take_rows) \
     CALL(take_keyed_rows) CALL(answer) CALL(close) CALL(code_name) CALL(code_text)
 
 /* ---- Memory. */
@@ -600,11 +600,6 @@ static PyObject *handle_release(Handle *self, PyObject *none) {
     Py_RETURN_NONE;
 }
 
-static PyObject *handle_limit_steps(Handle *self, PyObject *steps) {
-    size_t number;
-    return read_number(steps, &number) ? none_or_refuse(self->library, self->library->limit_steps(&self->held, number)) : NULL;
-}
-
 /* begin(queries, line) */
 static PyObject *handle_begin(Handle *self, Arguments arguments, Py_ssize_t count) {
     Text line;
@@ -826,7 +821,6 @@ static PyMethodDef handle_methods[] = {
     METHOD(queries, METH_NOARGS),
     METHOD(acquire, METH_NOARGS),
     METHOD(release, METH_NOARGS),
-    METHOD(limit_steps, METH_O),
     METHOD(begin, METH_FASTCALL),
     METHOD(begin_request, METH_FASTCALL),
     METHOD(advance, METH_NOARGS),

@@ -319,7 +319,6 @@ describe('what is refused at once', () => {
     ['a limit that is no number', [loaders, { maxBatch: 1.5 }], /maxBatch is no whole number/],
     ['a limit of work that is no number', [loaders, { maxWork: -1 }], /maxWork is no whole number/],
     ['a limit of rounds that is no number', [loaders, { maxRounds: 1.5 }], /maxRounds is no whole number/],
-    ['a limit of steps that is no number', [loaders, { maxSteps: -1 }], /maxSteps is no whole number/],
     ['a limit that is too large', [loaders, { maxBatch: 65536 }], { name: 'RZ_BAD_LIMIT', code: -6 }],
     ['a limit that no word holds', [loaders, { maxBatch: 2 ** 32 }], { name: 'RZ_BAD_LIMIT', code: -6 }],
     ['such a limit of one loader', [loaders, { maxBatch: { userById: 2 ** 32 + 1 } }], { name: 'RZ_BAD_LIMIT', code: -6 }],

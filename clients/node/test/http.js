@@ -184,7 +184,6 @@ describe('GraphQL over HTTP', () => {
       [{}, 18, JSON_TYPE, 200, refused],
       [{ maxWork: 0 }, 18, GRAPHQL, 200, friends.answer(18)],
       [{ maxRounds: 1 }, 1, GRAPHQL, 400, '{"errors":[{"message":"too many rounds"}]}'],
-      [{ maxSteps: 10 }, 5, GRAPHQL, 200, friends.answer(5)],
     ];
     for (const [options, levels, accept, status, text] of cases) {
       const other = http.createServer(handler(friends.server, friends.loaders, options)).listen(0);

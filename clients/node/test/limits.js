@@ -1,4 +1,4 @@
-// Texts that are too long for a string, the memory of large requests, short queries with long answers, and answers in many steps.
+// Texts that are too long for a string, the memory of large requests, and short queries with long answers.
 'use strict';
 
 const assert = require('node:assert/strict');
@@ -10,7 +10,6 @@ const { openFriends, openWorld } = require('./tables.js');
 const { server } = openWorld();
 const users = (name) => ({ userById: async (ids) => ids.map((id) => ({ id, name })) });
 const query = '{user(id:1){name}}';
-const TOO_MUCH = '{"errors":[{"message":"too much work"}]}';
 const TOO_LONG = { name: 'RangeError', message: /longer than a string of V8 may be: the option maxAnswer/ };
 
 /** Does something while no string may have more units than this. */
@@ -64,6 +63,7 @@ describe('what a large request needed', () => {
 
 describe('a short query with a long answer', () => {
   const { server, loaders, query, answer } = openFriends();
+  const TOO_MUCH = '{"errors":[{"message":"too much work"}]}';
   /** As many levels of friends as a query may have: with `user` and `id` these are 128 fields on a path. */
   const MOST_LEVELS = 126;
 
@@ -83,67 +83,10 @@ describe('a short query with a long answer', () => {
   });
 });
 
-describe('an answer in many steps', () => {
-  const { server, loaders, query, answer } = openFriends();
-  /** With so many levels the answer has 1,023 positions. */
-  const LEVELS = 8;
-
-  /** How often the event loop comes round until a promise is settled, and what the promise is fulfilled with. */
-  async function turnsOf(promise) {
-    let turns = 0;
-    let turn = setImmediate(function again() {
-      turns++;
-      turn = setImmediate(again);
-    });
-    try {
-      return { value: await promise, turns };
-    } finally {
-      clearImmediate(turn);
-    }
-  }
-
-  it('is the same, and the event loop comes round between them', async () => {
-    const whole = await turnsOf(server.answerText({ query: query(LEVELS) }, loaders, { maxWork: 1023, maxSteps: 0 }));
-    assert.deepEqual(whole, { value: answer(LEVELS), turns: 0 });
-    const rounds = [];
-    const onRound = ({ round }) => rounds.push(round);
-    const inSteps = await turnsOf(server.answerText({ query: query(LEVELS) }, loaders, { maxWork: 1023, maxSteps: 10, onRound }));
-    assert.equal(inSteps.value, answer(LEVELS));
-    assert.ok(inSteps.turns >= 20, `${inSteps.turns} turns`);
-    assert.deepEqual(rounds, [1, 2, 3]);
-    const byDefault = await turnsOf(server.answerText({ query: query(14) }, loaders));
-    assert.deepEqual([byDefault.value === answer(14), byDefault.turns > 0], [true, true]);
-    for (const maxSteps of [1, 1000, 2 ** 32 + 1, null, undefined]) {
-      assert.equal(await server.answerText({ query: query(5) }, loaders, { maxSteps }), answer(5));
-      assert.equal(await server.answerText({ query: query(5) }, loaders, { maxSteps, maxWork: 126 }), TOO_MUCH);
-    }
-  });
-
-  it('is given up between two of them by its signal, and by close', async () => {
-    const limits = { maxWork: 1023, maxSteps: 10 };
-    const client = server.client(loaders, limits);
-    const asks = [
-      (options) => client.answerText({ query: query(LEVELS) }, options),
-      (options) => server.answerText({ query: query(LEVELS) }, loaders, { ...limits, ...options }),
-    ];
-    for (const ask of asks) {
-      const abort = new AbortController();
-      const stopped = ask({ signal: abort.signal });
-      setImmediate(() => abort.abort(new Error('enough')));
-      const { turns } = await turnsOf(assert.rejects(stopped, { message: 'enough' }));
-      assert.ok(turns <= 2, `${turns} turns`);
-      assert.equal(await ask(), answer(LEVELS));
-    }
-    const closed = asks[0]();
-    client.close();
-    await assert.rejects(closed, /the client is closed/);
-  });
-});
-
 describe('what a server keeps of queries', () => {
   it('serves answers with whatever limits', async () => {
     for (let i = 1; i <= 100; i++) {
-      const limits = { maxBatch: i, maxAnswer: 1000 + i, maxWork: 1000 + i, maxRounds: i, maxSteps: i };
+      const limits = { maxBatch: i, maxAnswer: 1000 + i, maxWork: 1000 + i, maxRounds: i };
       assert.deepEqual(await server.answer({ query: '{user(id:1){name}}' }, users('Ada'), limits), { data: { user: { name: 'Ada' } } });
     }
   });

@@ -52,7 +52,7 @@ const onError: Options['onError'] = (error, { loader, keys }) => {
   if (error instanceof PublicError) return { message: error.message, extensions: { ...error.extensions, loader } };
   return keys.length > 1 ? 'internal error' : undefined;
 };
-const limits: Options = { maxBatch: { userById: 100 }, maxAnswer: 0, maxWork: 1_000_000, maxRounds: 10, maxSteps: 20_000 };
+const limits: Options = { maxBatch: { userById: 100 }, maxAnswer: 0, maxWork: 1_000_000, maxRounds: 10 };
 const options: Options = { ...limits, onError, introspection: graphql, onRound: ({ batches }) => batches.map(told), rows: 'aligned' };
 function told({ loader, keys, failed }: Batch): [string, readonly Key[], string | undefined] {
   return [loader, keys, failed];
@@ -75,7 +75,7 @@ async function load(client: Client): Promise<string | null | undefined> {
 load(server.client(loaders, options));
 
 // over HTTP, and by execute
-const handling: HandlerOptions = { ...options, maxBody: 100, maxAnswer: 100, maxWork: 100, maxSteps: null };
+const handling: HandlerOptions = { ...options, maxBody: 100, maxAnswer: 100, maxWork: 100 };
 http.createServer(handler(server, loaders, handling));
 http.createServer(handler(server, async ({ headers }) => {
   if (!headers.authorization) throw new HttpError(401, 'sign in first', { 'WWW-Authenticate': 'Bearer' });

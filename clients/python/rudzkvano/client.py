@@ -12,14 +12,14 @@ from enum import IntEnum
 from functools import wraps
 from itertools import chain
 from time import perf_counter
-from types import CoroutineType, EllipsisType, MappingProxyType
+from types import CoroutineType, MappingProxyType
 from typing import TYPE_CHECKING, Any, Concatenate, NamedTuple, NoReturn, ParamSpec, TypeAlias, TypeVar, Union
 
 from .errors import OnError, edit_errors, fault_text, has_extensions, message_of, parted
-from .handles import WORKING, Opened, keys_of
+from .handles import Opened, keys_of
 from .library import BUSY, COUNTS, NO_COLUMN, NO_KEY_COLUMN, NOT_ASKED, SIZES, Argument, Refused, buffers, cut, flat, packed, pointer_to, texts_of
 from .library import words, words_of
-from .limits import MAX_STEPS, MOST_ROUNDS, Limits, checked_limit
+from .limits import MOST_ROUNDS, Limits, checked_limit
 from .loaders import Batch, Form, Keys, Loaded, Loader, Loaders, OnRound, Order, Ran, Round
 from .native import NATIVE
 from .rows import AnyReply, Keyed, Misfit, Reply, Unread, item_of, outcomes_of, reply_of, text_of, unread_of, without_casts
@@ -42,8 +42,6 @@ class Progress(IntEnum):
     DONE = 0
     ROUND = 1
     WAITING = 2
-    # as many steps were done as one call may do, and some are left
-    WORKING = 3
 
 
 # the number of a row, which nobody reads
@@ -66,17 +64,6 @@ def _alone(call: Callable[Concatenate[Client, _P], _T]) -> Callable[Concatenate[
     return alone
 
 
-def _by_hand(begin: Callable[Concatenate[Client, _P], None]) -> Callable[Concatenate[Client, _P], None]:
-    """A call that begins a request, which the caller goes on with by `next`."""
-
-    @wraps(begin)
-    def begins(self: Client, /, *arguments: _P.args, **named: _P.kwargs) -> None:
-        self._limit_to(self._max_steps)
-        begin(self, *arguments, **named)
-
-    return _alone(begins)
-
-
 class Asks(NamedTuple):
     """How a client asks: how lists of batch functions are read, by the names of their loaders, and what is told of rounds and errors."""
 
@@ -93,16 +80,14 @@ class Client:
     """A memory of what the loaders returned; `Server.client` makes one. It does one thing at a time.
 
     `answer`, `load_many` and their async siblings run the rounds. A host that runs them itself calls `begin`, `begin_request` or `begin_load`, and
-    then `next` up to Progress.DONE; where that returns Progress.ROUND, it calls `orders`, and `reply` or `fail` for each of these. With the option
-    `max_steps` it may return Progress.WORKING too. `text` is the answer, and `outcomes` what was loaded.
+    then `next` up to Progress.DONE; where that returns Progress.ROUND, it calls `orders`, and `reply` or `fail` for each of these. `text` is
+    the answer, and `outcomes` what was loaded.
     """
 
     # columns that were left out of a reply, with the loader and the reason
     _unread: Mapping[str, tuple[Loader, Unread]] = MappingProxyType({})
     _has_extensions = False
     _max_answer: int | None = None
-    # how many steps of an answer are done in one go, and how many of one that is awaited; and what the handle is limited to. 0 is no limit
-    _max_steps, _max_steps_awaited, _limited_to = 0, MAX_STEPS, 0
 
     def __init__(
         self, opened: Opened, loaders: Sequence[Loader], functions: Loaders, asks: Asks = _PLAIN, limits: bytes = b""
@@ -134,14 +119,14 @@ class Client:
         """The text of the response."""
         if self._asks.introspect and (text := self._introspected(self._asks.introspect, query, variables, operation_name)) is not None:
             return text
-        self._start(query, variables, operation_name, self._max_steps)
+        self._start(query, variables, operation_name)
         return self._finish(self._text)
 
     async def answer_text_async(self, query: Query, variables: Variables = None, operation_name: str | None = None) -> str:
         """The text of the response, with batch functions that may be coroutines."""
         if self._asks.introspect and (text := self._introspected(self._asks.introspect, query, variables, operation_name)) is not None:
             return text
-        self._start(query, variables, operation_name, self._max_steps_awaited)
+        self._start(query, variables, operation_name)
         return await self._finish_async(self._text)
 
     def load_many(self, loader: str, keys: Iterable[Any]) -> list[Loaded]:
@@ -158,9 +143,7 @@ class Client:
         """Runs the rounds of what was begun, and lets the client go."""
         handle, number = self._handle, 0
         try:
-            while progress := handle.advance():
-                if progress == WORKING:
-                    continue
+            while handle.advance():
                 orders = handle.orders(self._loaders)
                 number += 1
                 if len(orders) > 1 or self._asks.on_round is not None:
@@ -184,11 +167,7 @@ class Client:
         """Runs the rounds of what was begun, whose batch functions may be coroutines, and lets the client go."""
         handle, number = self._handle, 0
         try:
-            while progress := handle.advance():
-                if progress == WORKING:
-                    # other tasks have their turn, and one of them may cancel this one
-                    await asyncio.sleep(0)
-                    continue
+            while handle.advance():
                 orders = handle.orders(self._loaders)
                 number += 1
                 if len(orders) > 1 or self._asks.on_round is not None:
@@ -226,12 +205,11 @@ class Client:
             self._handle.release()
             raise
 
-    def _start(self, query: Query, variables: Variables, operation_name: str | None, steps: int) -> None:
-        """Takes the client, and begins a request, of which so many steps are done in one go."""
+    def _start(self, query: Query, variables: Variables, operation_name: str | None) -> None:
+        """Takes the client, and begins a request."""
         if not self._handle.acquire():
             raise self._opened.library.refused(BUSY)
         try:
-            self._limit_to(steps)
             if isinstance(query, str) and operation_name != "":
                 given = None if variables is None else _json_of(variables)
                 self._handle.begin_request(self._opened.queries(), query, operation_name, given)
@@ -248,12 +226,6 @@ class Client:
     def _take_alone(self) -> None:
         if not self._handle.acquire():
             raise self._opened.library.refused(BUSY)
-
-    def _limit_to(self, steps: int) -> None:
-        """Has the library do at most so many steps in one go, from the next request on; 0 is no limit."""
-        if steps != self._limited_to:
-            self._handle.limit_steps(steps)
-            self._limited_to = steps
 
     def _give_up(self) -> None:
         """Gives up what was begun, unless it is done."""
@@ -449,8 +421,8 @@ class Client:
         reasons = cut(fault_ends.tolist(), fault_data.tobytes())
         return outcomes_of(counts.tolist(), widths.tolist(), cut(ends.tolist(), data.tobytes()), reasons)
 
-    begin = _by_hand(_begin)
-    begin_request = _by_hand(_begin_request)
+    begin = _alone(_begin)
+    begin_request = _alone(_begin_request)
     begin_load = _alone(_begin_load)
     orders = _alone(_orders)
     reply = _alone(_reply)
@@ -460,7 +432,7 @@ class Client:
 
     @_alone
     def next(self) -> Progress:
-        """Goes on. After Progress.WORKING it is called again."""
+        """Goes on."""
         return Progress(self._handle.advance())
 
     @_alone
@@ -497,13 +469,6 @@ class Client:
         """From now on a request, or all of a list together, may take at most `most` rounds; None is no limit."""
         self._call("rz_limit_rounds", COUNTS[0 if most is None else checked_limit("max_rounds", most, MOST_ROUNDS)])
 
-    @_alone
-    def limit_steps(self, most: int | None) -> None:
-        """From now on at most `most` steps of an answer are done in one go; None is no limit."""
-        steps = 0 if most is None else checked_limit("max_steps", most)
-        self._limit_to(steps)
-        self._max_steps = self._max_steps_awaited = steps
-
     def _limit(self, limits: Limits) -> None:
         """Sets the limits that are given. The others stay."""
         if limits.answer is not None:
@@ -512,8 +477,6 @@ class Client:
             self.limit_work(limits.work)
         if limits.rounds is not None:
             self.limit_rounds(limits.rounds)
-        if not isinstance(limits.steps, EllipsisType):
-            self.limit_steps(limits.steps)
 
     @_alone
     def prime(self, loader: str, key: Any, rows: Any) -> bool:

@@ -16,8 +16,6 @@ from .loaders import Form, Keys, Loader, Order
 if TYPE_CHECKING:
     from . import _native
 
-# what `advance` returns where it has done as many steps as it may, and some are left
-WORKING = 3
 # how large an answer or a round may be whose room is kept: in bytes, and in orders, keys, texts and bytes together; and how many rounds
 _KEPT_ANSWER, _KEPT_ROUND, _KEPT_ROUNDS = 8192, 1024, 64
 
@@ -121,10 +119,6 @@ class Handle:
         """Lets the client go."""
         self._lock.release()
 
-    def limit_steps(self, steps: int) -> None:
-        """From now on `advance` does at most so many steps of an answer; 0 is no limit."""
-        self._call(self._calls.rz_limit_steps, SIZES[steps])
-
     def begin(self, queries: Handle, line: str | bytes) -> None:
         """Begins the answer to a request that is JSON text, or to an array of these."""
         text = _bytes_of(line)
@@ -137,7 +131,7 @@ class Handle:
         self._call(self._calls.rz_begin_request, queries._argument, *texts)
 
     def advance(self) -> int:
-        """Goes on: 0 where all is done, 1 where a round is out, 2 where an order has no reply, WORKING where steps are left."""
+        """Goes on: 0 where all is done, 1 where a round is out, 2 where an order has no reply."""
         return self._call(self._calls.rz_next)
 
     def cancel(self) -> None:

@@ -10,7 +10,6 @@ from typing import Any, NamedTuple, NoReturn, TypeAlias, Union
 from urllib.parse import parse_qsl
 
 from .errors import log_error
-from .limits import MAX_STEPS
 from .loaders import Loaders
 from .server import Options
 
@@ -129,12 +128,11 @@ def loaders_for(loaders: LoadersOf, request: Any) -> Loaders | Awaitable[Loaders
 
 
 def with_defaults(options: Options) -> Options:
-    """These options; where they don't say how long an answer or how much work a request may be, or how many steps are done in one go, MAX_ANSWER,
-    MAX_WORK and MAX_STEPS, and where they don't say what callers are told of errors, errors are logged, and callers aren't told."""
+    """These options; where they don't say how long an answer or how much work a request may be, MAX_ANSWER and MAX_WORK, and where they don't say
+    what callers are told of errors, errors are logged, and callers aren't told."""
     told = options.copy()
     told.setdefault("max_answer", MAX_ANSWER)
     told.setdefault("max_work", MAX_WORK)
-    told.setdefault("max_steps", MAX_STEPS)
     told["on_error"] = options.get("on_error") or log_error
     return told
 

@@ -16,7 +16,7 @@ from .loaders import Order
 from .native import NATIVE
 
 # The version of clients/c/rudzkvano.h that this package calls: 65536 * major + 256 * minor + patch.
-HEADER_VERSION = 131584
+HEADER_VERSION = 131328
 BAD_SCHEMA = -4
 BUSY = -7
 NO_COLUMN, NO_KEY_COLUMN, NOT_ASKED = -18, -20, -21

@@ -4,22 +4,18 @@ from __future__ import annotations
 
 import sys
 from operator import index
-from types import EllipsisType
 from typing import NamedTuple
 
 # the greatest limit on rounds
 MOST_ROUNDS = 4_294_967_295
-# how many steps of an answer are done in one go in an event loop, where that isn't said: a guess at a millisecond or two
-MAX_STEPS = 20_000
 
 
 class Limits(NamedTuple):
-    """Limits of answers: on their bytes, their work and their rounds, and on the steps that are done in one go, of which `...` says nothing."""
+    """Limits of answers: on their bytes, their work and their rounds."""
 
     answer: int | None = None
     work: int | None = None
     rounds: int | None = None
-    steps: int | None | EllipsisType = ...
 
 
 def checked_limit(what: str, limit: int, most: int = sys.maxsize) -> int:

@@ -5,7 +5,6 @@ from __future__ import annotations
 import os
 from array import array
 from collections.abc import Mapping
-from types import EllipsisType
 from typing import TYPE_CHECKING, Any, TypeAlias, TypedDict, Union
 
 from .client import Asks, Client, Introspect, Query, Variables, read_json
@@ -33,18 +32,15 @@ class _AnswerOptions(_AskOptions, total=False):
     max_answer: Union[int, None]
     max_work: Union[int, None]
     max_rounds: Union[int, None]
-    max_steps: Union[int, None]
 
 
 class Options(_AnswerOptions, total=False):
     """`max_batch`: the greatest number of keys in one batch, for all loaders or by their names, 1 to 65,535. `max_answer`: the greatest number of
     bytes in an answer. `max_work`: how much work a request may be at most, or all of a list in sum: how many positions its answer has.
-    `max_rounds`: how many rounds it may take at most. `max_steps`: how many steps of an answer are done in one go, before other tasks have their
-    turn; a step is a position that is counted for `max_work`, or a field or item that is written. Where it isn't given, an answer that is awaited
-    takes 20,000, and another one all at once. `on_round`: what is called after each round. `on_error`: what is called with each error of a batch
-    function, and says what callers are told of it. `introspection`: the module `graphql` of graphql-core, which answers operations that ask for
-    `__schema` or `__type` alone, without the limits on work, rounds and steps. `rows`: how the lists of all loaders, or of loaders by their names,
-    are read: "aligned" or "in_any_order". Each may be None."""
+    `max_rounds`: how many rounds it may take at most. `on_round`: what is called after each round. `on_error`: what is called with each error of
+    a batch function, and says what callers are told of it. `introspection`: the module `graphql` of graphql-core, which answers operations that
+    ask for `__schema` or `__type` alone, without the limits on work and rounds. `rows`: how the lists of all loaders, or of loaders by their
+    names, are read: "aligned" or "in_any_order". Each may be None."""
 
     max_batch: MaxBatch
 
@@ -177,11 +173,10 @@ class Server:
         max_answer: int | None = None,
         max_work: int | None = None,
         max_rounds: int | None = None,
-        max_steps: int | None | EllipsisType = ...,
         **asks: Unpack[_AskOptions],
     ) -> tuple[Limits, Asks]:
         """The limits of answers, and how a client asks."""
-        return Limits(max_answer, max_work, max_rounds, max_steps), self._asks(**asks)
+        return Limits(max_answer, max_work, max_rounds), self._asks(**asks)
 
     def _asks(
         self,

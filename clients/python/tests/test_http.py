@@ -370,7 +370,6 @@ class Http(unittest.TestCase):
             ({"max_work": 2 * MAX_WORK}, 18, GRAPHQL, 200, friends.answer(18)),
             ({"max_work": None}, 18, GRAPHQL, 200, friends.answer(18)),
             ({"max_rounds": 1}, 1, GRAPHQL, 400, '{"errors":[{"message":"too many rounds"}]}'),
-            ({"max_steps": 10}, 5, GRAPHQL, 200, friends.answer(5)),
         ]
         for options, levels, accept, status, text in cases:
             self.applications.serve(friends.functions(), **options)

@@ -7,7 +7,6 @@ use std::{iter, ptr, str};
 
 pub const ROUND: i32 = 1;
 pub const WAITING: i32 = 2;
-pub const WORKING: i32 = 3;
 pub const BAD_SCHEMA: i32 = -4;
 pub const NO_KEY_COLUMN: i32 = -20;
 pub const NOT_ASKED: i32 = -21;
@@ -194,7 +193,6 @@ extern "C" {
     fn rz_limit_answers(client: &mut Handle, bytes: usize) -> i32;
     fn rz_limit_work(client: &mut Handle, positions: usize) -> i32;
     fn rz_limit_rounds(client: &mut Handle, rounds: u32) -> i32;
-    fn rz_limit_steps(client: &mut Handle, steps: usize) -> i32;
     fn rz_restart(client: &mut Handle) -> i32;
     fn rz_begin(client: &mut Handle, queries: &mut Handle, line: *const u8, line_len: usize) -> i32;
     fn rz_begin_request(
@@ -386,10 +384,6 @@ impl Handle {
 
     pub fn limit_rounds(&mut self, rounds: u32) -> i32 {
         unsafe { rz_limit_rounds(self, rounds) }
-    }
-
-    pub fn limit_steps(&mut self, steps: usize) -> i32 {
-        unsafe { rz_limit_steps(self, steps) }
     }
 
     pub fn restart(&mut self) -> i32 {

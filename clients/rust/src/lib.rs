@@ -155,9 +155,6 @@ pub struct Options {
     pub max_work: usize,
     /// How many rounds a request may take, or all of an array together; 0 is no limit. One that needs more is answered with `too many rounds`.
     pub max_rounds: u32,
-    /// How many steps of an answer one call of [`Client::next`] does; 0 is no limit. Where some are left, it returns [`Progress::Working`]. A step
-    /// is a position that is counted for `max_work`, or a field or item that is written. [`Loaders::cancel_when`] is asked between two calls.
-    pub max_steps: usize,
 }
 
 type BatchFunction<'a> = Box<dyn FnMut(&[Key]) -> Result<Rows, BatchFault> + 'a>;
@@ -187,17 +184,9 @@ impl<'a> Loaders<'a> {
         self.on_round = Some(Box::new(function));
     }
 
-    /// Has a function called before each batch, and where [`Options::max_steps`] were done and some are left. Where it returns true the answer is
-    /// cancelled, and no further batch is asked.
+    /// Has a function called before each batch. Where it returns true the answer is cancelled, and no further batch is asked.
     pub fn cancel_when(&mut self, function: impl FnMut() -> bool + 'a) {
         self.is_cancelled = Some(Box::new(function));
-    }
-
-    fn check_cancelled(&mut self) -> Result<(), Error> {
-        if self.is_cancelled.as_mut().is_some_and(|is_cancelled| is_cancelled()) {
-            return Err(Error::Cancelled);
-        }
-        Ok(())
     }
 
     fn ask(&mut self, order: &Order) -> Result<Rows, BatchFault> {
@@ -267,8 +256,6 @@ pub enum Progress {
     Round,
     /// An order of the round has no reply yet.
     Waiting,
-    /// [`Options::max_steps`] were done, and some are left: [`Client::next`] is to be called again.
-    Working,
 }
 
 /// A schema with its bindings. Threads share it: a handle of the library is in one call at a time, which a lock sees to. Only the making of a
@@ -358,9 +345,6 @@ impl Server {
         if options.max_rounds > 0 {
             went_well(handle.limit_rounds(options.max_rounds))?;
         }
-        if options.max_steps > 0 {
-            went_well(handle.limit_steps(options.max_steps))?;
-        }
         Ok(Client { handle, pool: Arc::clone(&self.pool), loaders: Arc::clone(&self.loaders) })
     }
 
@@ -403,8 +387,8 @@ fn number_of(loaders: &[Arc<Loader>], name: &str) -> Result<usize, Error> {
 /// A memory of what the loaders returned. It answers one request at a time, or loads keys.
 ///
 /// [`Client::answer_text`] and [`Client::load_many`] run the rounds. A host that runs them itself calls [`Client::begin`] or
-/// [`Client::begin_load`], and then [`Client::next`] up to [`Progress::Done`]; where that returns [`Progress::Round`], it takes the orders, and
-/// calls [`Client::reply`] or [`Client::fail`] for each of these, in any order.
+/// [`Client::begin_load`], and then [`Client::next`] up to [`Progress::Done`]; where that returns [`Progress::Round`], it takes the orders, and calls [`Client::reply`] or [`Client::fail`] for each
+/// of these, in any order.
 pub struct Client {
     handle: Handle,
     pool: Arc<Pool>,
@@ -459,29 +443,21 @@ impl Client {
 
     fn try_rounds(&mut self, loaders: &mut Loaders<'_>) -> Result<(), Error> {
         let mut round = 0;
-        loop {
-            match self.next()? {
-                Progress::Round => {
-                    round += 1;
-                    self.run_round(round, loaders)?;
-                }
-                Progress::Working => loaders.check_cancelled()?,
-                Progress::Waiting | Progress::Done => return Ok(()),
+        while self.next()? == Progress::Round {
+            round += 1;
+            let orders = self.orders()?;
+            let batches = orders.into_iter().map(|order| self.run(order, loaders)).collect::<Result<_, _>>()?;
+            if let Some(on_round) = &mut loaders.on_round {
+                on_round(&Round { round, batches });
             }
-        }
-    }
-
-    fn run_round(&mut self, round: u64, loaders: &mut Loaders<'_>) -> Result<(), Error> {
-        let orders = self.orders()?;
-        let batches = orders.into_iter().map(|order| self.run(order, loaders)).collect::<Result<_, _>>()?;
-        if let Some(on_round) = &mut loaders.on_round {
-            on_round(&Round { round, batches });
         }
         Ok(())
     }
 
     fn run(&mut self, order: Order, loaders: &mut Loaders<'_>) -> Result<Ran, Error> {
-        loaders.check_cancelled()?;
+        if loaders.is_cancelled.as_mut().is_some_and(|is_cancelled| is_cancelled()) {
+            return Err(Error::Cancelled);
+        }
         let start = Instant::now();
         let replied = loaders.ask(&order);
         let time = start.elapsed();
@@ -549,7 +525,6 @@ impl Client {
         went_well(self.handle.next()).map(|code| match code {
             calls::ROUND => Progress::Round,
             calls::WAITING => Progress::Waiting,
-            calls::WORKING => Progress::Working,
             _ => Progress::Done,
         })
     }

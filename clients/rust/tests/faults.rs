@@ -223,38 +223,6 @@ fn work_and_rounds_are_limited() {
     assert_eq!((text.as_deref(), batches), (Ok(r#"{"errors":[{"message":"too many rounds"}]}"#), 1));
 }
 
-const LONG: &str = "{users{posts{author{posts{author{posts{author{name}}}}}}}}";
-
-#[test]
-fn steps_are_limited() {
-    let world = World::read("");
-    let answer = |options: Options| world.server.answer_text(&Request::query(LONG), &mut world.loaders(true, || ()), &options);
-    let whole = answer(Options::default()).expect("an answer");
-    for max_steps in [1, 5, usize::MAX] {
-        assert_eq!(answer(Options { max_steps, ..Options::default() }).as_ref(), Ok(&whole));
-        // its work is 61
-        assert_eq!(answer(Options { max_steps, max_work: 61, ..Options::default() }).as_ref(), Ok(&whole));
-        let refused = answer(Options { max_steps, max_work: 60, ..Options::default() });
-        assert_eq!(refused.as_deref(), Ok(r#"{"errors":[{"message":"too much work"}]}"#));
-    }
-}
-
-#[test]
-fn an_answer_is_cancelled_between_its_steps() {
-    let world = World::read("");
-    let mut client = world.server.client(&Options { max_work: 61, max_steps: 5, ..Options::default() }).expect("a client");
-    let mut loaders = world.loaders(true, || ());
-    let whole = client.answer_text(&Request::query(LONG), &mut loaders);
-    // all is known now, so no batch is asked
-    client.begin(&Request::query(LONG)).expect("begun");
-    let steps = std::iter::from_fn(|| Some(client.next()).filter(|progress| *progress == Ok(Progress::Working))).count();
-    assert!(steps >= 5, "{steps} calls");
-    assert_eq!(client.text(), whole);
-    loaders.cancel_when(|| true);
-    assert_eq!(client.answer_text(&Request::query(LONG), &mut loaders), Err(Error::Cancelled));
-    assert_eq!(client.answer_text(&Request::query(LONG), &mut world.loaders(true, || ())), whole);
-}
-
 #[test]
 fn a_cancelled_answer_asks_no_further_batch() {
     let world = World::read("");

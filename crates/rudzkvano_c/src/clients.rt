@@ -1,7 +1,7 @@
 //! Clients.
 ghost use Rattle.std.specs.Prelude.{◌≡◌, None};
 ghost use Rattle.server.specs.Clients.{begun};
-ghost use Rattle.host_clients.specs.Known.{LimitsAnswers, LimitsRounds, LimitsSteps, LimitsWork};
+ghost use Rattle.host_clients.specs.Known.{LimitsAnswers, LimitsRounds, LimitsWork};
 ghost use Rattle.host_clients.specs.Objects.{MakesClient};
 ghost use Rattle.host_clients.specs.Opening.{limit_of};
 ghost use Rattle.host_clients.specs.Refused.{BeginFault, BusyFault};
@@ -87,20 +87,6 @@ pub extern "C" fn rz_limit_rounds(alloc: Global, client: &mut Handle, rounds: u3
 {
     let limit = rounds_limit(rounds);
     code_of(client.on_client(alloc, &mut |client| client.limit_rounds(limit)))
-}
-
-/// Limits how much of a request of a client one call of `rz_next` does to `steps` steps; 0 is no limit.
-///
-/// # Promise
-///
-/// As `rz_limit_answers` says
-#[unsafe(no_mangle)]
-pub extern "C" fn rz_limit_steps(alloc: Global, client: &mut Handle, steps: usize) -> i32
-    ensures { Makes (Becomes (LimitsSteps (limit_of steps)) BusyFault)
-        client.old.held client.new.held result }
-{
-    let limit = limit_of(steps);
-    code_of(client.on_client(alloc, &mut |client| client.limit_steps(limit)))
 }
 
 /// Forgets all keys, logs and rounds.

@@ -5,7 +5,7 @@ ghost use Rattle.rudzkvano_c.specs.Codes.{code_in, progress_in};
 use host_clients::{Fault, Progress};
 
 /// The version of the library: 65,536 times the major number, 256 times the minor one, and the patch.
-const VERSION: u32 = 131_584;
+const VERSION: u32 = 131_328;
 
 /// Returns what a call returns.
 pub fn code_of(done: Result<(), Fault>) -> i32

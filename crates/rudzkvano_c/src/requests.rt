@@ -149,8 +149,7 @@ pub extern "C" fn rz_cancel(alloc: Global, client: &mut Handle) -> i32
 /// The client and the code as a call of `HostClient::advance` makes them (`AdvancesHeld`). `RZ_DONE`: from
 /// whichever client it was begun, the text answers it in the client's session as it is now (`AnswersIt`); or all
 /// that was done there is a call of `load_many` with these keys and outcomes (`LoadsIt`). `RZ_ROUND`: a new round
-/// is out, none of whose orders has a reply. `RZ_WAITING`: nothing has changed. `RZ_WORKING`: steps are left and
-/// nothing is asked; the client is to be called again
+/// is out, none of whose orders has a reply. `RZ_WAITING`: nothing has changed
 #[unsafe(no_mangle)]
 pub extern "C" fn rz_next(alloc: Global, client: &mut Handle) -> i32
     ensures { AdvancesHeld client.old.held
